@@ -1,0 +1,73 @@
+//! Machines: programs in progress, which go on by one reply after another.
+#![tactic(auto)]
+
+ghost use Rattle.std.specs.Prelude.{◌≡◌, ℕ, List, [], ◌∷◌};
+ghost use Rattle.regmodel.specs.declared.accesses.Pending.{Pending};
+ghost use Rattle.regmodel.specs.declared.accesses.Pending.TheVariants.{Done};
+ghost use Rattle.regmodel.specs.Program.{Program};
+ghost use Rattle.regmodel.specs.Act.{act_of};
+ghost use Rattle.regmodel.specs.Lawful.{IsReplyTo, IsLawful};
+
+use regmodel::Pending;
+
+/// A program in progress, known by its program and by its rest: what is pending after each list of further replies.
+/// No call takes memory.
+pub trait Machine: Drop + Send {
+    /// What it runs.
+    ghost program: { Self → Program };
+
+    /// What is pending after these further replies.
+    ghost rest: { Self → List ℕ → Pending };
+
+    /// Goes to the program's start.
+    fn reset(&mut self)
+        ensures same { program self.new ≡ program self.old }
+        ensures starts { (s : List ℕ) → IsLawful (act_of (program self.new)) s → rest self.new s ≡ act_of (program self.new) s };
+
+    /// What is pending now.
+    fn pending(&self) -> Pending
+        ensures { result ≡ rest self.now [] };
+
+    /// Goes on past one reply: at most 1000000000 to a read, 0 to a write.
+    fn feed(&mut self, reply: u32)
+        requires { IsReplyTo (rest self.old []) reply }
+        ensures same { program self.new ≡ program self.old }
+        ensures goes_on { (s : List ℕ) → rest self.new s ≡ rest self.old (reply ∷ s) };
+
+    /// Gives up what it holds; it is done with no numbers until it is reset.
+    fn end(&mut self)
+        ensures same { program self.new ≡ program self.old }
+        ensures ended { (s : List ℕ) → rest self.new s ≡ Done (record { items = [] }) };
+}
+
+/// What is pending in a boxed machine.
+pub fn pending_of_box(machine: &Box<dyn Machine + Send>) -> Pending
+    ensures { result ≡ rest machine.now [] }
+{
+    machine.pending()
+}
+
+/// Feeds a boxed machine.
+pub fn feed_box(machine: &mut Box<dyn Machine + Send>, reply: u32)
+    requires { IsReplyTo (rest machine.old []) reply }
+    ensures same { program machine.new ≡ program machine.old }
+    ensures goes_on { (s : List ℕ) → rest machine.new s ≡ rest machine.old (reply ∷ s) }
+{
+    machine.feed(reply);
+}
+
+/// Resets a boxed machine.
+pub fn reset_box(machine: &mut Box<dyn Machine + Send>)
+    ensures same { program machine.new ≡ program machine.old }
+    ensures starts { (s : List ℕ) → IsLawful (act_of (program machine.new)) s → rest machine.new s ≡ act_of (program machine.new) s }
+{
+    machine.reset();
+}
+
+/// Ends a boxed machine.
+pub fn end_box(machine: &mut Box<dyn Machine + Send>)
+    ensures same { program machine.new ≡ program machine.old }
+    ensures ended { (s : List ℕ) → rest machine.new s ≡ Done (record { items = [] }) }
+{
+    machine.end();
+}

@@ -1,0 +1,106 @@
+-- Blocks, and the lists of statements that they are made of.
+use Rattle.std.proofs.Common.{◌≡◌, ℕ, zero, suc, ◌+◌, ◌<◌, ◌≤◌, Bool, true, false, ◌&&◌, max, List, [], ◌∷◌, Vec, Global, length, get_or, drop, refl, ap, ◌∙◌, arith, drop-cons, add-one}
+use Rattle.regmodel.specs.declared.programs.Expr.{Expr}
+use Rattle.regmodel.specs.declared.programs.Stmt.{Stmt, If, Repeat}
+use Rattle.regmodel.specs.declared.programs.Stmt.TheVariants as stmt
+use Rattle.regmodel.specs.Program as program
+use Rattle.regmodel.specs.Program.{Block, Stop, with_stmt, block_of}
+use Rattle.regmodel.specs.Limits.{open_blocks, open_repeats, statements, operands_fit, target_fits, operand_fits, expr_fits}
+use Rattle.regmodel.proofs.Rows.{with_stmt-If, with_stmt-Repeat}
+
+pub block_of-drop : (xs : List Stmt) (i : ℕ) (x : Stmt) → i < length xs → x ≡ get_or xs i x → block_of (drop i xs) ≡ with_stmt x (block_of (drop (i + 1) xs))
+block_of-drop xs i x h e = ap block_of (drop-cons xs i x h) ∙ rw (← e, add-one) refl
+
+-- ---- a statement before the rest of its block
+
+pub open_blocks-with_stmt : (s : Stmt) (b : Block) → open_blocks (with_stmt s b) ≡ max (open_blocks (with_stmt s Stop)) (open_blocks b)
+open_blocks-with_stmt (stmt.Assign t e) b = omega arith
+open_blocks-with_stmt (stmt.Read t a) b = omega arith
+open_blocks-with_stmt (stmt.Write a e) b = omega arith
+open_blocks-with_stmt (stmt.If' e m first k second) b = omega arith
+open_blocks-with_stmt (stmt.Repeat' e m body) b = omega arith
+open_blocks-with_stmt (stmt.Emit e) b = omega arith
+open_blocks-with_stmt stmt.Halt b = omega arith
+
+pub open_repeats-with_stmt : (s : Stmt) (b : Block) → open_repeats (with_stmt s b) ≡ max (open_repeats (with_stmt s Stop)) (open_repeats b)
+open_repeats-with_stmt (stmt.Assign t e) b = omega arith
+open_repeats-with_stmt (stmt.Read t a) b = omega arith
+open_repeats-with_stmt (stmt.Write a e) b = omega arith
+open_repeats-with_stmt (stmt.If' e m first k second) b = omega arith
+open_repeats-with_stmt (stmt.Repeat' e m body) b = omega arith
+open_repeats-with_stmt (stmt.Emit e) b = omega arith
+open_repeats-with_stmt stmt.Halt b = omega arith
+
+pub statements-with_stmt : (s : Stmt) (b : Block) → statements (with_stmt s b) ≡ statements (with_stmt s Stop) + statements b
+statements-with_stmt (stmt.Assign t e) b = omega arith
+statements-with_stmt (stmt.Read t a) b = omega arith
+statements-with_stmt (stmt.Write a e) b = omega arith
+statements-with_stmt (stmt.If' e m first k second) b = omega arith
+statements-with_stmt (stmt.Repeat' e m body) b = omega arith
+statements-with_stmt (stmt.Emit e) b = omega arith
+statements-with_stmt stmt.Halt b = omega arith
+
+and_true : (a : Bool) → a && true ≡ a
+and_true true = refl
+and_true false = refl
+
+and_assoc : (a b c : Bool) → (a && b) && c ≡ a && (b && c)
+and_assoc true b c = refl
+and_assoc false b c = refl
+
+-- a test before the rest, where the test alone stands before `true`
+parted : (a b : Bool) → a && b ≡ (a && true) && b
+parted true b = refl
+parted false b = refl
+
+pub operands_fit-with_stmt : (s : Stmt) (b : Block) → operands_fit (with_stmt s b) ≡ operands_fit (with_stmt s Stop) && operands_fit b
+operands_fit-with_stmt (stmt.Assign t e) b = parted (target_fits t && expr_fits e) (operands_fit b)
+operands_fit-with_stmt (stmt.Read t a) b = parted (target_fits t && operand_fits a) (operands_fit b)
+operands_fit-with_stmt (stmt.Write a e) b = parted (operand_fits a && expr_fits e) (operands_fit b)
+operands_fit-with_stmt (stmt.If' e m first k second) b = parted _ (operands_fit b)
+operands_fit-with_stmt (stmt.Repeat' e m body) b = parted _ (operands_fit b)
+operands_fit-with_stmt (stmt.Emit e) b = parted (expr_fits e) (operands_fit b)
+operands_fit-with_stmt stmt.Halt b = refl
+
+-- ---- a loop over a list of statements, at statement x
+
+pub open_blocks-step : (xs : List Stmt) (i : ℕ) (x : Stmt) → i < length xs → x ≡ get_or xs i x → open_blocks (block_of (drop i xs)) ≡ max (open_blocks (with_stmt x Stop)) (open_blocks (block_of (drop (i + 1) xs)))
+open_blocks-step xs i x h e = ap open_blocks (block_of-drop xs i x h e) ∙ open_blocks-with_stmt x (block_of (drop (i + 1) xs))
+
+pub open_repeats-step : (xs : List Stmt) (i : ℕ) (x : Stmt) → i < length xs → x ≡ get_or xs i x → open_repeats (block_of (drop i xs)) ≡ max (open_repeats (with_stmt x Stop)) (open_repeats (block_of (drop (i + 1) xs)))
+open_repeats-step xs i x h e = ap open_repeats (block_of-drop xs i x h e) ∙ open_repeats-with_stmt x (block_of (drop (i + 1) xs))
+
+pub statements-step : (xs : List Stmt) (i : ℕ) (x : Stmt) → i < length xs → x ≡ get_or xs i x → statements (block_of (drop i xs)) ≡ statements (with_stmt x Stop) + statements (block_of (drop (i + 1) xs))
+statements-step xs i x h e = ap statements (block_of-drop xs i x h e) ∙ statements-with_stmt x (block_of (drop (i + 1) xs))
+
+pub operands_fit-step : (xs : List Stmt) (i : ℕ) (x : Stmt) → i < length xs → x ≡ get_or xs i x → operands_fit (block_of (drop i xs)) ≡ operands_fit (with_stmt x Stop) && operands_fit (block_of (drop (i + 1) xs))
+operands_fit-step xs i x h e = ap operands_fit (block_of-drop xs i x h e) ∙ operands_fit-with_stmt x (block_of (drop (i + 1) xs))
+
+-- what is left of a list is not nested deeper than the whole
+pub open_blocks-drop : (k : ℕ) (xs : List Stmt) → open_blocks (block_of (drop k xs)) ≤ open_blocks (block_of xs)
+open_blocks-drop zero xs = omega arith
+open_blocks-drop (suc k) [] = omega arith
+open_blocks-drop (suc k) (s ∷ xs) = omega (arith, open_blocks-drop k xs, open_blocks-with_stmt s (block_of xs))
+
+pub open_repeats-drop : (k : ℕ) (xs : List Stmt) → open_repeats (block_of (drop k xs)) ≤ open_repeats (block_of xs)
+open_repeats-drop zero xs = omega arith
+open_repeats-drop (suc k) [] = omega arith
+open_repeats-drop (suc k) (s ∷ xs) = omega (arith, open_repeats-drop k xs, open_repeats-with_stmt s (block_of xs))
+
+-- ---- a statement with parts
+
+pub with_stmt_if : (s : Stmt) (e : Expr) (a b : Vec Stmt Global) → s ≡ If e a b → with_stmt s Stop ≡ program.If e (block_of a.items) (block_of b.items) Stop
+with_stmt_if s e a b h = ap (λ s. with_stmt s Stop) h ∙ with_stmt-If e a b Stop
+
+pub with_stmt_repeat : (s : Stmt) (e : Expr) (a : Vec Stmt Global) → s ≡ Repeat e a → with_stmt s Stop ≡ program.Repeat e (block_of a.items) Stop
+with_stmt_repeat s e a h = ap (λ s. with_stmt s Stop) h ∙ with_stmt-Repeat e a Stop
+
+-- a statement counts
+pub statements_some : (s : Stmt) → 0 < statements (with_stmt s Stop)
+statements_some (stmt.Assign t e) = omega arith
+statements_some (stmt.Read t a) = omega arith
+statements_some (stmt.Write a e) = omega arith
+statements_some (stmt.If' e m first k second) = omega arith
+statements_some (stmt.Repeat' e m body) = omega arith
+statements_some (stmt.Emit e) = omega arith
+statements_some stmt.Halt = omega arith

@@ -1,0 +1,55 @@
+use Rattle.std.proofs.Common.{◌≡◌, ◌&&◌, Bool, true, false, ap, refl, sym, ◌∙◌, arith}
+use Rattle.regmodel.specs.Limits.{operands_fit}
+use Rattle.regmodel.specs.Program.{block_of}
+use Rattle.regmodel.proofs.Blocks.{operands_fit-step, with_stmt_if, with_stmt_repeat}
+use Rattle.regmodel.proofs.limits.+fits.Goals as goal
+
+and_true : (a : Bool) → a && true ≡ a
+and_true true = refl
+and_true false = refl
+
+and_first : (a b c : Bool) → false ≡ b → a ≡ true → false ≡ ((a && b) && c) && true
+and_first true false c e h = refl
+and_first true true c e h = cc
+and_first false b c e h = refl
+
+and_last : (a b c : Bool) → a ≡ true → b ≡ true → c ≡ ((a && b) && c) && true
+and_last true true c g h = sym (and_true c)
+and_last true false c g h = cc
+and_last false b c g h = cc
+
+and_only : (a b : Bool) → a ≡ true → b ≡ (a && b) && true
+and_only true b h = sym (and_true b)
+and_only false b h = cc
+
+pub operands_fit-returns-then-not-stmt_fits : goal.operands_fit-returns-then-not-stmt_fits
+operands_fit-returns-then-not-stmt_fits t c =
+    let i = c.loop-stmt.stmt-index in
+    let x = c.stmt-item.result in
+    sym (c.loop-stmt.invariant ∙ (operands_fit-step c.args.block.now i x (omega arith) c.stmt-item.is ∙ rw (← c.if-not-stmt_fits.ensures) refl))
+
+pub operands_fit-loop-stmt-preserved : goal.operands_fit-loop-stmt-preserved
+operands_fit-loop-stmt-preserved t c =
+    let i = c.loop-stmt.stmt-index in
+    let x = c.stmt-item.result in
+    c.loop-stmt.invariant ∙ (operands_fit-step c.args.block.now i x (omega arith) c.stmt-item.is ∙ rw (← c.if-not-stmt_fits.ensures) refl)
+
+pub stmt_fits-returns-then-not-operands_fit : goal.stmt_fits-returns-then-not-operands_fit
+stmt_fits-returns-then-not-operands_fit t c =
+    let w = c.in-If in
+    rw (with_stmt_if c.args.stmt.now w.expr w.first w.second w.is) (and_first _ _ (operands_fit (block_of w.second.items)) (c.if-not-operands_fit.ensures ∙ ap (λ xs. operands_fit (block_of xs)) c.as_slice.ensures.value) (sym c.if-not-expr_fits.ensures))
+
+pub stmt_fits-returns-else-not-operands_fit : goal.stmt_fits-returns-else-not-operands_fit
+stmt_fits-returns-else-not-operands_fit t c =
+    let w = c.in-If in
+    rw (with_stmt_if c.args.stmt.now w.expr w.first w.second w.is)
+    (c.operands_fit-in-If.ensures
+    ∙ (ap (λ xs. operands_fit (block_of xs)) c.as_slice-in-If.ensures.value
+    ∙ and_last _ _ _ (sym c.if-not-expr_fits.ensures) (sym (c.if-not-operands_fit.ensures ∙ ap (λ xs. operands_fit (block_of xs)) c.as_slice.ensures.value))))
+
+pub stmt_fits-returns-else-not-expr_fits-2 : goal.stmt_fits-returns-else-not-expr_fits-2
+stmt_fits-returns-else-not-expr_fits-2 t c =
+    let w = c.in-Repeat in
+    rw (with_stmt_repeat c.args.stmt.now w.expr w.body w.is)
+    (c.operands_fit-in-Repeat.ensures
+    ∙ (ap (λ xs. operands_fit (block_of xs)) c.as_slice-in-Repeat.ensures.value ∙ and_only _ _ (sym c.if-not-expr_fits-2.ensures)))

@@ -1,0 +1,14 @@
+pub mod Act
+pub mod AllSchedules
+pub mod Bounds
+pub mod Lawful
+pub mod Letters
+pub mod Limits
+pub mod OfProg
+pub mod Outcomes
+pub mod PlainReport
+pub mod Program
+pub mod Replies
+pub mod ScheduleText
+pub mod Schedules
+pub mod Values

@@ -1,0 +1,79 @@
+-- The limits of a program. What faults only when it is run is no such limit.
+use Rattle.std.specs.Prelude.{ℕ, ◌+◌, ◌<◌, ◌≤◌, Bool, true, ◌&&◌, IsTrue, max, nat_lt, nat_le}
+use Rattle.regmodel.specs.declared.programs.Target.{Target}
+use Rattle.regmodel.specs.declared.programs.Target.TheVariants as target
+use Rattle.regmodel.specs.declared.programs.Operand.{Operand}
+use Rattle.regmodel.specs.declared.programs.Operand.TheVariants as operand
+use Rattle.regmodel.specs.declared.programs.Expr.{Expr}
+use Rattle.regmodel.specs.declared.programs.Expr.TheVariants.{One, Two}
+use Rattle.regmodel.specs.Program.{Block, Program, Stop, Assign, Read, Write, If, Repeat, Emit, Halt}
+
+-- 16 variables and 32 cells
+abbrev pub target_fits : Target → Bool
+target_fits (target.Var i) = nat_lt i 16
+target_fits (target.Cell i) = nat_lt i 32
+target_fits (target.CellOf i) = nat_lt i 16
+
+-- and numbers up to 1000000000
+abbrev pub operand_fits : Operand → Bool
+operand_fits (operand.Number n) = nat_le n 1000000000
+operand_fits (operand.Var i) = nat_lt i 16
+operand_fits (operand.Cell i) = nat_lt i 32
+operand_fits (operand.CellOf i) = nat_lt i 16
+
+abbrev pub expr_fits : Expr → Bool
+expr_fits (One a) = operand_fits a
+expr_fits (Two a op b) = operand_fits a && operand_fits b
+
+-- each target and operand of a block is within its limit
+abbrev pub operands_fit : Block → Bool
+operands_fit Stop = true
+operands_fit (Assign t e rest) = target_fits t && expr_fits e && operands_fit rest
+operands_fit (Read t a rest) = target_fits t && operand_fits a && operands_fit rest
+operands_fit (Write a e rest) = operand_fits a && expr_fits e && operands_fit rest
+operands_fit (If e first second rest) = expr_fits e && operands_fit first && operands_fit second && operands_fit rest
+operands_fit (Repeat e body rest) = expr_fits e && operands_fit body && operands_fit rest
+operands_fit (Emit e rest) = expr_fits e && operands_fit rest
+operands_fit (Halt rest) = operands_fit rest
+
+-- how many statements there are, those of inner blocks counted
+abbrev pub statements : Block → ℕ
+statements Stop = 0
+statements (Assign t e rest) = 1 + statements rest
+statements (Read t a rest) = 1 + statements rest
+statements (Write a e rest) = 1 + statements rest
+statements (If e first second rest) = 1 + statements first + statements second + statements rest
+statements (Repeat e body rest) = 1 + statements body + statements rest
+statements (Emit e rest) = 1 + statements rest
+statements (Halt rest) = 1 + statements rest
+
+-- how deep `if` and `repeat` are nested
+abbrev pub open_blocks : Block → ℕ
+open_blocks Stop = 0
+open_blocks (Assign t e rest) = open_blocks rest
+open_blocks (Read t a rest) = open_blocks rest
+open_blocks (Write a e rest) = open_blocks rest
+open_blocks (If e first second rest) = max (max (open_blocks first) (open_blocks second) + 1) (open_blocks rest)
+open_blocks (Repeat e body rest) = max (open_blocks body + 1) (open_blocks rest)
+open_blocks (Emit e rest) = open_blocks rest
+open_blocks (Halt rest) = open_blocks rest
+
+-- how deep `repeat` is nested
+abbrev pub open_repeats : Block → ℕ
+open_repeats Stop = 0
+open_repeats (Assign t e rest) = open_repeats rest
+open_repeats (Read t a rest) = open_repeats rest
+open_repeats (Write a e rest) = open_repeats rest
+open_repeats (If e first second rest) = max (max (open_repeats first) (open_repeats second)) (open_repeats rest)
+open_repeats (Repeat e body rest) = max (open_repeats body + 1) (open_repeats rest)
+open_repeats (Emit e rest) = open_repeats rest
+open_repeats (Halt rest) = open_repeats rest
+
+-- a program within the limits
+pub record IsWithin (program : Program) : Type 0 where
+  pub some_register : 0 < program.registers
+  pub registers : program.registers ≤ 64
+  pub operands : IsTrue (operands_fit program.body)
+  pub statements : statements program.body ≤ 200
+  pub open_blocks : open_blocks program.body ≤ 16
+  pub open_repeats : open_repeats program.body ≤ 3

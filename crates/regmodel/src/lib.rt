@@ -1,0 +1,19 @@
+//! The model: programs over shared registers, schedules of their steps, and what comes out.
+#![tactic(auto)]
+
+pub mod accesses;
+pub mod bounds;
+pub mod letters;
+mod limits;
+pub mod memory;
+pub mod outcomes;
+pub mod programs;
+pub mod schedules;
+
+pub use accesses::{Access, Numbers, Pending};
+pub use bounds::{SettingFault, Settings};
+pub use letters::Letter;
+pub use memory::OutOfMemory;
+pub use outcomes::{End, Judge, Outcome, ProcEnd};
+pub use programs::{Expr, Op, Operand, Prog, Stmt, Target};
+pub use schedules::{Prefix, write_schedule};
