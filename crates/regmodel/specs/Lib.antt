@@ -1,6 +1,7 @@
 pub mod Act
 pub mod AllSchedules
 pub mod Bounds
+pub mod Examples
 pub mod Lawful
 pub mod Letters
 pub mod Limits
@@ -9,6 +10,7 @@ pub mod Outcomes
 pub mod PlainReport
 pub mod Program
 pub mod Replies
+pub mod ReportText
 pub mod ScheduleText
 pub mod Schedules
 pub mod Values

@@ -3,6 +3,7 @@
 
 pub mod accesses;
 pub mod bounds;
+pub mod laws;
 pub mod letters;
 mod limits;
 pub mod memory;
@@ -17,3 +18,6 @@ pub use memory::OutOfMemory;
 pub use outcomes::{End, Judge, Outcome, ProcEnd};
 pub use programs::{Expr, Op, Operand, Prog, Stmt, Target};
 pub use schedules::{Prefix, write_schedule};
+
+#[cfg(test)]
+mod tests;
