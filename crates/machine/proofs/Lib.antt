@@ -1,0 +1,4 @@
+pub mod Blocks
+pub mod Flows
+pub mod Places
+pub mod Wanting

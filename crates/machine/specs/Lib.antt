@@ -1,0 +1,4 @@
+pub mod Exits
+pub mod Paths
+pub mod Rest
+pub mod Stores

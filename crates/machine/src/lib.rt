@@ -8,6 +8,14 @@ ghost use Rattle.regmodel.specs.Program.{Program};
 ghost use Rattle.regmodel.specs.Act.{act_of};
 ghost use Rattle.regmodel.specs.Lawful.{IsReplyTo, IsLawful};
 
+mod interp;
+mod resume;
+mod run;
+#[cfg(test)]
+mod tests;
+mod values;
+
+pub use interp::Interp;
 use regmodel::Pending;
 
 /// A program in progress, known by its program and by its rest: what is pending after each list of further replies.

@@ -16,7 +16,8 @@ use Rattle.regmodel.specs.Program.{Block, Program, Stop, Assign, Read, Write, If
 use Rattle.regmodel.specs.Act.{act_of}
 use Rattle.regmodel.specs.AllSchedules.{all_schedules}
 use Rattle.regmodel.specs.Outcomes.{outcome_of}
-use Rattle.regmodel.specs.PlainReport.{Findings, first_refused}
+use Rattle.regmodel.specs.PlainReport.{Findings}
+use Rattle.regmodel.specs.Summary.{first_refused}
 use Rattle.regmodel.specs.ReportText.{outcome_text, report_text}
 use Rattle.regmodel.specs.ScheduleText.{schedule_text}
 

@@ -13,4 +13,5 @@ pub mod Replies
 pub mod ReportText
 pub mod ScheduleText
 pub mod Schedules
+pub mod Summary
 pub mod Values

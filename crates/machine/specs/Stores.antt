@@ -1,0 +1,20 @@
+-- What a store holds.
+use Rattle.std.specs.Prelude.{ℕ, Result, Ok, Err}
+use Rattle.regmodel.specs.Values.{Env, Place, InVar, InCell}
+use Rattle.machine.specs.declared.values.Store.{Store}
+use Rattle.machine.specs.declared.values.Place as values
+use Rattle.machine.specs.declared.values.Place.TheVariants as place
+
+-- the environment that a store holds
+abbrev pub env_of : Store → Env
+env_of s = record { vars = s.vars; cells = s.cells; emitted = s.emitted.items }
+
+-- the place that is meant
+abbrev pub as_place : values.Place → Place
+as_place (place.Var i) = InVar i
+as_place (place.Cell i) = InCell i
+
+-- the place that is meant, or the fault
+abbrev pub as_place_or_fault : Result values.Place ℕ → Result Place ℕ
+as_place_or_fault (Ok p) = Ok (as_place p)
+as_place_or_fault (Err code) = Err code

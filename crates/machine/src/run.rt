@@ -1,0 +1,243 @@
+//! Runs statements up to the next access or the end, and keeps the place where they stop.
+
+ghost use Rattle.std.specs.Prelude.{◌≡◌, ℕ, ◌+◌, ◌<◌, ◌≤◌, List, length, drop};
+ghost use Rattle.regmodel.specs.declared.programs.Expr.{Expr};
+ghost use Rattle.regmodel.specs.Program.{Block, Stop, Assign, Read, Write, Repeat, Emit, with_stmt, block_of};
+ghost use Rattle.regmodel.specs.Act.{exec};
+ghost use Rattle.regmodel.specs.Values.{operand_value, and_then, below};
+ghost use Rattle.regmodel.specs.Limits.{open_blocks};
+ghost use Rattle.machine.specs.declared.run.Frame.{Frame};
+ghost use Rattle.machine.specs.Stores.{env_of};
+ghost use Rattle.machine.specs.Paths.{of_arm, arm_at};
+ghost use Rattle.machine.specs.Exits.{stmt_flow, StmtAsks, block_flow, BlockAsks, exit_through, times_then};
+
+use crate::values::{Place, Store};
+use regmodel::{Access, Expr, Operand, Stmt, Target};
+
+/// One of the two blocks of an `if`.
+#[derive(Clone, Copy)]
+pub enum Arm {
+    First,
+    Second,
+}
+
+/// The part of a statement in which a program stands. What a `read` or `write` found before its access is kept.
+#[derive(Clone, Copy)]
+pub enum Part {
+    /// At a read of this register, whose reply is stored at the place.
+    Reading(u8, Place),
+    /// At a write of this value into this register.
+    Writing(u8, u32),
+    /// In an arm of an `if`.
+    Within(Arm),
+    /// In a turn of a `repeat`, with so many turns left after it.
+    Turn(u32),
+}
+
+/// The place in a block at which a program stands: a statement's number and its part.
+#[derive(Clone, Copy)]
+pub struct Frame {
+    pub at: usize,
+    pub part: Part,
+}
+
+/// How a statement was left without a fault: past it, at an access within its part, or at the end of the program.
+#[derive(Clone, Copy)]
+pub enum StmtExit {
+    GoesOn,
+    Wants(Access, Part),
+    Halts,
+}
+
+/// How a block was left without a fault: past it, at an access, or at the end of the program.
+#[derive(Clone, Copy)]
+pub enum BlockExit {
+    GoesOn,
+    Wants(Access),
+    Halts,
+}
+
+/// Evaluates the expression, then stores its value.
+fn assign(target: Target, value: Expr, store: &mut Store) -> Result<StmtExit, u8>
+    ensures flow { (n : ℕ) (fs : List Frame) (rest : Block) (s : List ℕ) → exec (Assign target value rest) n (env_of store.old) s ≡ stmt_flow result n fs (Assign target value rest) rest (env_of store.new) s }
+    ensures asks { (n : ℕ) (fs : List Frame) (rest : Block) → StmtAsks result n fs (Assign target value rest) (env_of store.new) }
+{
+    let number = store.expr(value)?;
+    let place = store.place(target)?;
+    store.put(place, number);
+    Ok(StmtExit::GoesOn)
+}
+
+/// The number of a register; fault 2 where there is no such register.
+fn register(operand: Operand, registers: u32, store: &Store) -> Result<u8, u8>
+    requires { registers ≤ 64 }
+    ensures { result ≡ and_then (operand_value (env_of store.now) operand) (below registers) }
+{
+    let number = store.operand(operand)?;
+    if number < registers {
+        Ok(number as u8)
+    } else {
+        Err(2)
+    }
+}
+
+/// A read up to its access: first the register, then the place where the reply is to be stored.
+fn read(to: Target, from: Operand, registers: u32, store: &Store) -> Result<StmtExit, u8>
+    requires { registers ≤ 64 }
+    ensures flow { (fs : List Frame) (rest : Block) (s : List ℕ) → exec (Read to from rest) registers (env_of store.now) s ≡ stmt_flow result registers fs (Read to from rest) rest (env_of store.now) s }
+    ensures asks { (fs : List Frame) (rest : Block) → StmtAsks result registers fs (Read to from rest) (env_of store.now) }
+{
+    let register = register(from, registers, store)?;
+    let place = store.place(to)?;
+    Ok(StmtExit::Wants(Access::Read(register), Part::Reading(register, place)))
+}
+
+/// A write up to its access: first the register, then the value.
+fn write(to: Operand, value: Expr, registers: u32, store: &Store) -> Result<StmtExit, u8>
+    requires { registers ≤ 64 }
+    ensures flow { (fs : List Frame) (rest : Block) (s : List ℕ) → exec (Write to value rest) registers (env_of store.now) s ≡ stmt_flow result registers fs (Write to value rest) rest (env_of store.now) s }
+    ensures asks { (fs : List Frame) (rest : Block) → StmtAsks result registers fs (Write to value rest) (env_of store.now) }
+{
+    let register = register(to, registers, store)?;
+    let number = store.expr(value)?;
+    Ok(StmtExit::Wants(
+        Access::Write(register, number),
+        Part::Writing(register, number),
+    ))
+}
+
+/// Appends a number to those of the process; fault 4 where 8 stand.
+fn emit(value: Expr, store: &mut Store) -> Result<StmtExit, u8>
+    ensures flow { (n : ℕ) (fs : List Frame) (rest : Block) (s : List ℕ) → exec (Emit value rest) n (env_of store.old) s ≡ stmt_flow result n fs (Emit value rest) rest (env_of store.new) s }
+    ensures asks { (n : ℕ) (fs : List Frame) (rest : Block) → StmtAsks result n fs (Emit value rest) (env_of store.new) }
+{
+    let number = store.expr(value)?;
+    if store.emitted.is_full() {
+        return Err(4);
+    }
+    store.emitted.push(number);
+    Ok(StmtExit::GoesOn)
+}
+
+/// The arm that is taken at this value.
+fn taken(value: u32) -> Arm
+    ensures { result ≡ arm_at value }
+{
+    if value == 0 { Arm::Second } else { Arm::First }
+}
+
+/// The block of an arm.
+pub fn block_of_arm<'a>(arm: Arm, first: &'a [Stmt], second: &'a [Stmt]) -> &'a [Stmt]
+    ensures { result.now ≡ of_arm arm first.now second.now }
+{
+    match arm {
+        Arm::First => first,
+        Arm::Second => second,
+    }
+}
+
+/// How a statement is left whose part was left so.
+pub fn stmt_exit(exit: Result<BlockExit, u8>, part: Part) -> Result<StmtExit, u8>
+    ensures { result ≡ exit_through exit part }
+{
+    match exit? {
+        BlockExit::GoesOn => Ok(StmtExit::GoesOn),
+        BlockExit::Wants(access) => Ok(StmtExit::Wants(access, part)),
+        BlockExit::Halts => Ok(StmtExit::Halts),
+    }
+}
+
+/// Runs one statement; fault 3 at a count above 99. Where it stops, it tells its part, and the path further down lies in
+/// the frames above the depth.
+#[cycle(run)]
+#[tactic(auto, using(crate::proofs::Blocks::open_blocks_if, crate::proofs::Blocks::open_blocks_repeat))]
+fn run_stmt(
+    stmt: &Stmt,
+    registers: u32,
+    depth: usize,
+    store: &mut Store,
+    frames: &mut [Frame],
+) -> Result<StmtExit, u8>
+    requires small { registers ≤ 64 }
+    requires room { depth + open_blocks (with_stmt stmt.now Stop) < length frames.old }
+    ensures flow { (rest : Block) (s : List ℕ) → exec (with_stmt stmt.now rest) registers (env_of store.old) s ≡ stmt_flow result registers (drop (depth + 1) frames.new) (with_stmt stmt.now rest) rest (env_of store.new) s }
+    ensures asks { (rest : Block) → StmtAsks result registers (drop (depth + 1) frames.new) (with_stmt stmt.now rest) (env_of store.new) }
+{
+    match stmt {
+        Stmt::Assign(target, value) => assign(*target, *value, store),
+        Stmt::Read(to, from) => read(*to, *from, registers, store),
+        Stmt::Write(to, value) => write(*to, *value, registers, store),
+        Stmt::If(test, first, second) => {
+            let arm = taken(store.expr(*test)?);
+            let block = block_of_arm(arm, first.as_slice(), second.as_slice());
+            let exit = run_block(block, 0, registers, depth + 1, store, frames);
+            stmt_exit(exit, Part::Within(arm))
+        }
+        Stmt::Repeat(count, body) => {
+            let turns = store.expr(*count)?;
+            if turns > 99 {
+                return Err(3);
+            }
+            run_turns(body.as_slice(), turns, registers, depth, store, frames)
+        }
+        Stmt::Emit(value) => emit(*value, store),
+        Stmt::Halt => Ok(StmtExit::Halts),
+    }
+}
+
+/// Runs the body of a `repeat` so many times. Where it stops, the turn tells how many are left.
+#[cycle(run)]
+pub fn run_turns(
+    body: &[Stmt],
+    turns: u32,
+    registers: u32,
+    depth: usize,
+    store: &mut Store,
+    frames: &mut [Frame],
+) -> Result<StmtExit, u8>
+    requires small { registers ≤ 64 }
+    requires room { depth + 1 + open_blocks (block_of body.now) < length frames.old }
+    ensures flow { (e : Expr) (rest : Block) (s : List ℕ) → times_then turns registers (block_of body.now) rest (env_of store.old) s ≡ stmt_flow result registers (drop (depth + 1) frames.new) (Repeat e (block_of body.now) rest) rest (env_of store.new) s }
+    ensures asks { (e : Expr) (rest : Block) → StmtAsks result registers (drop (depth + 1) frames.new) (Repeat e (block_of body.now) rest) (env_of store.new) }
+{
+    let mut left = turns;
+    while left > 0 {
+        left -= 1;
+        match run_block(body, 0, registers, depth + 1, store, frames)? {
+            BlockExit::GoesOn => {}
+            BlockExit::Wants(access) => return Ok(StmtExit::Wants(access, Part::Turn(left))),
+            BlockExit::Halts => return Ok(StmtExit::Halts),
+        }
+    }
+    Ok(StmtExit::GoesOn)
+}
+
+/// Runs a block from the statement with this number on. Where it stops, the path to that place lies in the frames from
+/// the depth on.
+#[cycle(run)]
+#[tactic(auto, using(crate::proofs::Blocks::open_blocks_at))]
+pub fn run_block(
+    block: &[Stmt],
+    start: usize,
+    registers: u32,
+    depth: usize,
+    store: &mut Store,
+    frames: &mut [Frame],
+) -> Result<BlockExit, u8>
+    requires small { registers ≤ 64 }
+    requires room { depth + open_blocks (block_of block.now) < length frames.old }
+    ensures flow { (s : List ℕ) → exec (block_of (drop start block.now)) registers (env_of store.old) s ≡ block_flow result registers (drop depth frames.new) (block_of block.now) (env_of store.new) s }
+    ensures asks { BlockAsks result registers (drop depth frames.new) (block_of block.now) (env_of store.new) }
+{
+    for at in start..block.len() {
+        match run_stmt(&block[at], registers, depth, store, frames)? {
+            StmtExit::GoesOn => {}
+            StmtExit::Wants(access, part) => {
+                frames[depth] = Frame { at, part };
+                return Ok(BlockExit::Wants(access));
+            }
+            StmtExit::Halts => return Ok(BlockExit::Halts),
+        }
+    }
+    Ok(BlockExit::GoesOn)
+}

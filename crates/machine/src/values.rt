@@ -1,0 +1,131 @@
+//! What expressions are worth, and where values are kept.
+
+ghost use Rattle.std.specs.Prelude.{◌≡◌, slice_index};
+ghost use Rattle.regmodel.specs.Values.{within, below, operand_value, expr_value, apply_op, place_of, store};
+ghost use Rattle.machine.specs.Stores.{env_of, as_place, as_place_or_fault};
+
+use regmodel::{Expr, Numbers, Op, Operand, Target};
+
+/// The greatest value of a sum or a product.
+const GREATEST: u64 = 1000000000;
+
+/// How many cells there are.
+const CELLS: u32 = 32;
+
+/// The variables, the cells and the numbers emitted so far.
+#[derive(Drop)]
+pub struct Store {
+    pub vars: [u32; 16],
+    pub cells: [u32; 32],
+    pub emitted: Numbers,
+}
+
+/// Where a value is stored: in the variable or the cell with this number.
+#[derive(Clone, Copy)]
+pub enum Place {
+    Var(u8),
+    Cell(u8),
+}
+
+/// The value of an operator; fault 1 above the greatest value or below 0.
+fn apply(op: Op, a: u32, b: u32) -> Result<u32, u8>
+    ensures { result ≡ apply_op op a b }
+{
+    match op {
+        Op::Add => bounded(a as u64 + b as u64),
+        Op::Sub => a.checked_sub(b).ok_or(1),
+        Op::Mul => bounded(a as u64 * b as u64),
+        Op::Equal => Ok((a == b) as u32),
+        Op::Less => Ok((a < b) as u32),
+    }
+}
+
+/// A value within the limit; fault 1 above it.
+fn bounded(n: u64) -> Result<u32, u8>
+    ensures { result ≡ within n }
+{
+    if n <= GREATEST { Ok(n as u32) } else { Err(1) }
+}
+
+impl Store {
+    /// The value of a variable; 0 where there is none with this number.
+    fn var(&self, i: u8) -> u32
+        ensures { result ≡ slice_index self.now.vars i }
+    {
+        self.vars.get(i as usize).copied().unwrap_or(0)
+    }
+
+    /// The value of a cell; 0 where there is none with this number.
+    fn cell(&self, i: u8) -> u32
+        ensures { result ≡ slice_index self.now.cells i }
+    {
+        self.cells.get(i as usize).copied().unwrap_or(0)
+    }
+
+    /// The number of the cell that a variable names; fault 2 where there is no such cell.
+    fn named_cell(&self, i: u8) -> Result<u8, u8>
+        ensures { result ≡ below 32 (slice_index self.now.vars i) }
+    {
+        let number = self.var(i);
+        if number < CELLS {
+            Ok(number as u8)
+        } else {
+            Err(2)
+        }
+    }
+
+    /// The value of an operand; fault 2 where it names a cell that is not there.
+    pub fn operand(&self, a: Operand) -> Result<u32, u8>
+        ensures { result ≡ operand_value (env_of self.now) a }
+    {
+        match a {
+            Operand::Number(n) => Ok(n),
+            Operand::Var(i) => Ok(self.var(i)),
+            Operand::Cell(i) => Ok(self.cell(i)),
+            Operand::CellOf(i) => Ok(self.cell(self.named_cell(i)?)),
+        }
+    }
+
+    /// The value of an expression, operands from left to right.
+    pub fn expr(&self, e: Expr) -> Result<u32, u8>
+        ensures { result ≡ expr_value (env_of self.now) e }
+    {
+        match e {
+            Expr::One(a) => self.operand(a),
+            Expr::Two(a, op, b) => {
+                let x = self.operand(a)?;
+                let y = self.operand(b)?;
+                apply(op, x, y)
+            }
+        }
+    }
+
+    /// Where a target is stored; fault 2 where it names a cell that is not there.
+    pub fn place(&self, t: Target) -> Result<Place, u8>
+        ensures { as_place_or_fault result ≡ place_of (env_of self.now) t }
+    {
+        match t {
+            Target::Var(i) => Ok(Place::Var(i)),
+            Target::Cell(i) => Ok(Place::Cell(i)),
+            Target::CellOf(i) => Ok(Place::Cell(self.named_cell(i)?)),
+        }
+    }
+
+    /// Stores a value; nowhere where there is no such variable or cell.
+    pub fn put(&mut self, place: Place, value: u32)
+        ensures { env_of self.new ≡ store (env_of self.old) (as_place place) value }
+    {
+        match place {
+            Place::Var(i) => {
+                if (i as usize) < self.vars.len() {
+                    self.vars[i as usize] = value;
+                }
+            }
+            Place::Cell(i) => {
+                if (i as usize) < self.cells.len() {
+                    self.cells[i as usize] = value;
+                }
+            }
+        }
+    }
+}
