@@ -1,0 +1,5 @@
+mod Cuts
+mod Digits
+mod Programs
+mod Straight
+mod TooLong

@@ -1,0 +1,25 @@
+-- How a text is cut into lines, and a line into words.
+use Rattle.std.specs.Prelude.{ℕ, ◌==◌, Bool, true, false, ◌&&◌, not, if◌then◌else◌, List, [], ◌∷◌, nat_le}
+use Rattle.std.specs.List.{slice_split, filter, list_all}
+
+abbrev pub is_empty : List ℕ → Bool
+is_empty [] = true
+is_empty (b ∷ bs) = false
+
+-- the last part only if it is not empty
+abbrev pub without_empty_end : List (List ℕ) → List (List ℕ)
+without_empty_end [] = []
+without_empty_end (part ∷ []) = if is_empty part then [] else part ∷ []
+without_empty_end (part ∷ next ∷ parts) = part ∷ without_empty_end (next ∷ parts)
+
+-- each line ends at a byte 10; what follows the last one is a line only if it is not empty
+abbrev pub lines : List ℕ → List (List ℕ)
+lines text = without_empty_end (slice_split (λ b. b == 10) text)
+
+-- words are parted by one or more spaces
+abbrev pub words : List ℕ → List (List ℕ)
+words line = filter (λ word. not (is_empty word)) (slice_split (λ b. b == 32) line)
+
+-- only bytes 32 to 126 stand in a line
+abbrev pub is_printable : List ℕ → Bool
+is_printable line = list_all (λ b. nat_le 32 b && nat_le b 126) line

@@ -1,0 +1,66 @@
+//! Lines of a text, and words of a line.
+
+ghost use Rattle.std.specs.Prelude.{◌≡◌, ℕ, ◌==◌, ◌+◌, ◌<◌, ◌≤◌, [], ◌∷◌, length, drop, MatchOption};
+ghost use Rattle.std.specs.List.{position, prefix_len, before_first, after_first};
+ghost use Rattle.reglang.specs.Lines.{lines, words, is_printable};
+
+/// The first line of a text without its byte 10, and what follows it. None at the end of the text.
+pub fn split_line(text: &[u8]) -> Option<(&[u8], &[u8])>
+    ensures { MatchOption result (lines text.now ≡ []) (λ r. (lines text.now ≡ r.0.now ∷ lines r.1.now) × (length r.1.now < length text.now)) }
+{
+    if text.is_empty() {
+        return None;
+    }
+    Some(cut_at(text, b'\n'))
+}
+
+/// The first word of a line, and what follows it. None where there are only spaces.
+pub fn split_word(line: &[u8]) -> Option<(&[u8], &[u8])>
+    ensures { MatchOption result (words line.now ≡ []) (λ r. (words line.now ≡ r.0.now ∷ words r.1.now) × (length r.1.now < length line.now)) }
+{
+    let line = after_spaces(line);
+    if line.is_empty() {
+        return None;
+    }
+    Some(cut_at(line, b' '))
+}
+
+/// Whether only bytes 32 to 126 stand in a line.
+pub fn is_printable(line: &[u8]) -> bool
+    ensures { result ≡ is_printable line.now }
+{
+    line.iter().all(|b| (b' '..=b'~').contains(b))
+}
+
+/// The place of the first byte of this value.
+fn place_of(bytes: &[u8], byte: u8) -> Option<usize>
+    ensures { result ≡ position (λ b. b == byte) bytes.now }
+{
+    bytes.iter().position(|b| *b == byte)
+}
+
+/// What stands before the first byte of this value and after it, or all and nothing where there is none.
+fn cut_at(bytes: &[u8], byte: u8) -> (&[u8], &[u8])
+    ensures before { result.0.now ≡ before_first (λ b. b == byte) bytes.now }
+    ensures after { result.1.now ≡ after_first (λ b. b == byte) bytes.now }
+{
+    match place_of(bytes, byte) {
+        Some(end) => (&bytes[..end], &bytes[end + 1..]),
+        None => (bytes, &[]),
+    }
+}
+
+/// How many spaces there are before anything else.
+fn spaces(line: &[u8]) -> usize
+    ensures within { result ≤ length line.now }
+    ensures count { result ≡ prefix_len (λ b. b == 32) line.now }
+{
+    line.iter().take_while(|b| **b == b' ').count()
+}
+
+/// A line from its first byte on that is no space.
+fn after_spaces(line: &[u8]) -> &[u8]
+    ensures { result.now ≡ drop (prefix_len (λ b. b == 32) line.now) line.now }
+{
+    &line[spaces(line)..]
+}

@@ -1,0 +1,71 @@
+//! What the program refuses, and the status that tells it.
+
+ghost use Rattle.std.specs.Prelude.{◌≡◌, ◌⊎◌};
+ghost use Rattle.regtry.specs.Statuses.{status_of};
+
+use reglang::ReadFault;
+use regmodel::OutOfMemory;
+use std::alloc::{AllocError, AllocFailed};
+use std::io::Write;
+use thiserror::Error;
+
+/// What is refused, in one line.
+#[derive(Debug, Drop, Error)]
+pub enum Refusal {
+    /// A setting past its limit, by its number.
+    #[error("setting {0}")]
+    Setting(u8),
+    /// A file that cannot be read, or is too long.
+    #[error("file")]
+    File,
+    /// A text that is no source.
+    #[error("{0}")]
+    Source(ReadFault),
+    /// A request for memory was refused.
+    #[error("memory")]
+    Memory,
+    /// An exploration without a report.
+    #[error("run {0}")]
+    Run(u8),
+    /// A report that could not be written whole.
+    #[error("write")]
+    Write,
+}
+
+impl Refusal {
+    /// 2 where what was asked is refused, 3 where it could not be done.
+    pub fn status(&self) -> u8
+        ensures { result ≡ status_of self.now }
+    {
+        match self {
+            Refusal::Setting(_) | Refusal::File | Refusal::Source(_) => 2,
+            Refusal::Memory | Refusal::Run(_) | Refusal::Write => 3,
+        }
+    }
+}
+
+impl From<OutOfMemory> for Refusal {
+    fn from(_error: OutOfMemory) -> Refusal {
+        Refusal::Memory
+    }
+}
+
+impl From<AllocError> for Refusal {
+    fn from(_error: AllocError) -> Refusal {
+        Refusal::Memory
+    }
+}
+
+impl<T: Drop> From<AllocFailed<T>> for Refusal {
+    fn from(_error: AllocFailed<T>) -> Refusal {
+        Refusal::Memory
+    }
+}
+
+/// Writes the line of a refusal, and gives its status, also where the line could not be written.
+pub fn refuse<E: Write>(refusal: Refusal, err: &mut E) -> u8
+    ensures { result ≡ status_of refusal }
+{
+    let _ = writeln!(err, "regtry: {refusal}");
+    refusal.status()
+}
