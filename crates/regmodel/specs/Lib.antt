@@ -8,6 +8,7 @@ pub mod Limits
 pub mod OfProg
 pub mod Outcomes
 pub mod PlainReport
+pub mod Prefixes
 pub mod Program
 pub mod Replies
 pub mod ReportText

@@ -9,6 +9,7 @@ mod limits;
 pub mod memory;
 pub mod outcomes;
 pub mod programs;
+pub mod schedule_texts;
 pub mod schedules;
 
 pub use accesses::{Access, Numbers, Pending};
@@ -17,7 +18,8 @@ pub use letters::Letter;
 pub use memory::OutOfMemory;
 pub use outcomes::{End, Judge, Outcome, ProcEnd};
 pub use programs::{Expr, Op, Operand, Prog, Stmt, Target};
-pub use schedules::{Prefix, write_schedule};
+pub use schedule_texts::{read_schedule, write_schedule};
+pub use schedules::Prefix;
 
 #[cfg(test)]
 mod tests;

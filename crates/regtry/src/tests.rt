@@ -5,7 +5,73 @@ use std::io;
 use std::io::{Read, Write};
 use std::test::Fail;
 
+/// One process writes a register, another reads and emits it.
 const SOURCE: &[u8] = b"registers 1\nprocess\nwrite 0 5\nend\nprocess\nread v0 0\nemit v0\nend\n";
+
+/// Two processes write a register each.
+const TWO_WRITERS: &[u8] = b"registers 2\nprocess\nwrite 0 5\nend\nprocess\nwrite 1 5\nend\n";
+
+/// Two processes read the same register.
+const TWO_READERS: &[u8] = b"registers 1\nprocess\nread v0 0\nend\nprocess\nread v0 0\nend\n";
+
+/// One process writes once.
+const ONE_WRITER: &[u8] = b"registers 1\nprocess\nwrite 0 5\nend\n";
+
+/// One process writes to a register that is not there, another emits nine numbers.
+const FAULTS: &[u8] =
+    b"registers 1\nprocess\nwrite 1 5\nend\nprocess\nemit 1\nemit 2\nemit 3\nemit 4\nemit 5\nemit 6\nemit 7\nemit 8\nemit 9\nend\n";
+
+/// Sources, the length and the crashes, and the report.
+const REPORTS: [(&[u8], &str, &str, &[u8]); 8] = [
+    (
+        SOURCE,
+        "2",
+        "0",
+        b"processes 2\nlength 2\ncrashes 0\ntried 2\noutcomes 2\noutcome done; done 0\noutcome done; done 5\nleast none\n",
+    ),
+    (
+        TWO_WRITERS,
+        "1",
+        "0",
+        b"processes 2\nlength 1\ncrashes 0\ntried 2\noutcomes 2\noutcome running idle; done\noutcome done; running idle\nleast none\n",
+    ),
+    (
+        TWO_WRITERS,
+        "2",
+        "0",
+        b"processes 2\nlength 2\ncrashes 0\ntried 2\noutcomes 1\noutcome done; done\nleast none\n",
+    ),
+    (
+        TWO_READERS,
+        "2",
+        "0",
+        b"processes 2\nlength 2\ncrashes 0\ntried 2\noutcomes 1\noutcome done; done\nleast none\n",
+    ),
+    (
+        TWO_WRITERS,
+        "2",
+        "1",
+        b"processes 2\nlength 2\ncrashes 1\ntried 6\noutcomes 3\noutcome crashed idle; done\noutcome done; crashed idle\noutcome done; done\nleast none\n",
+    ),
+    (
+        ONE_WRITER,
+        "2",
+        "1",
+        b"processes 1\nlength 2\ncrashes 1\ntried 2\noutcomes 2\noutcome crashed idle\noutcome done\nleast none\n",
+    ),
+    (
+        ONE_WRITER,
+        "0",
+        "0",
+        b"processes 1\nlength 0\ncrashes 0\ntried 1\noutcomes 1\noutcome running idle\nleast none\n",
+    ),
+    (
+        FAULTS,
+        "64",
+        "8",
+        b"processes 2\nlength 64\ncrashes 8\ntried 1\noutcomes 1\noutcome fault 2 idle; fault 4 idle\nleast none\n",
+    ),
+];
 
 const WORDS: [&str; 13] = [
     "regtry",
@@ -50,7 +116,10 @@ impl Write for Closed {
 /// The status of words, and what they print.
 fn refused(alloc: Global, words: &[&str]) -> (u8, Vec<u8>) {
     let mut err = Vec::new(alloc);
-    let status = command(alloc, words, &mut err).err().unwrap_or(0);
+    let status = match command(alloc, words, &mut err) {
+        Ok(_) => 0,
+        Err(status) => status,
+    };
     (status, err)
 }
 
@@ -61,9 +130,9 @@ fn answered<R: Read + Drop>(
 ) -> Result<(u8, Vec<u8>, Vec<u8>), Fail> {
     let mut out = Vec::new(alloc);
     let mut err = Vec::new(alloc);
-    let order = command(alloc, WORDS.as_slice(), &mut err)
-        .ok()
-        .ok_or("refused words")?;
+    let Ok(order) = command(alloc, WORDS.as_slice(), &mut err) else {
+        return Err(Fail::from("refused words"));
+    };
     let status = answer(alloc, &order, file, &mut out, &mut err);
     Ok((status, out, err))
 }
@@ -74,6 +143,7 @@ fn refuses_settings_in_order(rt: HostRuntime) {
         (4, "65", b"regtry: setting 1\n"),
         (6, "9", b"regtry: setting 2\n"),
         (8, "17", b"regtry: setting 3\n"),
+        (8, "0", b"regtry: setting 3\n"),
         (10, "17", b"regtry: setting 4\n"),
         (12, "65537", b"regtry: setting 5\n"),
     ] {
@@ -83,6 +153,12 @@ fn refuses_settings_in_order(rt: HostRuntime) {
         assert_eq!(rt; status, 2);
         assert_eq!(rt; err.as_slice(), line.as_slice());
     }
+    let mut words = WORDS;
+    words[4] = "65";
+    words[8] = "0";
+    let (status, err) = refused(rt.alloc(), words.as_slice());
+    assert_eq!(rt; status, 2);
+    assert_eq!(rt; err.as_slice(), b"regtry: setting 1\n".as_slice());
 }
 
 #[test]
@@ -126,13 +202,30 @@ fn refuses_files(rt: HostRuntime) -> Result<(), Fail> {
 #[test]
 fn writes_reports(rt: HostRuntime) -> Result<(), Fail> {
     let alloc = rt.alloc();
-    let (status, out, err) = answered(alloc, Some(SOURCE))?;
-    assert_eq!(rt; status, 0);
-    assert!(rt; !out.is_empty() && err.is_empty());
+    for (source, length, crashes, report) in REPORTS {
+        let mut words = WORDS;
+        words[4] = length;
+        words[6] = crashes;
+        let mut out = Vec::new(alloc);
+        let mut err = Vec::new(alloc);
+        let Ok(order) = command(alloc, words.as_slice(), &mut err) else {
+            return Err(Fail::from("refused words"));
+        };
+        let status = answer(alloc, &order, Some(source), &mut out, &mut err);
+        assert_eq!(rt; status, 0);
+        assert_eq!(rt; out.as_slice(), report);
+        assert!(rt; err.is_empty());
+    }
+    Ok(())
+}
+
+#[test]
+fn names_a_failed_write(rt: HostRuntime) -> Result<(), Fail> {
+    let alloc = rt.alloc();
     let mut err = Vec::new(alloc);
-    let order = command(alloc, WORDS.as_slice(), &mut err)
-        .ok()
-        .ok_or("refused words")?;
+    let Ok(order) = command(alloc, WORDS.as_slice(), &mut err) else {
+        return Err(Fail::from("refused words"));
+    };
     assert_eq!(rt; order.path(), "FB");
     let status = answer(alloc, &order, Some(SOURCE), &mut Closed, &mut err);
     assert_eq!(rt; status, 3);
