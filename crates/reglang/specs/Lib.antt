@@ -1,6 +1,9 @@
 pub mod Drafts
+pub mod Expansions
 pub mod Forms
+pub mod KindExamples
 pub mod Lines
 pub mod Sources
 pub mod Texts
+pub mod Uses
 pub mod Words
