@@ -18,7 +18,7 @@ use Rattle.regmodel.specs.AllSchedules.{all_schedules}
 use Rattle.regmodel.specs.Outcomes.{outcome_of}
 use Rattle.regmodel.specs.PlainReport.{Findings}
 use Rattle.regmodel.specs.Summary.{first_refused}
-use Rattle.regmodel.specs.ReportText.{outcome_text, report_text}
+use Rattle.regmodel.specs.ReportText.{outcome_text, report_text, standing_text}
 use Rattle.regmodel.specs.ScheduleText.{schedule_text}
 
 abbrev over : ℕ → Block → Program
@@ -155,3 +155,7 @@ report_of_both = refl
 pub texts_of_ends : outcome_text (started (1 ∷ 20 ∷ []) ∷ idle (end.Fault 2) ∷ idle end.Crashed ∷ idle end.Running ∷ []) ≡ codes "done 1 20; fault 2 idle; crashed idle; running idle"
 unfolding digits
 texts_of_ends = refl
+
+pub text_of_where_a_crash_leads : standing_text (started [] ∷ idle end.Crashed ∷ []) (5 ∷ 0 ∷ []) ≡ codes "outcome done; crashed idle\nregisters 5 0\n"
+unfolding digits
+text_of_where_a_crash_leads = refl

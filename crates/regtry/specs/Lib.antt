@@ -1,1 +1,4 @@
+pub mod Findings
+pub mod Orders
+pub mod Standings
 pub mod Statuses

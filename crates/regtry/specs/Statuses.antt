@@ -1,13 +1,15 @@
 -- The statuses of the program.
 use Rattle.std.specs.Prelude.{ℕ}
 use Rattle.regtry.specs.declared.refusals.Refusal.{Refusal}
-use Rattle.regtry.specs.declared.refusals.Refusal.TheVariants.{Setting, File, Source, Memory, Run, Write}
+use Rattle.regtry.specs.declared.refusals.Refusal.TheVariants.{Setting, Schedule, File, Source, Memory, Letter, Run, Write}
 
 -- 2 where what was asked is refused, 3 where it could not be done
 abbrev pub status_of : Refusal → ℕ
 status_of (Setting code) = 2
+status_of Schedule = 2
 status_of File = 2
 status_of (Source fault) = 2
 status_of Memory = 3
+status_of (Letter place) = 2
 status_of (Run code) = 3
 status_of Write = 3

@@ -1,12 +1,18 @@
 //! Does what was asked, and gives the status.
 
-ghost use Rattle.std.specs.Prelude.{◌≡◌, ◌≤◌, IsNone};
+ghost use Rattle.std.specs.Prelude.{◌≡◌, ◌≤◌, IfErr, IfOk, IsNone, map, true};
+ghost use Rattle.regmodel.specs.PlainReport.{IsPlainReport};
+ghost use Rattle.reglang.specs.Sources.{programs_of};
+ghost use Rattle.explorer.specs.Appending.{Writes, fault_of};
+ghost use Rattle.regtry.specs.Findings.{finding_text, has_failing};
+ghost use Rattle.regtry.specs.Statuses.{status_of};
 
-use crate::orders::Order;
+use crate::orders::{Order, Task};
 use crate::refusals::{Refusal, refuse};
-use explorer::{Report, run_one, write_report};
+use crate::standings::{Standing, standing_after};
+use explorer::{Report, WriteFault, run_one, write_report, write_standing};
 use machine::{Interp, Machine};
-use reglang::read_source;
+use reglang::{Source, read_source};
 use regmodel::{Judge, Outcome, Settings};
 use std::alloc::Global;
 use std::io;
@@ -28,9 +34,42 @@ impl Judge for AcceptAll {
     }
 }
 
-/// Explores the source in the file and writes the report. The status is 0 where no schedule fails and 1 where one does; 2 where
-/// the file or the source is refused and 3 where it could not be done, and then a line on `err` says why. `file` is None where it
-/// could not be opened.
+/// What was found of a source.
+#[derive(Debug, Drop)]
+enum Finding {
+    /// The report of an exploration.
+    Report(Report),
+    /// Where a schedule leads.
+    Standing(Standing),
+}
+
+impl Finding {
+    /// Whether a schedule was found to fail.
+    fn fails(&self) -> bool
+        ensures { result ≡ has_failing self.now }
+    {
+        match self {
+            Finding::Report(report) => report.least().is_some(),
+            Finding::Standing(_) => false,
+        }
+    }
+
+    /// Writes the text of what was found.
+    fn write<W: Write>(&self, out: &mut W) -> Result<(), WriteFault>
+        ensures { Writes (W.contents out.old) (W.contents out.new) (finding_text self.now) (fault_of result) }
+    {
+        match self {
+            Finding::Report(report) => write_report(report, out),
+            Finding::Standing(standing) => {
+                write_standing(&standing.outcome, standing.registers.as_slice(), out)
+            }
+        }
+    }
+}
+
+/// Does what the order asks of the source in the file, and writes what it found. The status is 0 where that is done, but 1
+/// where an explored schedule fails; 2 where the file, the source or a letter is refused, and then `out` is as before; 3 where it
+/// could not be done. At 2 and 3 a line on `err` says why. `file` is None where it could not be opened.
 pub fn answer<R: Read + Drop, W: Write, E: Write>(
     alloc: Global,
     order: &Order<'_>,
@@ -40,31 +79,33 @@ pub fn answer<R: Read + Drop, W: Write, E: Write>(
 ) -> u8
     ensures no_file { IsNone file → result ≡ 2 }
     ensures status { result ≤ 3 }
+    ensures silent { result ≡ 2 → out.new ≡ out.old }
 {
-    match report_of(alloc, order.settings(), file, out) {
+    match written(alloc, order.task(), file, out) {
         Ok(fails) => u8::from(fails),
         Err(refusal) => refuse(refusal, err),
     }
 }
 
-/// Writes the report of the source in the file. Whether a schedule fails.
-fn report_of<R: Read + Drop, W: Write>(
+/// Writes what is found of the source in the file. Whether a schedule fails.
+fn written<R: Read + Drop, W: Write>(
     alloc: Global,
-    settings: Settings,
+    task: &Task,
     file: Option<R>,
     out: &mut W,
 ) -> Result<bool, Refusal>
-    ensures { IsNone file → result ≡ Err Refusal.File }
+    ensures no_file { IsNone file → result ≡ Err Refusal.File }
+    ensures silent { IfErr result (λ refusal. status_of refusal ≡ 2 → out.new ≡ out.old) }
 {
     let Some(file) = file else {
         return Err(Refusal::File);
     };
     let text = bytes_of(alloc, file)?;
-    let report = explore(alloc, settings, text.as_slice())?;
-    if write_report(&report, out).is_err() || out.flush().is_err() {
+    let finding = found(alloc, task, text.as_slice())?;
+    if finding.write(out).is_err() || out.flush().is_err() {
         return Err(Refusal::Write);
     }
-    Ok(report.least().is_some())
+    Ok(finding.fails())
 }
 
 /// All bytes of a file, where they are not too many.
@@ -78,8 +119,8 @@ fn bytes_of<R: Read + Drop>(alloc: Global, file: R) -> Result<Vec<u8>, Refusal> 
     }
 }
 
-/// The report of a text, by one interpreter a process.
-fn explore(alloc: Global, settings: Settings, text: &[u8]) -> Result<Report, Refusal> {
+/// What is found of a text, by one interpreter a process.
+fn found(alloc: Global, task: &Task, text: &[u8]) -> Result<Finding, Refusal> {
     let source = match read_source(alloc, text) {
         Ok(source) => source,
         Err(fault) => return Err(Refusal::Source(fault)),
@@ -90,7 +131,28 @@ fn explore(alloc: Global, settings: Settings, text: &[u8]) -> Result<Report, Ref
         let machine = Interp::make(alloc, prog)?;
         machines.push(Box::new(alloc, machine)?)?;
     }
-    match run_one(alloc, &source, settings, machines, &AcceptAll) {
+    match task {
+        Task::Explore { settings } => {
+            Ok(Finding::Report(report_of(alloc, &source, *settings, machines)?))
+        }
+        Task::Replay { schedule } => {
+            Ok(Finding::Standing(standing_after(&source, machines, schedule)?))
+        }
+    }
+}
+
+/// The report of a source, by its machines.
+fn report_of(
+    alloc: Global,
+    source: &Source,
+    settings: Settings,
+    machines: Vec<Box<dyn Machine + Send>>,
+) -> Result<Report, Refusal>
+    requires { map program machines.items ≡ programs_of source.now }
+    ensures report { IfOk result (λ r. IsPlainReport (programs_of source.now) settings.length settings.crashes (λ ends. true) r) }
+    ensures run { IfErr result (λ refusal. status_of refusal ≡ 3) }
+{
+    match run_one(alloc, source, settings, machines, &AcceptAll) {
         Ok(report) => Ok(report),
         Err(fault) => Err(Refusal::Run(fault.code)),
     }

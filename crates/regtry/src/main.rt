@@ -1,9 +1,10 @@
-//! Explores register algorithms under all bounded schedules.
+//! Explores register algorithms under all bounded schedules, and replays one.
 #![tactic(auto)]
 
 mod answers;
 mod orders;
 mod refusals;
+mod standings;
 #[cfg(test)]
 mod tests;
 

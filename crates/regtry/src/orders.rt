@@ -1,42 +1,75 @@
 //! What the words of the command line ask for.
 
-ghost use Rattle.std.specs.Prelude.{◌≡◌, IfErr};
+ghost use Rattle.std.specs.Prelude.{◌≡◌, ◌≢◌, IfErr, IfOk, List};
+ghost use Rattle.regmodel.specs.declared.letters.Letter.{Letter};
+ghost use Rattle.regmodel.specs.Prefixes.{FitsPrefix};
+ghost use Rattle.regmodel.specs.ScheduleText.{schedule_text};
+ghost use Rattle.regtry.specs.Orders.{IsReplayOf};
+ghost use Rattle.regtry.specs.Statuses.{status_of};
 
 use crate::refusals::{Refusal, refuse};
 use clap::{Arg, ArgAction, ArgMatches, Command, Error, value_parser};
-use regmodel::Settings;
+use regmodel::{Prefix, Settings, read_schedule};
 use std::alloc::{AllocError, Global};
 use std::convert::AsStr;
 use std::io::Write;
 
 /// What the help says of the statuses.
 const STATUSES: &str = "Statuses:
-  0  no schedule fails
-  1  a schedule fails
-  2  the words, a setting, the file or the source is refused
-  3  memory ran out, or the report could not be made or written";
+  0  explore: no schedule fails; replay: done
+  1  explore: a schedule fails
+  2  the words, a setting, the schedule, the file or the source is refused
+  3  memory ran out, or the result could not be made or written";
 
-/// What to explore, and how far.
-#[derive(Clone, Copy, Debug)]
+/// What the help says of the text of a schedule.
+const SCHEDULES: &str = "Letters of a schedule:
+  R0  process 0 takes a step: it does the register access that it wants, and goes on to its next one or its end
+  C0  process 0 crashes: it takes no further step
+Processes are numbered from 0, in the order of the source. A letter is possible where its process wants an access
+and has not crashed.
+
+Example: regtry replay FILE 'R0 R1 C0' lets process 0 take a step, then process 1, and then crashes process 0.
+It prints how each process stands after that and what each register holds, whether or not the processes ended.
+
+Statuses:
+  0  the schedule was replayed
+  2  the words, the schedule, the file or the source is refused, or a letter is not possible where it stands
+  3  memory ran out, or the result could not be written";
+
+/// What to do with a source.
+#[derive(Debug, Drop)]
+pub enum Task {
+    /// Explore it this far.
+    Explore { settings: Settings },
+    /// Replay this schedule.
+    Replay { schedule: Prefix },
+}
+
+/// What is asked for.
+#[derive(Debug, Drop)]
 pub struct Order<'a> {
     path: &'a str,
-    settings: Settings,
+    task: Task,
 }
 
 impl<'a> Order<'a> {
     /// The file that holds the source.
-    pub fn path(&self) -> &'a str {
+    pub fn path(&self) -> &'a str
+        ensures { result ≡ self.now.path }
+    {
         self.path
     }
 
-    /// How far to explore.
-    pub fn settings(&self) -> Settings {
-        self.settings
+    /// What to do with the source.
+    pub fn task(&self) -> &Task
+        ensures { result.now ≡ self.now.task }
+    {
+        &self.task
     }
 }
 
-/// Reads the words of the command line, the program's name first. Where they are refused, also where they ask for help, or a
-/// setting is past its limit, it prints why, and the error is the status.
+/// Reads the words of the command line, the program's name first. Where they are refused, also where they ask for help, a
+/// setting is past its limit, or the schedule is no text of one, it prints why, and the error is the status.
 pub fn command<'a, S: AsStr, E: Write>(
     alloc: Global,
     words: &'a [S],
@@ -68,22 +101,22 @@ fn program<'a>(alloc: Global) -> Result<Command<'a>, AllocError> {
         .after_help(STATUSES)
         .subcommand_required(true)
         .disable_help_subcommand(true)
-        .subcommand(explore(alloc)?)
+        .subcommand(explore(alloc)?)?
+        .subcommand(replay(alloc)?)
 }
 
 /// The words of `explore`.
 fn explore<'a>(alloc: Global) -> Result<Command<'a>, AllocError> {
-    let file = Arg::new(alloc, "FILE").required(true).help(
-        "The source: a text in the register language, at most 1048576 bytes",
-    );
     let text = Arg::new(alloc, "text")
         .long("text")
         .action(ArgAction::SetTrue)
-        .help("Interpret every process, also where a built-in machine would serve");
+        .help(
+            "Interpret every process, also where a built-in machine would serve (as is done so far)",
+        );
     Command::new(alloc, "explore")
         .about("Tries all schedules of a source and prints a report of the outcomes.")
         .after_help(STATUSES)
-        .arg(file)?
+        .arg(file(alloc))?
         .arg(number(
             alloc,
             "length",
@@ -100,21 +133,40 @@ fn explore<'a>(alloc: Global) -> Result<Command<'a>, AllocError> {
             alloc,
             "workers",
             "W",
-            "How many workers share the exploration: 1 to 16",
+            "How many workers share the exploration: 1 to 16 (one explores so far)",
         ))?
         .arg(number(
             alloc,
             "cut",
             "D",
-            "Up to which length beginnings of schedules are split into pieces for the workers: 0 to 16",
+            "Up to which length beginnings of schedules are split into pieces for the workers: 0 to 16 (no effect so far)",
         ))?
         .arg(number(
             alloc,
             "room",
             "M",
-            "How many further pieces a worker may keep waiting: 0 to 65536",
+            "How many further pieces a worker may keep waiting: 0 to 65536 (no effect so far)",
         ))?
         .arg(text)
+}
+
+/// The words of `replay`.
+fn replay<'a>(alloc: Global) -> Result<Command<'a>, AllocError> {
+    let schedule = Arg::new(alloc, "SCHEDULE").required(true).help(
+        "The schedule, as one word: at most 64 letters parted by one space, as 'R0 R1 C0', or . for none",
+    );
+    Command::new(alloc, "replay")
+        .about("Replays one schedule of a source and prints where it leads.")
+        .after_help(SCHEDULES)
+        .arg(file(alloc))?
+        .arg(schedule)
+}
+
+/// The required word that names the file.
+fn file<'a>(alloc: Global) -> Arg<'a> {
+    Arg::new(alloc, "FILE").required(true).help(
+        "The source: a text in the register language, at most 1048576 bytes",
+    )
 }
 
 /// A required option that takes a number.
@@ -131,22 +183,48 @@ fn number<'a>(alloc: Global, name: &'a str, value: &'a str, help: &'a str) -> Ar
 fn order_of<'a, E: Write>(matches: &ArgMatches<'a>, err: &mut E) -> Result<Order<'a>, u8>
     ensures { IfErr result (λ status. status ≡ 2) }
 {
-    let Some((_, explore)) = matches.subcommand() else {
+    let Some((name, words)) = matches.subcommand() else {
         return Err(2);
     };
+    let task = match name {
+        "replay" => replay_of(words.get_str("SCHEDULE").unwrap_or("")),
+        _ => exploration_of(words),
+    };
+    match task {
+        Ok(task) => Ok(Order {
+            path: words.get_str("FILE").unwrap_or(""),
+            task,
+        }),
+        Err(refusal) => Err(refuse(refusal, err)),
+    }
+}
+
+/// How far the words of `explore` ask to explore.
+fn exploration_of(words: &ArgMatches<'_>) -> Result<Task, Refusal>
+    ensures { IfErr result (λ refusal. status_of refusal ≡ 2) }
+{
     let settings = Settings::new(
-        number_of(explore, "length"),
-        number_of(explore, "crashes"),
-        number_of(explore, "workers"),
-        number_of(explore, "cut"),
-        number_of(explore, "room"),
+        number_of(words, "length"),
+        number_of(words, "crashes"),
+        number_of(words, "workers"),
+        number_of(words, "cut"),
+        number_of(words, "room"),
     );
     match settings {
-        Ok(settings) => Ok(Order {
-            path: explore.get_str("FILE").unwrap_or(""),
-            settings,
-        }),
-        Err(fault) => Err(refuse(Refusal::Setting(fault.code), err)),
+        Ok(settings) => Ok(Task::Explore { settings }),
+        Err(fault) => Err(Refusal::Setting(fault.code)),
+    }
+}
+
+/// The schedule of this text, to be replayed.
+fn replay_of(text: &str) -> Result<Task, Refusal>
+    ensures ok { IfOk result (λ task. IsReplayOf text.now task) }
+    ensures none { IfErr result (λ refusal. (w : List Letter) → FitsPrefix w → schedule_text w ≢ text.now) }
+    ensures err { IfErr result (λ refusal. refusal ≡ Refusal.Schedule) }
+{
+    match read_schedule(text.as_bytes()) {
+        Some(schedule) => Ok(Task::Replay { schedule }),
+        None => Err(Refusal::Schedule),
     }
 }
 

@@ -15,6 +15,9 @@ pub enum Refusal {
     /// A setting past its limit, by its number.
     #[error("setting {0}")]
     Setting(u8),
+    /// A word that is the text of no schedule.
+    #[error("schedule")]
+    Schedule,
     /// A file that cannot be read, or is too long.
     #[error("file")]
     File,
@@ -24,10 +27,13 @@ pub enum Refusal {
     /// A request for memory was refused.
     #[error("memory")]
     Memory,
+    /// A letter that is not possible where it stands, by its place from 0.
+    #[error("letter {0}")]
+    Letter(usize),
     /// An exploration without a report.
     #[error("run {0}")]
     Run(u8),
-    /// A report that could not be written whole.
+    /// A text that could not be written whole.
     #[error("write")]
     Write,
 }
@@ -38,7 +44,11 @@ impl Refusal {
         ensures { result ≡ status_of self.now }
     {
         match self {
-            Refusal::Setting(_) | Refusal::File | Refusal::Source(_) => 2,
+            Refusal::Setting(_)
+            | Refusal::Schedule
+            | Refusal::File
+            | Refusal::Source(_)
+            | Refusal::Letter(_) => 2,
             Refusal::Memory | Refusal::Run(_) | Refusal::Write => 3,
         }
     }

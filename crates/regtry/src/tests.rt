@@ -73,6 +73,44 @@ const REPORTS: [(&[u8], &str, &str, &[u8]); 8] = [
     ),
 ];
 
+/// Replays of sources, and what they print on standard output.
+const REPLAYS: [(&[u8], &str, &[u8]); 4] = [
+    (
+        TWO_WRITERS,
+        "R0 C1",
+        b"outcome done; crashed idle\nregisters 5 0\n",
+    ),
+    (
+        TWO_WRITERS,
+        ".",
+        b"outcome running idle; running idle\nregisters 0 0\n",
+    ),
+    (
+        SOURCE,
+        "R1 C0",
+        b"outcome crashed idle; done 0\nregisters 0\n",
+    ),
+    (
+        FAULTS,
+        ".",
+        b"outcome fault 2 idle; fault 4 idle\nregisters 0\n",
+    ),
+];
+
+/// Schedules with a letter that is not possible where it stands, and that letter's place; last a text that is refused before.
+const IMPOSSIBLE: [(&[u8], &str, &[u8]); 6] = [
+    (TWO_WRITERS, "R0 R7", b"regtry: letter 1\n"),
+    (SOURCE, "R1 R1", b"regtry: letter 1\n"),
+    (ONE_WRITER, "C0 C0", b"regtry: letter 1\n"),
+    (ONE_WRITER, "R1", b"regtry: letter 0\n"),
+    (FAULTS, "C0", b"regtry: letter 0\n"),
+    (b"process\n", "R0", b"regtry: line 1 code 2\n"),
+];
+
+/// 65 letters; the text of 64 is 2 bytes shorter.
+const LONG: &str =
+    "R0 R0 R0 R0 R0 R0 R0 R0 R0 R0 R0 R0 R0 R0 R0 R0 R0 R0 R0 R0 R0 R0 R0 R0 R0 R0 R0 R0 R0 R0 R0 R0 R0 R0 R0 R0 R0 R0 R0 R0 R0 R0 R0 R0 R0 R0 R0 R0 R0 R0 R0 R0 R0 R0 R0 R0 R0 R0 R0 R0 R0 R0 R0 R0 R0";
+
 const WORDS: [&str; 13] = [
     "regtry",
     "explore",
@@ -170,6 +208,9 @@ fn refuses_words(rt: HostRuntime) {
         ["regtry", "explore", "FB"].as_slice(),
         ["regtry", "explore", "FB", "--length", "two"].as_slice(),
         ["regtry", "explore", "FB", "--length", "4294967296"].as_slice(),
+        ["regtry", "replay", "--help"].as_slice(),
+        ["regtry", "replay", "FB"].as_slice(),
+        ["regtry", "replay", "FB", "R0", "R1"].as_slice(),
     ] {
         let (status, err) = refused(rt.alloc(), words);
         assert_eq!(rt; status, 2);
@@ -222,15 +263,69 @@ fn writes_reports(rt: HostRuntime) -> Result<(), Fail> {
 #[test]
 fn names_a_failed_write(rt: HostRuntime) -> Result<(), Fail> {
     let alloc = rt.alloc();
+    for words in [
+        WORDS.as_slice(),
+        ["regtry", "replay", "FB", "R1 R0"].as_slice(),
+    ] {
+        let mut err = Vec::new(alloc);
+        let Ok(order) = command(alloc, words, &mut err) else {
+            return Err(Fail::from("refused words"));
+        };
+        assert_eq!(rt; order.path(), "FB");
+        let status = answer(alloc, &order, Some(SOURCE), &mut Closed, &mut err);
+        assert_eq!(rt; status, 3);
+        assert_eq!(rt; err.as_slice(), b"regtry: write\n".as_slice());
+        let status = answer(alloc, &order, Some(SOURCE), &mut Closed, &mut Closed);
+        assert_eq!(rt; status, 3);
+    }
+    Ok(())
+}
+
+/// The status of a replay, and what it prints on standard output and standard error.
+fn replayed(alloc: Global, source: &[u8], schedule: &str) -> Result<(u8, Vec<u8>, Vec<u8>), Fail> {
+    let mut out = Vec::new(alloc);
     let mut err = Vec::new(alloc);
-    let Ok(order) = command(alloc, WORDS.as_slice(), &mut err) else {
+    let words = ["regtry", "replay", "FILE", schedule];
+    let Ok(order) = command(alloc, words.as_slice(), &mut err) else {
         return Err(Fail::from("refused words"));
     };
-    assert_eq!(rt; order.path(), "FB");
-    let status = answer(alloc, &order, Some(SOURCE), &mut Closed, &mut err);
-    assert_eq!(rt; status, 3);
-    assert_eq!(rt; err.as_slice(), b"regtry: write\n".as_slice());
-    let status = answer(alloc, &order, Some(SOURCE), &mut Closed, &mut Closed);
-    assert_eq!(rt; status, 3);
+    let status = answer(alloc, &order, Some(source), &mut out, &mut err);
+    Ok((status, out, err))
+}
+
+#[test]
+fn refuses_schedules(rt: HostRuntime) {
+    for schedule in ["", "r0", "R8", "R9", "R0 ", " R0", "R0  R0", "..", LONG] {
+        let (status, err) = refused(
+            rt.alloc(),
+            ["regtry", "replay", "FILE", schedule].as_slice(),
+        );
+        assert_eq!(rt; status, 2);
+        assert_eq!(rt; err.as_slice(), b"regtry: schedule\n".as_slice());
+    }
+}
+
+#[test]
+fn writes_where_schedules_lead(rt: HostRuntime) -> Result<(), Fail> {
+    for (source, schedule, text) in REPLAYS {
+        let (status, out, err) = replayed(rt.alloc(), source, schedule)?;
+        assert_eq!(rt; status, 0);
+        assert_eq!(rt; out.as_slice(), text);
+        assert!(rt; err.is_empty());
+    }
+    Ok(())
+}
+
+#[test]
+fn refuses_letters(rt: HostRuntime) -> Result<(), Fail> {
+    for (source, schedule, line) in IMPOSSIBLE {
+        let (status, out, err) = replayed(rt.alloc(), source, schedule)?;
+        assert_eq!(rt; status, 2);
+        assert!(rt; out.is_empty());
+        assert_eq!(rt; err.as_slice(), line);
+    }
+    let (status, _, err) = replayed(rt.alloc(), TWO_WRITERS, &LONG[3..])?;
+    assert_eq!(rt; status, 2);
+    assert_eq!(rt; err.as_slice(), b"regtry: letter 1\n".as_slice());
     Ok(())
 }

@@ -1,7 +1,7 @@
 use Rattle.std.proofs.Common.{◌≡◌, map, take}
 use Rattle.reglang.specs.Sources.{programs_of}
-use Rattle.regtry.proofs.answers.explore.OwnLists.{own-1}
-use Rattle.regtry.proofs.answers.explore.Given as goal
+use Rattle.regtry.proofs.answers.found.OwnLists.{own-1}
+use Rattle.regtry.proofs.answers.found.Given as goal
 
 -- the machines so far are those of the first processes
 abbrev pub invariant-loop-p : goal.invariant-loop-p

@@ -5,8 +5,8 @@ use denote.Param.Object.{read_made}
 use Rattle.regmodel.specs.OfProg.{program_of}
 use Rattle.reglang.specs.Sources.{programs_of}
 use Rattle.regtry.proofs.Takes.{take_push}
-use Rattle.regtry.proofs.answers.explore.OwnLists.{own-1}
-use Rattle.regtry.proofs.answers.explore.Goals as goal
+use Rattle.regtry.proofs.answers.found.OwnLists.{own-1}
+use Rattle.regtry.proofs.answers.found.Goals as goal
 
 pub loop-p-preserved : goal.loop-p-preserved
 loop-p-preserved c =

@@ -1,0 +1,8 @@
+use Rattle.std.proofs.Common.{arith}
+use Rattle.world.proofs.Limits.{AreFit-registers}
+use Rattle.regtry.proofs.standings.standing_after.Goals as goal
+
+pub values_of-requires-clause-few : goal.values_of-requires-clause-few
+values_of-requires-clause-few g c =
+    let few = AreFit-registers _ _ _ c.new-world.ensures.at.fit in
+    omega (arith, few, c.new-world.ensures.registers, c.registers.ensures.value, c.registers-in-Ok.ensures.value)
