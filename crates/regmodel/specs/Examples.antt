@@ -15,13 +15,14 @@ use Rattle.regmodel.specs.declared.programs.Target.TheVariants as target
 use Rattle.regmodel.specs.Program.{Block, Program, Stop, Assign, Read, Write, If, Repeat, Emit}
 use Rattle.regmodel.specs.Act.{act_of}
 use Rattle.regmodel.specs.AllSchedules.{all_schedules}
+use Rattle.regmodel.specs.Letters.{letter_at, letters_of}
 use Rattle.regmodel.specs.Outcomes.{outcome_of}
 use Rattle.regmodel.specs.PlainReport.{Findings}
 use Rattle.regmodel.specs.Summary.{first_refused}
 use Rattle.regmodel.specs.ReportText.{outcome_text, report_text, standing_text}
 use Rattle.regmodel.specs.ScheduleText.{schedule_text}
 
-abbrev over : ℕ → Block → Program
+abbrev pub over : ℕ → Block → Program
 over registers body = record { registers = registers; body = body }
 
 -- ---- programs on lists of replies
@@ -76,10 +77,10 @@ value_before_cell = refl
 
 -- ---- a writer and a reader of one register
 
-abbrev writes : ℕ → ℕ → ℕ → Program
+abbrev pub writes : ℕ → ℕ → ℕ → Program
 writes registers register value = over registers (Write (operand.Number register) (One (operand.Number value)) Stop)
 
-abbrev writer_and_reader : List Program
+abbrev pub writer_and_reader : List Program
 writer_and_reader = writes 1 0 5 ∷ over 1 (Read (target.Var 0) (operand.Number 0) (Emit (One (operand.Var 0)) Stop)) ∷ []
 
 abbrev started : List ℕ → ProcEnd
@@ -106,7 +107,7 @@ first_refused_of_both = refl
 
 -- ---- two writers of a register each, one of which may crash
 
-abbrev two_writers : List Program
+abbrev pub two_writers : List Program
 two_writers = writes 2 0 5 ∷ writes 2 1 5 ∷ []
 
 abbrev idle : End → ProcEnd
@@ -126,6 +127,11 @@ one_step_each = refl
 -- a schedule ends before its length where nothing is possible
 pub one_writer : all_schedules (writes 1 0 5 ∷ []) 1 2 ≡ (Run 0 ∷ []) ∷ (Crash 0 ∷ []) ∷ []
 one_writer = refl
+
+-- ---- letters by their numbers
+
+pub letters_of_two : map (letter_at 2) (0 ∷ 1 ∷ 2 ∷ 3 ∷ []) ≡ letters_of 2
+letters_of_two = refl
 
 -- ---- the text of schedules
 

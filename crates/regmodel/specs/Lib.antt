@@ -1,6 +1,10 @@
 pub mod Act
 pub mod AllSchedules
+pub mod Asleep
+pub mod AsleepExamples
 pub mod Bounds
+pub mod Conflict
+pub mod ConflictExamples
 pub mod Examples
 pub mod Lawful
 pub mod Letters

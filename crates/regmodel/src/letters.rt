@@ -10,6 +10,11 @@ pub enum Letter {
 }
 
 impl Default for Letter {
+    ghost use Rattle.std.specs.Prelude.{◌≡◌};
+    ghost use Rattle.regmodel.specs.declared.letters.Letter.TheVariants.{Run};
+
+    ghost is_default = { λ letter. letter ≡ Run 0 };
+
     fn default() -> Letter {
         Letter::Run(0)
     }

@@ -3,6 +3,7 @@
 
 pub mod accesses;
 pub mod bounds;
+pub mod clauses;
 pub mod laws;
 pub mod letters;
 mod limits;
@@ -14,6 +15,7 @@ pub mod schedules;
 
 pub use accesses::{Access, Numbers, Pending};
 pub use bounds::{SettingFault, Settings};
+pub use clauses::{Clause, Clauses};
 pub use letters::Letter;
 pub use memory::OutOfMemory;
 pub use outcomes::{End, Judge, Outcome, ProcEnd};

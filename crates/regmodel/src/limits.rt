@@ -4,37 +4,7 @@ ghost use Rattle.std.specs.Prelude.{◌≡◌, ◌+◌, ◌<◌, ◌≤◌, ◌�
 ghost use Rattle.regmodel.specs.Program.{block_of, with_stmt, Stop};
 ghost use Rattle.regmodel.specs.Limits as spec;
 
-use crate::programs::{Expr, Operand, Stmt, Target};
-
-fn target_fits(target: &Target) -> bool
-    ensures { result ≡ spec.target_fits target.now }
-{
-    match target {
-        Target::Var(i) => *i < 16,
-        Target::Cell(i) => *i < 32,
-        Target::CellOf(i) => *i < 16,
-    }
-}
-
-fn operand_fits(operand: &Operand) -> bool
-    ensures { result ≡ spec.operand_fits operand.now }
-{
-    match operand {
-        Operand::Number(n) => *n <= 1000000000,
-        Operand::Var(i) => *i < 16,
-        Operand::Cell(i) => *i < 32,
-        Operand::CellOf(i) => *i < 16,
-    }
-}
-
-fn expr_fits(expr: &Expr) -> bool
-    ensures { result ≡ spec.expr_fits expr.now }
-{
-    match expr {
-        Expr::One(a) => operand_fits(a),
-        Expr::Two(a, _, b) => operand_fits(a) && operand_fits(b),
-    }
-}
+use crate::programs::Stmt;
 
 /// Whether each target and operand of a block is within its limit.
 #[cycle(fits)]
@@ -55,11 +25,11 @@ fn stmt_fits(stmt: &Stmt) -> bool
     ensures { result ≡ spec.operands_fit (with_stmt stmt.now Stop) }
 {
     match stmt {
-        Stmt::Assign(target, expr) => target_fits(target) && expr_fits(expr),
-        Stmt::Read(target, operand) => target_fits(target) && operand_fits(operand),
-        Stmt::Write(operand, expr) => operand_fits(operand) && expr_fits(expr),
+        Stmt::Assign(target, expr) => target.fits() && expr.fits(),
+        Stmt::Read(target, operand) => target.fits() && operand.fits(),
+        Stmt::Write(operand, expr) => operand.fits() && expr.fits(),
         Stmt::If(expr, first, second) => {
-            if !expr_fits(expr) {
+            if !expr.fits() {
                 return false;
             }
             if !operands_fit(first.as_slice()) {
@@ -68,12 +38,12 @@ fn stmt_fits(stmt: &Stmt) -> bool
             operands_fit(second.as_slice())
         }
         Stmt::Repeat(expr, body) => {
-            if !expr_fits(expr) {
+            if !expr.fits() {
                 return false;
             }
             operands_fit(body.as_slice())
         }
-        Stmt::Emit(expr) => expr_fits(expr),
+        Stmt::Emit(expr) => expr.fits(),
         Stmt::Halt => true,
     }
 }

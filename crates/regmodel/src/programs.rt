@@ -47,6 +47,51 @@ pub enum Expr {
     Two(Operand, Op, Operand),
 }
 
+impl Target {
+    ghost use Rattle.regmodel.specs.Limits.{target_fits};
+
+    /// Whether the variable's number is below 16, or the cell's below 32.
+    pub fn fits(&self) -> bool
+        ensures { result ≡ target_fits self.now }
+    {
+        match self {
+            Target::Var(i) => *i < 16,
+            Target::Cell(i) => *i < 32,
+            Target::CellOf(i) => *i < 16,
+        }
+    }
+}
+
+impl Operand {
+    ghost use Rattle.regmodel.specs.Limits.{operand_fits};
+
+    /// Whether the number is at most 1000000000, the variable's number below 16, or the cell's below 32.
+    pub fn fits(&self) -> bool
+        ensures { result ≡ operand_fits self.now }
+    {
+        match self {
+            Operand::Number(n) => *n <= 1000000000,
+            Operand::Var(i) => *i < 16,
+            Operand::Cell(i) => *i < 32,
+            Operand::CellOf(i) => *i < 16,
+        }
+    }
+}
+
+impl Expr {
+    ghost use Rattle.regmodel.specs.Limits.{expr_fits};
+
+    /// Whether each operand is within its limit.
+    pub fn fits(&self) -> bool
+        ensures { result ≡ expr_fits self.now }
+    {
+        match self {
+            Expr::One(a) => a.fits(),
+            Expr::Two(a, _, b) => a.fits() && b.fits(),
+        }
+    }
+}
+
 /// A statement of the register language.
 #[derive(Debug, Drop)]
 pub enum Stmt {
