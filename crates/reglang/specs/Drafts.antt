@@ -1,61 +1,245 @@
--- The part of a text that was read so far.
-use Rattle.std.specs.Prelude.{List, [], ◌∷◌, ◌++◌, map, Option, Some, IsTrue, All, ◌<◌, ◌≤◌, length}
-use Rattle.std.specs.List.{flat_map}
-use Rattle.regmodel.specs.Limits.{IsWithin}
-use Rattle.regmodel.specs.OfProg.{program_of}
-use Rattle.regmodel.specs.Program.{Program, block_of}
-use Rattle.reglang.specs.Texts.{is_straight, block_forms, process_forms}
-use Rattle.reglang.specs.declared.draft.Process.{Process}
-use Rattle.reglang.specs.declared.draft.Processes.{Processes}
+-- Reading by whole values: what was read so far, and what one line more makes of it.
+use Rattle.std.specs.Prelude.{◌≡◌, ℕ, suc, ◌+◌, ◌<◌, ◌≤◌, Bool, true, false, ◌&&◌, if◌then◌else◌, List, [], ◌∷◌, ◌++◌, length, map, reverse, max, All, Option, Some, None, Result, Ok, Err, MatchResult, nat_lt}
+use Rattle.regmodel.specs.declared.clauses.Clause.{Clause}
+use Rattle.regmodel.specs.declared.programs.Expr.{Expr}
+use Rattle.regmodel.specs.Limits.{target_fits, operand_fits, expr_fits, operands_fit, statements, open_blocks, open_repeats}
+use Rattle.regmodel.specs.Program as program
+use Rattle.regmodel.specs.Program.{Block, Stop, block_of}
+use Rattle.reglang.specs.Forms.{read_line}
+use Rattle.reglang.specs.Contents.{Text, Kind, Contents, IsBodyWithin, body_of, clause_fits}
+use Rattle.reglang.specs.Faults.{Opened, If, Else, Repeat, repeats_in}
+use Rattle.reglang.specs.Uses.{is_between, use_fits}
+use Rattle.reglang.specs.declared.parts.Parts.{Parts}
+use Rattle.reglang.specs.declared.open_process.Open.{Open}
+use Rattle.reglang.specs.declared.open_process.Open.TheVariants as opened
+use Rattle.reglang.specs.declared.open_process.OpenProcess.{OpenProcess}
 use Rattle.reglang.specs.declared.draft.Draft.{Draft}
-use Rattle.reglang.specs.declared.draft.Draft.TheVariants.{Empty, Between, Inside}
-use Rattle.reglang.specs.declared.forms.Form.{Form}
-use Rattle.reglang.specs.declared.forms.Form.TheVariants as form
+use Rattle.reglang.specs.declared.draft.Draft.TheVariants as draft
+use Rattle.reglang.specs.declared.refusals.Refusal.{Refusal}
+use Rattle.reglang.specs.declared.refusals.Refusal.TheVariants as refusal
+use Rattle.reglang.specs.declared.forms.Line.{Line}
+use Rattle.reglang.specs.declared.forms.Line.TheVariants as line
+use Rattle.reglang.specs.declared.reader.ReadFault.{ReadFault}
+use Rattle.reglang.specs.declared.uses.Use.{Use}
 
--- the programs of finished processes
-abbrev pub finished : Processes → List Program
-finished processes = map program_of processes.list.items
+-- a block, and another one after it
+infixr 5 ◌⊕◌
+abbrev pub ◌⊕◌ : Block → Block → Block
+program.Stop ⊕ more = more
+(program.Assign to value rest) ⊕ more = program.Assign to value (rest ⊕ more)
+(program.Read to from rest) ⊕ more = program.Read to from (rest ⊕ more)
+(program.Write to value rest) ⊕ more = program.Write to value (rest ⊕ more)
+(program.If test first second rest) ⊕ more = program.If test first second (rest ⊕ more)
+(program.Repeat count body rest) ⊕ more = program.Repeat count body (rest ⊕ more)
+(program.Emit value rest) ⊕ more = program.Emit value (rest ⊕ more)
+(program.Halt rest) ⊕ more = program.Halt (rest ⊕ more)
 
-abbrev pub processes_forms : Processes → List (Option Form)
-processes_forms processes = Some (form.Registers processes.registers) ∷ flat_map process_forms (finished processes)
+-- an open block: its test or count, the first part where its `else` came, and what stands before it in the block around it
+pub data Frame : Type 0 where
+  First : (test : Expr) (outer : Block) → Frame
+  Second : (test : Expr) (first outer : Block) → Frame
+  Turn : (count : Expr) (outer : Block) → Frame
 
--- what the lines said of which this was read
-abbrev pub draft_forms : Draft → List (Option Form)
-draft_forms Empty = []
-draft_forms (Between processes) = processes_forms processes
-draft_forms (Inside process) = processes_forms process.before ++ Some form.Process ∷ block_forms (block_of process.body.items)
+abbrev pub opened_of : Frame → Opened
+opened_of (First test outer) = If
+opened_of (Second test first outer) = Else
+opened_of (Turn count outer) = Repeat
 
--- there are only straight programs
-abbrev pub AreStraight : Processes → Type 0
-AreStraight processes = All (λ p. IsTrue (is_straight p.body)) (finished processes)
+-- how many of them are repeats
+abbrev pub turns : List Frame → ℕ
+turns frames = repeats_in (map opened_of frames)
 
-abbrev pub IsStraightDraft : Draft → Type 0
-IsStraightDraft Empty = Unit {0}
-IsStraightDraft (Between processes) = AreStraight processes
-IsStraightDraft (Inside process) = AreStraight process.before × IsTrue (is_straight (block_of process.body.items))
+-- what was read so far: no line, whole processes and checks, or a process after them: its open blocks, the innermost first, the
+-- statements of the innermost, and how many there are in all; or one of a use line
+pub data Reading : Type 0 where
+  Empty : Reading
+  Between : (before : Contents) → Reading
+  Inside : (before : Contents) (frames : List Frame) (block : Block) (statements : ℕ) → Reading
+  Used : (before : Contents) (kind : Use) → Reading
 
--- the text may end here
-abbrev pub MayEnd : Draft → Type 0
-MayEnd Empty = ⊥
-MayEnd (Between processes) = 0 < length processes.list.items
-MayEnd (Inside process) = ⊥
+-- one statement more
+abbrev pub add : Contents → List Frame → Block → ℕ → Bool → Block → Result Reading ℕ
+add before frames block n fits statement = if nat_lt n 200 && fits then Ok (Inside before frames (block ⊕ statement) (suc n)) else Err 6
 
--- a process may have this line next
-abbrev pub MayHave : Process → Form → Type 0
-MayHave process form.End = IsWithin (record { registers = process.before.registers; body = block_of process.body.items })
-MayHave process (form.Read to from) = length process.body.items < 200
-MayHave process (form.Write to value) = length process.body.items < 200
-MayHave process (form.Emit value) = length process.body.items < 200
-MayHave process _ = ⊥
+-- one open block more
+abbrev pub enter : Contents → Frame → List Frame → ℕ → Bool → Result Reading ℕ
+enter before frame frames n fits = if nat_lt n 200 && fits && nat_lt (length frames) 16 then Ok (Inside before (frame ∷ frames) Stop (suc n)) else Err 6
 
--- what was read so far may go on with this line, which says something
-abbrev pub MayFollow : Draft → Form → Type 0
-MayFollow Empty (form.Registers n) = (0 < n) × (n ≤ 64)
-MayFollow (Between processes) form.Process = length processes.list.items < 8
-MayFollow (Inside process) next = MayHave process next
-MayFollow _ _ = ⊥
+abbrev pub enter_else : Contents → List Frame → Block → ℕ → Result Reading ℕ
+enter_else before (First test outer ∷ frames) block n = Ok (Inside before (Second test block outer ∷ frames) Stop n)
+enter_else before frames block n = Err 5
 
--- or with this line
-abbrev pub MayGoOn : Draft → Form → Type 0
-MayGoOn draft form.Skipped = Unit {0}
-MayGoOn draft next = MayFollow draft next
+abbrev pub leave_if : Contents → List Frame → Block → ℕ → Result Reading ℕ
+leave_if before (First test outer ∷ frames) block n = Ok (Inside before frames (outer ⊕ program.If test block Stop Stop) n)
+leave_if before (Second test first outer ∷ frames) block n = Ok (Inside before frames (outer ⊕ program.If test first block Stop) n)
+leave_if before frames block n = Err 5
+
+abbrev pub leave_repeat : Contents → List Frame → Block → ℕ → Result Reading ℕ
+leave_repeat before (Turn count outer ∷ frames) block n = Ok (Inside before frames (outer ⊕ program.Repeat count block Stop) n)
+leave_repeat before frames block n = Err 5
+
+abbrev pub leave : Contents → List Frame → Block → Result Reading ℕ
+leave before [] block = Ok (Between (record before { processes = before.processes ++ Text block ∷ [] }))
+leave before (frame ∷ frames) block = Err 5
+
+-- a use line, which stands alone
+abbrev pub stand_for : Contents → ℕ → Use → Result Reading ℕ
+stand_for before n kind = if nat_lt 0 n then Err 5 else (if use_fits kind before.registers then Ok (Used before kind) else Err 6)
+
+abbrev pub add_clause : Contents → Option Clause → Result Reading ℕ
+add_clause before (Some clause) = if nat_lt (length before.clauses) 16 then Ok (Between (record before { clauses = before.clauses ++ clause ∷ [] })) else Err 6
+add_clause before None = if nat_lt (length before.clauses) 16 then Err 8 else Err 6
+
+-- the first line, one between processes, one of a process, and one after a use line; or the code of its fault
+abbrev pub begin : Line → Result Reading ℕ
+begin (line.Registers n) = if is_between 1 64 n then Ok (Between (record { registers = n; processes = []; clauses = [] })) else Err 6
+begin line.Process = Err 7
+begin (line.Check clause) = Err 7
+begin _ = Err 5
+
+abbrev pub take_between : Contents → Line → Result Reading ℕ
+take_between before line.Process = if nat_lt (length before.processes) 8 then Ok (Inside before [] Stop 0) else Err 6
+take_between before (line.Check clause) = add_clause before clause
+take_between before _ = Err 5
+
+abbrev pub take_inside : Contents → List Frame → Block → ℕ → Line → Result Reading ℕ
+take_inside before frames block n (line.Set to value) = add before frames block n (target_fits to && expr_fits value) (program.Assign to value Stop)
+take_inside before frames block n (line.Read to from) = add before frames block n (target_fits to && operand_fits from) (program.Read to from Stop)
+take_inside before frames block n (line.Write to value) = add before frames block n (operand_fits to && expr_fits value) (program.Write to value Stop)
+take_inside before frames block n (line.Emit value) = add before frames block n (expr_fits value) (program.Emit value Stop)
+take_inside before frames block n line.Halt = add before frames block n true (program.Halt Stop)
+take_inside before frames block n (line.If test) = enter before (First test block) frames n (expr_fits test)
+take_inside before frames block n (line.Repeat count) = enter before (Turn count block) frames n (expr_fits count && nat_lt (turns frames) 3)
+take_inside before frames block n line.Else = enter_else before frames block n
+take_inside before frames block n line.Fi = leave_if before frames block n
+take_inside before frames block n line.Done = leave_repeat before frames block n
+take_inside before frames block n line.End = leave before frames block
+take_inside before frames block n (line.Use kind) = stand_for before n kind
+take_inside before frames block n _ = Err 5
+
+abbrev pub take_used : Contents → Use → Line → Result Reading ℕ
+take_used before kind line.End = Ok (Between (record before { processes = before.processes ++ Kind kind ∷ [] }))
+take_used before kind _ = Err 5
+
+-- what one line more makes of what was read, or the code of its fault
+abbrev pub take_line : Reading → Line → Result Reading ℕ
+take_line Empty line = begin line
+take_line (Between before) line = take_between before line
+take_line (Inside before frames block n) line = take_inside before frames block n line
+take_line (Used before kind) line = take_used before kind line
+
+abbrev pub take_read : Reading → Result (Option Line) ℕ → Result Reading ℕ
+take_read reading (Ok (Some line)) = take_line reading line
+take_read reading (Ok None) = Ok reading
+take_read reading (Err code) = Err code
+
+-- what was read, at the end of a text; or the code of its fault
+abbrev pub finished : Reading → Result Contents ℕ
+finished Empty = Err 7
+finished (Between before) = if nat_lt 0 (length before.processes) then Ok before else Err 6
+finished (Inside before frames block n) = Err 5
+finished (Used before kind) = Err 5
+
+abbrev pub faulty_at : {A : Type 0} → ℕ → Result A ℕ → Result A ReadFault
+faulty_at number (Ok x) = Ok x
+faulty_at number (Err code) = Err (record { line = number; code = code })
+
+abbrev pub goes_on : {A B : Type 0} → Result A ReadFault → (A → Result B ReadFault) → Result B ReadFault
+goes_on (Ok x) f = f x
+goes_on (Err fault) f = Err fault
+
+-- what a text makes of what was read, where so many lines came before
+abbrev pub read_from : Reading → ℕ → List (List ℕ) → Result Contents ReadFault
+read_from reading n [] = faulty_at (max 1 n) (finished reading)
+read_from reading n (line ∷ lines) = goes_on (faulty_at (suc n) (take_read reading (read_line line))) (λ next. read_from next (suc n) lines)
+
+-- ---- what is known of what was read
+
+-- a block within the limits, where so many blocks and so many repeats are open around it
+pub record BlockFits (blocks repeats : ℕ) (block : Block) : Type 0 where
+  pub operands : operands_fit block ≡ true
+  pub depth : open_blocks block + blocks ≤ 16
+  pub turning : open_repeats block + repeats ≤ 3
+
+-- open blocks, and the statements of the innermost
+abbrev pub FramesFit : List Frame → Block → Type 0
+FramesFit [] block = BlockFits 0 0 block
+FramesFit (First test outer ∷ frames) block = (expr_fits test ≡ true) × (BlockFits (suc (length frames)) (turns frames) block × FramesFit frames outer)
+FramesFit (Second test first outer ∷ frames) block = (expr_fits test ≡ true) × (BlockFits (suc (length frames)) (turns frames) first × (BlockFits (suc (length frames)) (turns frames) block × FramesFit frames outer))
+FramesFit (Turn count outer ∷ frames) block = (expr_fits count ≡ true) × (BlockFits (suc (length frames)) (suc (turns frames)) block × FramesFit frames outer)
+
+-- how many statements there are around the innermost block
+abbrev pub statements_around : List Frame → ℕ
+statements_around [] = 0
+statements_around (First test outer ∷ frames) = suc (statements outer + statements_around frames)
+statements_around (Second test first outer ∷ frames) = suc (statements first + statements outer + statements_around frames)
+statements_around (Turn count outer ∷ frames) = suc (statements outer + statements_around frames)
+
+-- whole processes and checks within the limits
+pub record ContentsFit (before : Contents) : Type 0 where
+  pub some_register : 0 < before.registers
+  pub few_registers : before.registers ≤ 64
+  pub few_processes : length before.processes ≤ 8
+  pub processes : All (IsBodyWithin before.registers) before.processes
+  pub few_clauses : length before.clauses ≤ 16
+  pub clauses_fit : All (λ clause. clause_fits clause ≡ true) before.clauses
+
+-- a process so far within the limits
+pub record InsideFits (before : Contents) (frames : List Frame) (block : Block) (n : ℕ) : Type 0 where
+  pub contents : ContentsFit before
+  pub room : length before.processes < 8
+  pub nested : FramesFit frames block
+  pub count : n ≡ statements block + statements_around frames
+  pub few : n ≤ 200
+
+pub record UsedFits (before : Contents) (kind : Use) : Type 0 where
+  pub contents : ContentsFit before
+  pub room : length before.processes < 8
+  pub fits : use_fits kind before.registers ≡ true
+
+abbrev pub ReadingFits : Reading → Type 0
+ReadingFits Empty = Unit {0}
+ReadingFits (Between before) = ContentsFit before
+ReadingFits (Inside before frames block n) = InsideFits before frames block n
+ReadingFits (Used before kind) = UsedFits before kind
+
+-- ---- what the reader holds, however it lies in memory
+
+abbrev pub contents_before : Parts → Contents
+contents_before parts = record { registers = parts.registers; processes = map body_of parts.processes.items; clauses = parts.clauses.items }
+
+abbrev pub frame_of : Open → Frame
+frame_of (opened.First test outer) = First test (block_of outer.items)
+frame_of (opened.Second test first outer) = Second test (block_of first.items) (block_of outer.items)
+frame_of (opened.Turn count outer) = Turn count (block_of outer.items)
+
+abbrev pub frames_of : List Open → List Frame
+frames_of opens = map frame_of (reverse opens)
+
+-- whether an open block is a repeat
+abbrev pub is_turn : Open → Bool
+is_turn (opened.First test outer) = false
+is_turn (opened.Second test first outer) = false
+is_turn (opened.Turn count outer) = true
+
+abbrev pub inside_of : OpenProcess → Reading
+inside_of process = Inside (contents_before process.before) (frames_of process.blocks.items) (block_of process.block.items) process.statements
+
+abbrev pub reading_of : Draft → Reading
+reading_of draft.Empty = Empty
+reading_of (draft.Between parts) = Between (contents_before parts)
+reading_of (draft.Inside process) = inside_of process
+reading_of (draft.Used parts kind) = Used (contents_before parts) kind
+
+abbrev pub IsRefusalOf : Result Reading ℕ → Refusal → Type 0
+IsRefusalOf expected (refusal.Fault code) = expected ≡ Err code
+IsRefusalOf expected refusal.Memory = Unit {0}
+
+-- the fault of a line that was refused; 9 stands for memory
+abbrev pub IsFaultOf : ℕ → Refusal → ReadFault → Type 0
+IsFaultOf number (refusal.Fault code) fault = fault ≡ record { line = number; code = code }
+IsFaultOf number refusal.Memory fault = fault ≡ record { line = number; code = 9 }
+
+-- the answer is what is expected, unless memory was refused
+abbrev pub Answers : Result Reading ℕ → Result Draft Refusal → Type 0
+Answers expected result = MatchResult result (λ draft. expected ≡ Ok (reading_of draft)) (IsRefusalOf expected)

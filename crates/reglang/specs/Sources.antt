@@ -1,12 +1,15 @@
--- What a source says, however it lies in memory.
+-- What a source holds, however it lies in memory.
 use Rattle.std.specs.Prelude.{ℕ, List, map}
 use Rattle.regmodel.specs.Program.{Program}
-use Rattle.regmodel.specs.OfProg.{program_of}
+use Rattle.reglang.specs.Contents.{Contents, programs_in, body_of}
 use Rattle.reglang.specs.declared.source.Source.{Source}
+
+abbrev pub contents_of : Source → Contents
+contents_of source = record { registers = source.registers; processes = map body_of source.processes.items; clauses = source.clauses }
 
 abbrev pub registers_of : Source → ℕ
 registers_of source = source.registers
 
 -- the programs of its processes, from process 0
 abbrev pub programs_of : Source → List Program
-programs_of source = map program_of source.processes.items
+programs_of source = programs_in (contents_of source)

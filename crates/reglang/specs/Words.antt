@@ -1,11 +1,20 @@
 -- What a word may stand for.
-use Rattle.std.specs.Prelude.{ℕ, ◌==◌, Bool, false, ◌&&◌, if◌then◌else◌, List, [], ◌∷◌, Option, Some, None, nat_lt, nat_le, codes}
+use Rattle.std.specs.Prelude.{ℕ, ◌==◌, Bool, false, ◌&&◌, if◌then◌else◌, List, [], ◌∷◌, reverse, Option, Some, None, nat_lt, nat_le, codes}
 use Rattle.std.specs.List.{list_all}
 use Rattle.std.specs.Str.{bytes_eq}
 use Rattle.std.specs.Str.Parse.{digits_value}
+use Rattle.regmodel.specs.declared.programs.Op.{Op}
+use Rattle.regmodel.specs.declared.programs.Op.TheVariants as op
 use Rattle.reglang.specs.Lines.{is_empty}
+use Rattle.reglang.specs.declared.words.Keyword.{Keyword}
+use Rattle.reglang.specs.declared.words.Keyword.TheVariants as keyword
+use Rattle.reglang.specs.declared.words.Kind.{Kind}
+use Rattle.reglang.specs.declared.words.Kind.TheVariants as kind
+use Rattle.reglang.specs.declared.words.Property.{Property}
+use Rattle.reglang.specs.declared.words.Property.TheVariants as property
 use Rattle.reglang.specs.declared.words.Word.{Word}
-use Rattle.reglang.specs.declared.words.Word.TheVariants.{Registers, Process, End, Read, Write, Emit, Number, Var, Comment, Other}
+use Rattle.reglang.specs.declared.words.Word.TheVariants.{Number, NoNumber, Var, Cell, CellOf, Comment, Other}
+use Rattle.reglang.specs.declared.words.Word.TheVariants as word
 
 abbrev pub is_digit : ℕ → Bool
 is_digit b = nat_le 48 b && nat_le b 57
@@ -15,43 +24,128 @@ abbrev pub is_number : List ℕ → Bool
 is_number [] = false
 is_number (b ∷ bs) = if b == 48 then is_empty bs else list_all is_digit (b ∷ bs)
 
-abbrev pub up_to_limit : ℕ → Option ℕ
-up_to_limit n = if nat_le n 1000000000 then Some n else None
+-- 1000000001 stands for each number past 1000000000
+abbrev pub up_to_limit : ℕ → ℕ
+up_to_limit n = if nat_le n 1000000000 then n else 1000000001
 
--- the value of a number word, up to 1000000000
+-- the value of a number word
 abbrev pub number_of : List ℕ → Option ℕ
-number_of word = if is_number word then up_to_limit (digits_value 10 word) else None
+number_of word = if is_number word then Some (up_to_limit (digits_value 10 word)) else None
 
-abbrev pub below_16 : Option ℕ → Option ℕ
-below_16 None = None
-below_16 (Some n) = if nat_lt n 16 then Some n else None
+abbrev pub below : ℕ → Option ℕ → Option ℕ
+below limit None = None
+below limit (Some n) = if nat_lt n limit then Some n else None
 
 -- the number of a variable: `v` and a number word below 16
 abbrev pub variable_of : List ℕ → Option ℕ
 variable_of [] = None
-variable_of (b ∷ bs) = if b == 118 then below_16 (number_of bs) else None
+variable_of (b ∷ bs) = if b == 118 then below 16 (number_of bs) else None
 
-abbrev pub begins_comment : List ℕ → Bool
-begins_comment [] = false
-begins_comment (b ∷ bs) = b == 35
+abbrev pub begins_with : (ℕ → Bool) → List ℕ → Bool
+begins_with p [] = false
+begins_with p (b ∷ bs) = p b
 
-abbrev pub variable_or_other : Option ℕ → Word
-variable_or_other (Some i) = Var i
-variable_or_other None = Other
+-- a word from its last byte on: what stands before a `]` there
+abbrev pub before_bracket : List ℕ → Option (List ℕ)
+before_bracket [] = None
+before_bracket (b ∷ bs) = if b == 93 then Some (reverse bs) else None
 
-abbrev pub number_or : Option ℕ → Word → Word
-number_or (Some n) word = Number n
-number_or None word = word
+-- what stands between brackets, where they are the word's ends
+abbrev pub in_brackets : List ℕ → Option (List ℕ)
+in_brackets [] = None
+in_brackets (b ∷ bs) = if b == 91 then before_bracket (reverse bs) else None
 
--- a word that is no keyword
+abbrev pub cell_or_other : Option ℕ → Word
+cell_or_other (Some i) = CellOf i
+cell_or_other None = Other
+
+abbrev pub cell_or : Option ℕ → Word → Word
+cell_or (Some i) word = Cell i
+cell_or None word = word
+
+-- the cell that is named between brackets: by a number word below 32, or by a variable
+abbrev pub cell_word : Option (List ℕ) → Word
+cell_word None = Other
+cell_word (Some index) = cell_or (below 32 (number_of index)) (cell_or_other (variable_of index))
+
+abbrev pub variable_or : Option ℕ → Word → Word
+variable_or (Some i) word = Var i
+variable_or None word = word
+
+abbrev pub number_word : Option ℕ → Word
+number_word (Some n) = Number n
+number_word None = NoNumber
+
+-- a word that is none of those spelled out
 abbrev pub value_word : List ℕ → Word
-value_word word = if begins_comment word then Comment else number_or (number_of word) (variable_or_other (variable_of word))
+value_word word =
+    if begins_with is_digit word then number_word (number_of word) else
+    (if begins_with (λ b. b == 35) word then Comment else
+    variable_or (variable_of word) (cell_word (in_brackets word)))
 
+-- the first words of lines, as they are spelled
+abbrev pub keywords : List (List ℕ × Keyword)
+keywords =
+    (codes "registers", keyword.Registers) ∷
+    (codes "process", keyword.Process) ∷
+    (codes "end", keyword.End) ∷
+    (codes "set", keyword.Set) ∷
+    (codes "read", keyword.Read) ∷
+    (codes "write", keyword.Write) ∷
+    (codes "if", keyword.If) ∷
+    (codes "else", keyword.Else) ∷
+    (codes "fi", keyword.Fi) ∷
+    (codes "repeat", keyword.Repeat) ∷
+    (codes "done", keyword.Done) ∷
+    (codes "emit", keyword.Emit) ∷
+    (codes "halt", keyword.Halt) ∷
+    (codes "use", keyword.Use) ∷
+    (codes "check", keyword.Check) ∷
+    []
+
+abbrev pub operators : List (List ℕ × Op)
+operators =
+    (codes "+", op.Add) ∷
+    (codes "-", op.Sub) ∷
+    (codes "*", op.Mul) ∷
+    (codes "=", op.Equal) ∷
+    (codes "<", op.Less) ∷
+    []
+
+abbrev pub kinds : List (List ℕ × Kind)
+kinds =
+    (codes "split", kind.Split) ∷
+    (codes "grid", kind.Grid) ∷
+    (codes "tree", kind.Tree) ∷
+    (codes "name", kind.Name) ∷
+    []
+
+abbrev pub properties : List (List ℕ × Property)
+properties =
+    (codes "distinct", property.Distinct) ∷
+    (codes "atmost", property.AtMost) ∷
+    (codes "within", property.Within) ∷
+    (codes "adaptive", property.Adaptive) ∷
+    (codes "triangle", property.Triangle) ∷
+    (codes "selfseen", property.SelfSeen) ∷
+    (codes "ended", property.Ended) ∷
+    (codes "nofault", property.NoFault) ∷
+    []
+
+-- what stands beside a word in a table of spellings
+abbrev pub spelled_in : {A : Type 0} → List (List ℕ × A) → List ℕ → Option A
+spelled_in [] word = None
+spelled_in (row ∷ rows) word = if bytes_eq word row.0 then Some row.1 else spelled_in rows word
+
+-- what a word of a table stands for, or another word
+abbrev pub spelled_or : {A : Type 0} → (A → Word) → Option A → Word → Word
+spelled_or make (Some a) word = make a
+spelled_or make None word = word
+
+-- what a word may stand for
 abbrev pub word_of : List ℕ → Word
-word_of word =
-    if bytes_eq word (codes "registers") then Registers else
-    (if bytes_eq word (codes "process") then Process else
-    (if bytes_eq word (codes "end") then End else
-    (if bytes_eq word (codes "read") then Read else
-    (if bytes_eq word (codes "write") then Write else
-    (if bytes_eq word (codes "emit") then Emit else value_word word)))))
+word_of text =
+    spelled_or word.Keyword (spelled_in keywords text) (
+    spelled_or word.Operator (spelled_in operators text) (
+    spelled_or word.Kind (spelled_in kinds text) (
+    spelled_or word.Property (spelled_in properties text) (value_word text))))

@@ -1,91 +1,302 @@
 //! What a line says.
 
-ghost use Rattle.std.specs.Prelude.{◌≡◌, ℕ, map, take};
+ghost use Rattle.std.specs.Prelude.{◌≡◌, ◌≤◌, ◌++◌, ◌∷◌, ◌&&◌, ◌||◌, List, length, map, take};
+ghost use Rattle.std.specs.List.{list_all, list_any};
 ghost use Rattle.reglang.specs.Lines.{words};
 ghost use Rattle.reglang.specs.Words.{word_of};
-ghost use Rattle.reglang.specs.Forms.{operand_of, form_of, line_form};
+ghost use Rattle.reglang.specs.Forms as spec;
 
+use crate::clauses::clause_of;
 use crate::lines::{is_printable, split_word};
-use crate::words::{Word, word_of};
+use crate::operands::{alone, expr_of, kind_of, number_in, operand_of, target_of, use_of};
+use crate::uses::Use;
+use crate::words::{Keyword, Word, word_of};
 use arrayvec::ArrayVec;
-use regmodel::{Expr, Operand, Target};
+use regmodel::{Clause, Expr, Operand, Target};
 
-/// What a line says.
+/// What a line says that is not skipped.
 #[derive(Clone, Copy, PartialEq, Eq, Debug)]
-pub enum Form {
-    /// Nothing: it has no words, or it is a comment.
-    Skipped,
+pub enum Line {
     /// There are so many registers.
     Registers(u32),
     /// A process begins.
     Process,
     /// A process ends.
     End,
+    /// The expression's value is stored in the target.
+    Set(Target, Expr),
     /// The register with the operand's number is read into the target.
     Read(Target, Operand),
     /// The expression's value is written into the register with the operand's number.
     Write(Operand, Expr),
+    /// What follows runs where the value is not 0.
+    If(Expr),
+    /// What follows runs where the value of the `if` is 0.
+    Else,
+    /// An `if` ends.
+    Fi,
+    /// What follows runs as often as the value says.
+    Repeat(Expr),
+    /// A `repeat` ends.
+    Done,
     /// The value is appended to the result.
     Emit(Expr),
+    /// The process is done with its numbers.
+    Halt,
+    /// The whole process is the expansion of a kind.
+    Use(Use),
+    /// A property of outcomes; none where the words are no clause.
+    Check(Option<Clause>),
 }
 
-/// One word more than a line of any form has.
-const MOST_WORDS: usize = 4;
+/// One more than the longest line has after its first word.
+const MOST_WORDS: usize = 6;
 
-/// The first words of a line, by what they may stand for.
-fn first_words(line: &[u8]) -> ArrayVec<Word, MOST_WORDS>
-    ensures { result.items ≡ take 4 (map word_of (words line.now)) }
-{
-    let mut found = ArrayVec::new();
-    let mut rest = line;
-    while let Some((word, after)) = split_word(rest) {
-        if found.is_full() {
-            return found;
-        }
-        found.push(word_of(word));
-        rest = after;
+/// The words of a line after its first one.
+#[derive(Drop)]
+struct LaterWords {
+    /// The first of them.
+    first: ArrayVec<Word, MOST_WORDS>,
+    /// Whether each may stand after a first word.
+    known: bool,
+    /// Whether some begins with a digit and is no number word.
+    no_number: bool,
+}
+
+impl LaterWords {
+    /// One more word.
+    fn add(&mut self, word: Word)
+        ensures first { (more : List Word) → take 6 (self.new.first.items ++ more) ≡ take 6 (self.old.first.items ++ word ∷ more) }
+        ensures few { length self.new.first.items ≤ 6 }
+        ensures known { self.new.known ≡ (self.old.known && spec.is_known word) }
+        ensures no_number { self.new.no_number ≡ (self.old.no_number || spec.is_no_number word) }
+    {
+        keep(&mut self.first, word);
+        self.known = self.known && is_known(word);
+        self.no_number = self.no_number || word == Word::NoNumber;
     }
-    found
 }
 
-/// The operand that a word stands for.
-fn operand_of(word: Word) -> Option<Operand>
-    ensures { result ≡ operand_of word }
+/// Appends a word where there is room.
+fn keep(first: &mut ArrayVec<Word, MOST_WORDS>, word: Word)
+    ensures first { (more : List Word) → take 6 (first.new.items ++ more) ≡ take 6 (first.old.items ++ word ∷ more) }
+    ensures few { length first.new.items ≤ 6 }
+{
+    if first.is_full() {
+        return;
+    }
+    first.push(word);
+}
+
+/// Whether a word may stand after a first one, but for its form.
+fn is_known(word: Word) -> bool
+    ensures { result ≡ spec.is_known word }
 {
     match word {
-        Word::Number(n) => Some(Operand::Number(n)),
-        Word::Var(i) => Some(Operand::Var(i)),
-        _ => None,
+        Word::Number(_) | Word::NoNumber => true,
+        Word::Var(_) | Word::Cell(_) | Word::CellOf(_) => true,
+        Word::Operator(_) | Word::Kind(_) => true,
+        Word::Keyword(_) | Word::Property(_) | Word::Comment | Word::Other => false,
     }
 }
 
-/// What words say.
-fn form_of(words: &[Word]) -> Option<Form>
-    ensures { result ≡ form_of words.now }
+/// The words of what follows the first word of a line.
+fn later_words(line: &[u8]) -> LaterWords
+    ensures first { result.first.items ≡ take 6 (map word_of (words line.now)) }
+    ensures known { result.known ≡ list_all spec.is_known (map word_of (words line.now)) }
+    ensures no_number { result.no_number ≡ list_any spec.is_no_number (map word_of (words line.now)) }
 {
-    match words {
-        [] | [Word::Comment, ..] => Some(Form::Skipped),
-        [Word::Process] => Some(Form::Process),
-        [Word::End] => Some(Form::End),
-        [Word::Registers, Word::Number(n)] => Some(Form::Registers(*n)),
-        [Word::Emit, value] => Some(Form::Emit(Expr::One(operand_of(*value)?))),
-        [Word::Read, Word::Var(i), Word::Number(register)] => {
-            Some(Form::Read(Target::Var(*i), Operand::Number(*register)))
+    let mut later = LaterWords {
+        first: ArrayVec::new(),
+        known: true,
+        no_number: false,
+    };
+    let mut rest = line;
+    while let Some((word, after)) = split_word(rest) {
+        later.add(word_of(word));
+        rest = after;
+    }
+    later
+}
+
+/// The line that a first word and those after it make.
+fn form_of(key: Keyword, more: &[Word]) -> Option<Line>
+    ensures { result ≡ spec.form_of key more.now }
+{
+    match key {
+        Keyword::Registers => {
+            let [n] = more else { return None };
+            Some(Line::Registers(number_in(*n)?))
         }
-        [Word::Write, Word::Number(register), value] => Some(Form::Write(
-            Operand::Number(*register),
-            Expr::One(operand_of(*value)?),
-        )),
-        _ => None,
+        Keyword::Process => alone(Line::Process, more),
+        Keyword::End => alone(Line::End, more),
+        Keyword::Set => {
+            let [to, value @ ..] = more else { return None };
+            Some(Line::Set(target_of(*to)?, expr_of(value)?))
+        }
+        Keyword::Read => {
+            let [to, from] = more else { return None };
+            Some(Line::Read(target_of(*to)?, operand_of(*from)?))
+        }
+        Keyword::Write => {
+            let [to, value @ ..] = more else { return None };
+            Some(Line::Write(operand_of(*to)?, expr_of(value)?))
+        }
+        Keyword::If => Some(Line::If(expr_of(more)?)),
+        Keyword::Else => alone(Line::Else, more),
+        Keyword::Fi => alone(Line::Fi, more),
+        Keyword::Repeat => Some(Line::Repeat(expr_of(more)?)),
+        Keyword::Done => alone(Line::Done, more),
+        Keyword::Emit => Some(Line::Emit(expr_of(more)?)),
+        Keyword::Halt => alone(Line::Halt, more),
+        Keyword::Use => {
+            let [kind, numbers @ ..] = more else {
+                return None
+            };
+            Some(Line::Use(use_of(kind_of(*kind)?, numbers)?))
+        }
+        Keyword::Check => None,
     }
 }
 
-/// What a line says. None where it is outside the straight-line language.
-pub fn line_form(line: &[u8]) -> Option<Form>
-    ensures { result ≡ line_form line.now }
+/// What a line says whose first word is this, no check. Code 2 where a later word is unknown, 3 where one begins with a digit
+/// and is no number word, 4 where the words have no form of the first one.
+fn formed(key: Keyword, rest: &[u8]) -> Result<Option<Line>, u8>
+    ensures { result ≡ spec.formed key (map word_of (words rest.now)) }
+{
+    let later = later_words(rest);
+    if !later.known {
+        return Err(2);
+    }
+    if later.no_number {
+        return Err(3);
+    }
+    match form_of(key, later.first.as_slice()) {
+        Some(line) => Ok(Some(line)),
+        None => Err(4),
+    }
+}
+
+/// What a line says; none where it has no words or its first word begins with `#`. Code 1 where a byte is not in 32 to 126; 2
+/// where the first word begins no line or, the line being no check, a later word is unknown; 3 where, the line being no check,
+/// a word begins with a digit and is no number word; 4 where the words have no form of the first one.
+pub fn read_line(line: &[u8]) -> Result<Option<Line>, u8>
+    ensures { result ≡ spec.read_line line.now }
 {
     if !is_printable(line) {
-        return None;
+        return Err(1);
     }
-    form_of(first_words(line).as_slice())
+    let Some((first, rest)) = split_word(line) else {
+        return Ok(None);
+    };
+    match word_of(first) {
+        Word::Comment => Ok(None),
+        Word::Keyword(Keyword::Check) => Ok(Some(Line::Check(clause_of(
+            later_words(rest).first.as_slice(),
+        )))),
+        Word::Keyword(key) => formed(key, rest),
+        _ => Err(2),
+    }
+}
+
+#[cfg(test)]
+mod tests {
+    use super::*;
+    use regmodel::Op;
+    use std::test::Fail;
+
+    /// Lines that are skipped.
+    const SKIPPED: [&[u8]; 4] = [b"", b"   ", b"#", b"  # emit 1"];
+
+    /// Lines, and what each says.
+    const SAID: [(&[u8], Line); 19] = [
+        (b"registers 65", Line::Registers(65)),
+        (b"process", Line::Process),
+        (b" end ", Line::End),
+        (
+            b"set v0 7",
+            Line::Set(Target::Var(0), Expr::One(Operand::Number(7))),
+        ),
+        (
+            b"set [v1] [31] * v2",
+            Line::Set(
+                Target::CellOf(1),
+                Expr::Two(Operand::Cell(31), Op::Mul, Operand::Var(2)),
+            ),
+        ),
+        (b"read [4] v3", Line::Read(Target::Cell(4), Operand::Var(3))),
+        (
+            b"  write  0  v15 + [v3]",
+            Line::Write(
+                Operand::Number(0),
+                Expr::Two(Operand::Var(15), Op::Add, Operand::CellOf(3)),
+            ),
+        ),
+        (b"if v1", Line::If(Expr::One(Operand::Var(1)))),
+        (b"else", Line::Else),
+        (b"fi", Line::Fi),
+        (b"repeat 99", Line::Repeat(Expr::One(Operand::Number(99)))),
+        (b"done", Line::Done),
+        (
+            b"emit 1000000001",
+            Line::Emit(Expr::One(Operand::Number(1_000_000_001))),
+        ),
+        (b"halt", Line::Halt),
+        (b"use split 0 1", Line::Use(Use::Split(0, 1))),
+        (b"use tree 0 4 1 2", Line::Use(Use::Tree(0, 4, 1, 2))),
+        (
+            b"check within 0 1000000000",
+            Line::Check(Some(Clause::Within(0, 1_000_000_000))),
+        ),
+        (b"check atmost 1", Line::Check(None)),
+        (b"check 0x v16 1 2 3 4 5 6 7", Line::Check(None)),
+    ];
+
+    /// Lines that say nothing, and the code of each.
+    const FAULTY: [(&[u8], u8); 20] = [
+        (b"#\t", 1),
+        (b"emit\t1", 1),
+        (b"emit 1\r", 1),
+        (b"emit \x7f", 1),
+        (b"emits 1", 2),
+        (b"1", 2),
+        (b"v0", 2),
+        (b"split 0 1", 2),
+        (b"set v16 1", 2),
+        (b"emit 007 x", 2),
+        (b"emit 1 # one", 2),
+        (b"emit end", 2),
+        (b"use distinct 0 1", 2),
+        (b"emit 007", 3),
+        (b"end 1 2 3 4 5 6 7 8a", 3),
+        (b"emit", 4),
+        (b"set 5 v0", 4),
+        (b"emit 1 + 2 + 3", 4),
+        (b"use tree 0 4 1 2 3", 4),
+        (b"registers v1", 4),
+    ];
+
+    #[test]
+    fn skips(rt: HostRuntime) -> Result<(), Fail> {
+        for line in SKIPPED {
+            assert_eq!(rt; read_line(line), Ok(None));
+        }
+        Ok(())
+    }
+
+    #[test]
+    fn reads(rt: HostRuntime) -> Result<(), Fail> {
+        for (line, said) in SAID {
+            assert_eq!(rt; read_line(line), Ok(Some(said)));
+        }
+        Ok(())
+    }
+
+    #[test]
+    fn refuses(rt: HostRuntime) -> Result<(), Fail> {
+        for (line, code) in FAULTY {
+            assert_eq!(rt; read_line(line), Err(code));
+        }
+        Ok(())
+    }
 }

@@ -1,38 +1,85 @@
-//! Sources: the programs of 1 to 8 processes over the same registers.
+//! Sources: 1 to 8 processes over the same registers, and the properties asked of their outcomes.
 
-ghost use Rattle.std.specs.Prelude.{◌≡◌, ◌<◌, ◌≤◌, All, length};
+ghost use Rattle.std.specs.Prelude.{◌≡◌, ◌<◌, ◌≤◌, All, length, true};
+ghost use Rattle.reglang.specs.Contents.{clause_fits, is_over};
 
 use crate::copies::copy_block;
-use regmodel::{OutOfMemory, Prog};
+use crate::expansions::expand;
+use crate::uses::Use;
+use arrayvec::ArrayVec;
+use regmodel::{Clause, Clauses, OutOfMemory, Prog};
 use std::alloc::Global;
 
-/// The programs of 1 to 8 processes, all over the same 1 to 64 registers.
+/// What a process runs.
+#[derive(Debug, Drop)]
+pub enum Process {
+    /// Its own statements.
+    Text(Prog),
+    /// The expansion of a kind.
+    Use(Use),
+}
+
+impl Process {
+    ghost use Rattle.std.specs.Prelude.{IfOk};
+    ghost use Rattle.regmodel.specs.OfProg.{program_of};
+    ghost use Rattle.reglang.specs.Contents.{body_of, program_over};
+
+    /// What it runs: a copy of its own program, or its expansion. An error where a request for memory was refused.
+    fn prog(&self, alloc: Global, registers: u32) -> Result<Prog, OutOfMemory>
+        requires { is_over registers self.now ≡ true }
+        ensures { IfOk result (λ prog. program_of prog ≡ program_over registers (body_of self.now)) }
+    {
+        match self {
+            Process::Text(prog) => {
+                let body = copy_block(alloc, prog.body())?;
+                Ok(Prog::new(prog.registers(), body).unwrap())
+            }
+            Process::Use(kind) => match expand(alloc, kind, registers) {
+                Ok(prog) => Ok(prog),
+                Err(_) => Err(OutOfMemory),
+            },
+        }
+    }
+}
+
+/// 1 to 8 processes, all over the same 1 to 64 registers, and at most 16 clauses; always within the limits.
 #[derive(Debug, Drop)]
 pub struct Source {
     registers: u32,
-    processes: Vec<Prog>,
+    processes: Vec<Process>,
+    clauses: Clauses,
+    ghost some_register: { 0 < registers },
+    ghost few_registers: { registers ≤ 64 },
     ghost some_process: { 0 < length processes.items },
     ghost few_processes: { length processes.items ≤ 8 },
-    ghost same_registers: { All (λ p. p.registers ≡ registers) processes.items },
+    ghost few_clauses: { length clauses ≤ 16 },
+    ghost clauses_fit: { All (λ clause. clause_fits clause ≡ true) clauses },
+    ghost fit: { All (λ p. is_over registers p ≡ true) processes.items },
 }
 
 impl Source {
-    ghost use Rattle.std.specs.Prelude.{Some, IfOk, slice_get, map};
+    ghost use Rattle.std.specs.Prelude.{Some, IfOk, slice_get};
     ghost use Rattle.regmodel.specs.OfProg.{program_of};
     ghost use Rattle.regmodel.specs.Limits.{IsWithin};
-    ghost use Rattle.reglang.specs.Sources.{registers_of, programs_of};
+    ghost use Rattle.std.specs.Prelude.{IfSome, MatchOption, map};
+    ghost use Rattle.reglang.specs.Contents.{Kind, IsText, AreWithin, body_of};
+    ghost use Rattle.reglang.specs.Sources.{contents_of, registers_of, programs_of};
 
-    /// The source of these processes, all over so many registers.
-    pub(crate) fn new(registers: u32, processes: Vec<Prog>) -> Source
+    /// The source of these processes and clauses.
+    pub(crate) fn new(registers: u32, processes: Vec<Process>, clauses: Clauses) -> Source
+        requires some_register { 0 < registers }
+        requires few_registers { registers ≤ 64 }
         requires some { 0 < length processes.items }
         requires few { length processes.items ≤ 8 }
-        requires same { All (λ p. p.registers ≡ registers) processes.items }
-        ensures registers { registers_of result ≡ registers }
-        ensures programs { programs_of result ≡ map program_of processes.items }
+        requires few_clauses { length clauses ≤ 16 }
+        requires clauses_fit { All (λ clause. clause_fits clause ≡ true) clauses }
+        requires fit { All (λ p. is_over registers p ≡ true) processes.items }
+        ensures { contents_of result ≡ record { registers = registers; processes = map body_of processes.items; clauses = clauses } }
     {
         Source {
             registers,
             processes,
+            clauses,
         }
     }
 
@@ -40,6 +87,8 @@ impl Source {
     pub fn registers(&self) -> u32
         ensures value { result ≡ registers_of self.now }
         ensures programs { All (λ p. IsWithin p × (p.registers ≡ result)) (programs_of self.now) }
+        ensures some { 0 < length (programs_of self.now) }
+        ensures few { length (programs_of self.now) ≤ 8 }
     {
         self.registers
     }
@@ -53,13 +102,38 @@ impl Source {
         self.processes.len()
     }
 
-    /// A copy of the program of process p, counted from 0. An error where a request for memory was refused.
+    /// The processes, from process 0.
+    pub(crate) fn bodies(&self) -> &[Process]
+        ensures { map body_of result.now ≡ (contents_of self.now).processes }
+    {
+        self.processes.as_slice()
+    }
+
+    /// The clauses, in the order of their lines.
+    pub fn clauses(&self) -> &Clauses
+        ensures value { result.now ≡ (contents_of self.now).clauses }
+        ensures within { AreWithin (contents_of self.now) }
+    {
+        &self.clauses
+    }
+
+    /// The use line of process p, counted from 0. None where it has statements of its own.
+    pub fn use_of(&self, p: usize) -> Option<&Use>
+        requires { p < length (programs_of self.now) }
+        ensures { MatchOption result (IfSome (slice_get (contents_of self.now).processes p) IsText) (λ kind. slice_get (contents_of self.now).processes p ≡ Some (Kind kind.now)) }
+    {
+        match &self.processes[p] {
+            Process::Use(kind) => Some(kind),
+            Process::Text(_) => None,
+        }
+    }
+
+    /// The program of process p, counted from 0: a copy of its own, or its expansion.
+    /// An error where a request for memory was refused.
     pub fn prog(&self, alloc: Global, p: usize) -> Result<Prog, OutOfMemory>
         requires { p < length (programs_of self.now) }
         ensures { IfOk result (λ prog. slice_get (programs_of self.now) p ≡ Some (program_of prog)) }
     {
-        let prog = &self.processes[p];
-        let body = copy_block(alloc, prog.body())?;
-        Ok(Prog::new(prog.registers(), body).unwrap())
+        self.processes[p].prog(alloc, self.registers)
     }
 }

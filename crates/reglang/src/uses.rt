@@ -3,8 +3,7 @@
 ghost use Rattle.std.specs.Prelude.{◌≡◌, ◌^◌, ◌-◌, ◌≤◌, IsTrue};
 ghost use Rattle.reglang.specs.Uses as spec;
 
-/// The greatest value of a register.
-const GREATEST: u32 = 1000000000;
+use crate::words::GREATEST;
 
 /// What a use line says: a kind, and its numbers in the order of the line.
 ///

@@ -1,10 +1,19 @@
 -- What the words of the command line ask for.
-use Rattle.std.specs.Prelude.{◌≡◌, ℕ, List}
+use Rattle.std.specs.Prelude.{◌≡◌, ℕ, Bool, false, List}
 use Rattle.regmodel.specs.ScheduleText.{schedule_text}
 use Rattle.regtry.specs.declared.orders.Task.{Task}
 use Rattle.regtry.specs.declared.orders.Task.TheVariants.{Explore, Replay}
 
 -- to replay the schedule of this text
 abbrev pub IsReplayOf : List ℕ → Task → Type 0
-IsReplayOf text (Explore settings) = ⊥
+IsReplayOf text (Explore settings native) = ⊥
 IsReplayOf text (Replay schedule) = schedule_text schedule ≡ text
+
+abbrev pub IsExploration : Task → Type 0
+IsExploration (Explore settings native) = Unit {0}
+IsExploration (Replay schedule) = ⊥
+
+-- whether use lines run as native machines
+abbrev pub is_native : Task → Bool
+is_native (Explore settings native) = native
+is_native (Replay schedule) = false

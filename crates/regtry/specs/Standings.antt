@@ -5,17 +5,13 @@ use Rattle.regmodel.specs.declared.letters.Letter.{Letter}
 use Rattle.regmodel.specs.Program.{Program}
 use Rattle.regmodel.specs.Replies.{held}
 use Rattle.regmodel.specs.Schedules.{IsSchedule, is_possible}
-use Rattle.regtry.specs.declared.refusals.Refusal.{Refusal}
-use Rattle.regtry.specs.declared.refusals.Refusal.TheVariants as refusal
 
 -- what each of so many registers holds after a schedule
 abbrev pub values_after : List Program → List Letter → ℕ → List ℕ
 values_after programs w registers = map (held programs w) (range_with_len 0 registers)
 
--- the refusal names the place of the first letter that is not possible after those before it
-pub record IsLetterRefused (programs : List Program) (crashes : ℕ) (w : List Letter) (refused : Refusal) : Type 0 where
-  pub place : ℕ
-  pub named : refused ≡ refusal.Letter place
+-- the place is that of the first letter that is not possible after those before it
+pub record IsLetterRefused (programs : List Program) (crashes : ℕ) (w : List Letter) (place : ℕ) : Type 0 where
   pub there : place < length w
   pub before : IsSchedule programs crashes (take place w)
   pub impossible : IfSome (slice_get w place) (λ a. is_possible programs crashes (take place w) a ≡ false)

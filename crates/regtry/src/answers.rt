@@ -1,17 +1,18 @@
 //! Does what was asked, and gives the status.
 
-ghost use Rattle.std.specs.Prelude.{◌≡◌, ◌≤◌, IfErr, IfOk, IsNone, map, true};
+ghost use Rattle.std.specs.Prelude.{◌≡◌, ◌≤◌, IfErr, IfOk, IfSome, IsNone, if◌then◌else◌, map, option_and_then, true};
 ghost use Rattle.regmodel.specs.PlainReport.{IsPlainReport};
 ghost use Rattle.reglang.specs.Sources.{programs_of};
 ghost use Rattle.explorer.specs.Appending.{Writes, fault_of};
-ghost use Rattle.regtry.specs.Findings.{finding_text, has_failing};
+ghost use Rattle.regtry.specs.Findings.{IsAnswered, IsFoundBy, IsRefusedBy, IsRunFault, finding_text, has_failing};
 ghost use Rattle.regtry.specs.Statuses.{status_of};
 
+use crate::machines::machine_of;
 use crate::orders::{Order, Task};
 use crate::refusals::{Refusal, refuse};
 use crate::standings::{Standing, standing_after};
 use explorer::{Report, WriteFault, run_one, write_report, write_standing};
-use machine::{Interp, Machine};
+use machine::Machine;
 use reglang::{Source, read_source};
 use regmodel::{Judge, Outcome, Settings};
 use std::alloc::Global;
@@ -79,6 +80,7 @@ pub fn answer<R: Read + Drop, W: Write, E: Write>(
 ) -> u8
     ensures no_file { IsNone file → result ≡ 2 }
     ensures status { result ≤ 3 }
+    ensures answered { result ≤ 1 → IsAnswered order.now.task (option_and_then R.remaining file) (W.contents out.old) (W.contents out.new) result }
     ensures silent { result ≡ 2 → out.new ≡ out.old }
 {
     match written(alloc, order.task(), file, out) {
@@ -95,6 +97,7 @@ fn written<R: Read + Drop, W: Write>(
     out: &mut W,
 ) -> Result<bool, Refusal>
     ensures no_file { IsNone file → result ≡ Err Refusal.File }
+    ensures answered { IfOk result (λ fails. IsAnswered task.now (option_and_then R.remaining file) (W.contents out.old) (W.contents out.new) (if fails then 1 else 0)) }
     ensures silent { IfErr result (λ refusal. status_of refusal ≡ 2 → out.new ≡ out.old) }
 {
     let Some(file) = file else {
@@ -109,7 +112,9 @@ fn written<R: Read + Drop, W: Write>(
 }
 
 /// All bytes of a file, where they are not too many.
-fn bytes_of<R: Read + Drop>(alloc: Global, file: R) -> Result<Vec<u8>, Refusal> {
+fn bytes_of<R: Read + Drop>(alloc: Global, file: R) -> Result<Vec<u8>, Refusal>
+    ensures { IfOk result (λ bytes. IfSome (R.remaining file) (λ known. bytes.items ≡ known)) }
+{
     let mut bytes = Vec::new(alloc);
     match file.take(MOST_BYTES + 1).read_to_end(&mut bytes) {
         Ok(count) if count as u64 <= MOST_BYTES => Ok(bytes),
@@ -119,41 +124,45 @@ fn bytes_of<R: Read + Drop>(alloc: Global, file: R) -> Result<Vec<u8>, Refusal> 
     }
 }
 
-/// What is found of a text, by one interpreter a process.
-fn found(alloc: Global, task: &Task, text: &[u8]) -> Result<Finding, Refusal> {
+/// What is found of a text, by one machine a process.
+fn found(alloc: Global, task: &Task, text: &[u8]) -> Result<Finding, Refusal>
+    ensures found { IfOk result (IsFoundBy task.now text.now) }
+    ensures refused { IfErr result (IsRefusedBy task.now text.now) }
+{
     let source = match read_source(alloc, text) {
         Ok(source) => source,
         Err(fault) => return Err(Refusal::Source(fault)),
     };
     let mut machines: Vec<Box<dyn Machine + Send>> = Vec::new(alloc);
     for p in 0..source.processes() {
-        let prog = source.prog(alloc, p)?;
-        let machine = Interp::make(alloc, prog)?;
+        let machine = machine_of(alloc, &source, p, task.is_native())?;
         machines.push(Box::new(alloc, machine)?)?;
     }
     match task {
-        Task::Explore { settings } => {
-            Ok(Finding::Report(report_of(alloc, &source, *settings, machines)?))
-        }
-        Task::Replay { schedule } => {
-            Ok(Finding::Standing(standing_after(&source, machines, schedule)?))
-        }
+        Task::Explore { settings, .. } => match report_of(alloc, &source, *settings, machines) {
+            Ok(report) => Ok(Finding::Report(report)),
+            Err(code) => Err(Refusal::Run(code)),
+        },
+        Task::Replay { schedule } => match standing_after(&source, machines, schedule) {
+            Ok(standing) => Ok(Finding::Standing(standing)),
+            Err(letter) => Err(Refusal::Letter(letter.place)),
+        },
     }
 }
 
-/// The report of a source, by its machines.
+/// The report of a source, by its machines; or the code of the fault where there is none.
 fn report_of(
     alloc: Global,
     source: &Source,
     settings: Settings,
     machines: Vec<Box<dyn Machine + Send>>,
-) -> Result<Report, Refusal>
+) -> Result<Report, u8>
     requires { map program machines.items ≡ programs_of source.now }
     ensures report { IfOk result (λ r. IsPlainReport (programs_of source.now) settings.length settings.crashes (λ ends. true) r) }
-    ensures run { IfErr result (λ refusal. status_of refusal ≡ 3) }
+    ensures code { IfErr result (IsRunFault (programs_of source.now) settings) }
 {
     match run_one(alloc, source, settings, machines, &AcceptAll) {
         Ok(report) => Ok(report),
-        Err(fault) => Err(Refusal::Run(fault.code)),
+        Err(fault) => Err(fault.code),
     }
 }

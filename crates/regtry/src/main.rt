@@ -2,6 +2,7 @@
 #![tactic(auto)]
 
 mod answers;
+mod machines;
 mod orders;
 mod refusals;
 mod standings;

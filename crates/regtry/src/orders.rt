@@ -4,7 +4,7 @@ ghost use Rattle.std.specs.Prelude.{◌≡◌, ◌≢◌, IfErr, IfOk, List};
 ghost use Rattle.regmodel.specs.declared.letters.Letter.{Letter};
 ghost use Rattle.regmodel.specs.Prefixes.{FitsPrefix};
 ghost use Rattle.regmodel.specs.ScheduleText.{schedule_text};
-ghost use Rattle.regtry.specs.Orders.{IsReplayOf};
+ghost use Rattle.regtry.specs.Orders.{IsExploration, IsReplayOf};
 ghost use Rattle.regtry.specs.Statuses.{status_of};
 
 use crate::refusals::{Refusal, refuse};
@@ -39,10 +39,24 @@ Statuses:
 /// What to do with a source.
 #[derive(Debug, Drop)]
 pub enum Task {
-    /// Explore it this far.
-    Explore { settings: Settings },
+    /// Explore it this far, with native machines for use lines or with interpreters alone.
+    Explore { settings: Settings, native: bool },
     /// Replay this schedule.
     Replay { schedule: Prefix },
+}
+
+impl Task {
+    ghost use Rattle.regtry.specs.Orders.{is_native};
+
+    /// Whether use lines run as native machines. A replay has interpreters alone.
+    pub fn is_native(&self) -> bool
+        ensures { result ≡ is_native self.now }
+    {
+        match self {
+            Task::Explore { native, .. } => *native,
+            Task::Replay { .. } => false,
+        }
+    }
 }
 
 /// What is asked for.
@@ -110,9 +124,7 @@ fn explore<'a>(alloc: Global) -> Result<Command<'a>, AllocError> {
     let text = Arg::new(alloc, "text")
         .long("text")
         .action(ArgAction::SetTrue)
-        .help(
-            "Interpret every process, also where a built-in machine would serve (as is done so far)",
-        );
+        .help("Interpret the processes with a `use` line, too, which else run as native machines");
     Command::new(alloc, "explore")
         .about("Tries all schedules of a source and prints a report of the outcomes.")
         .after_help(STATUSES)
@@ -201,7 +213,8 @@ fn order_of<'a, E: Write>(matches: &ArgMatches<'a>, err: &mut E) -> Result<Order
 
 /// How far the words of `explore` ask to explore.
 fn exploration_of(words: &ArgMatches<'_>) -> Result<Task, Refusal>
-    ensures { IfErr result (λ refusal. status_of refusal ≡ 2) }
+    ensures ok { IfOk result IsExploration }
+    ensures err { IfErr result (λ refusal. status_of refusal ≡ 2) }
 {
     let settings = Settings::new(
         number_of(words, "length"),
@@ -211,7 +224,10 @@ fn exploration_of(words: &ArgMatches<'_>) -> Result<Task, Refusal>
         number_of(words, "room"),
     );
     match settings {
-        Ok(settings) => Ok(Task::Explore { settings }),
+        Ok(settings) => Ok(Task::Explore {
+            settings,
+            native: !words.get_flag("text"),
+        }),
         Err(fault) => Err(Refusal::Setting(fault.code)),
     }
 }

@@ -55,18 +55,33 @@ impl Refusal {
 }
 
 impl From<OutOfMemory> for Refusal {
+    ghost use Rattle.std.specs.Prelude.{◌≡◌};
+    ghost use Rattle.regtry.specs.declared.refusals.Refusal.TheVariants.{Memory};
+
+    ghost from_gives = { λ _ refusal. refusal ≡ Memory };
+
     fn from(_error: OutOfMemory) -> Refusal {
         Refusal::Memory
     }
 }
 
 impl From<AllocError> for Refusal {
+    ghost use Rattle.std.specs.Prelude.{◌≡◌};
+    ghost use Rattle.regtry.specs.declared.refusals.Refusal.TheVariants.{Memory};
+
+    ghost from_gives = { λ _ refusal. refusal ≡ Memory };
+
     fn from(_error: AllocError) -> Refusal {
         Refusal::Memory
     }
 }
 
 impl<T: Drop> From<AllocFailed<T>> for Refusal {
+    ghost use Rattle.std.specs.Prelude.{◌≡◌};
+    ghost use Rattle.regtry.specs.declared.refusals.Refusal.TheVariants.{Memory};
+
+    ghost from_gives = { λ _ refusal. refusal ≡ Memory };
+
     fn from(_error: AllocFailed<T>) -> Refusal {
         Refusal::Memory
     }

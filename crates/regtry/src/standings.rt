@@ -7,12 +7,11 @@ ghost use Rattle.reglang.specs.Sources.{programs_of, registers_of};
 ghost use Rattle.world.specs.Sound.{IsSoundWorld, letters_of, register_count_of, world_programs};
 ghost use Rattle.regtry.specs.Standings.{IsLetterRefused, values_after};
 
-use crate::refusals::Refusal;
 use arrayvec::ArrayVec;
 use machine::Machine;
 use reglang::Source;
 use regmodel::{Outcome, Prefix};
-use world::World;
+use world::{BadLetter, World};
 
 /// How many processes may crash in a schedule that is replayed.
 const CRASHES: u32 = 8;
@@ -32,12 +31,12 @@ pub fn standing_after(
     source: &Source,
     machines: Vec<Box<dyn Machine + Send>>,
     schedule: &Prefix,
-) -> Result<Standing, Refusal>
+) -> Result<Standing, BadLetter>
     requires { map program machines.items ≡ programs_of source.now }
     ensures schedule { IfOk result (λ standing. IsSchedule (programs_of source.now) 8 schedule.now) }
     ensures outcome { IfOk result (λ standing. standing.outcome ≡ outcome_of (programs_of source.now) schedule.now) }
     ensures registers { IfOk result (λ standing. standing.registers.items ≡ values_after (programs_of source.now) schedule.now (registers_of source.now)) }
-    ensures refused { IfErr result (λ refusal. IsLetterRefused (programs_of source.now) 8 schedule.now refusal) }
+    ensures refused { IfErr result (λ letter. IsLetterRefused (programs_of source.now) 8 schedule.now letter.place) }
 {
     let mut world = World::new(machines, source.registers(), CRASHES);
     match world.replay(schedule) {
@@ -45,7 +44,7 @@ pub fn standing_after(
             outcome: world.outcome(),
             registers: values_of(&world, source.registers()),
         }),
-        Err(letter) => Err(Refusal::Letter(letter.place)),
+        Err(letter) => Err(letter),
     }
 }
 

@@ -1,3 +1,5 @@
+mod texts;
+
 use crate::answers::answer;
 use crate::orders::command;
 use std::alloc::Global;
@@ -21,8 +23,114 @@ const ONE_WRITER: &[u8] = b"registers 1\nprocess\nwrite 0 5\nend\n";
 const FAULTS: &[u8] =
     b"registers 1\nprocess\nwrite 1 5\nend\nprocess\nemit 1\nemit 2\nemit 3\nemit 4\nemit 5\nemit 6\nemit 7\nemit 8\nemit 9\nend\n";
 
+/// A process that is done at once.
+const HALTS: &[u8] = b"registers 1\nprocess\nhalt\nend\n";
+
+/// Two processes at a splitter, of which at most none may have the name 3.
+const SPLITTER: &[u8] =
+    b"registers 2\nprocess\nuse split 0 1\nend\nprocess\nuse split 0 2\nend\ncheck atmost 3 0\n";
+
+/// A process that climbs down a tree of two levels.
+const TREE: &[u8] = b"registers 12\nprocess\nuse tree 0 2 1 1\nend\ncheck selfseen\ncheck ended\n";
+
+/// Two processes that choose names.
+const NAMES: &[u8] =
+    b"registers 2\nprocess\nuse name 0 2 0\nend\nprocess\nuse name 0 2 1\nend\ncheck distinct\n";
+
+/// Two processes in a grid, beside one of statements.
+const GRID: &[u8] =
+    b"registers 6\nprocess\nuse grid 0 2 1\nend\nprocess\nuse grid 0 2 2\nend\nprocess\nread v0 0\nemit v0\nend\n";
+
+/// Two processes in a tree.
+const TREES: &[u8] =
+    b"registers 12\nprocess\nuse tree 0 2 1 7\nend\nprocess\nuse tree 0 2 2 8\nend\n";
+
+/// Sources with use lines, the length and the crashes.
+const USES: [(&[u8], &str, &str); 8] = [
+    (SPLITTER, "8", "0"),
+    (SPLITTER, "6", "2"),
+    (NAMES, "8", "0"),
+    (NAMES, "5", "1"),
+    (TREE, "12", "1"),
+    (TREES, "9", "0"),
+    (GRID, "7", "0"),
+    (GRID, "4", "2"),
+];
+
 /// Sources, the length and the crashes, and the report.
-const REPORTS: [(&[u8], &str, &str, &[u8]); 8] = [
+const REPORTS: [(&[u8], &str, &str, &[u8]); 20] = [
+    (
+        HALTS,
+        "0",
+        "0",
+        b"processes 1\nlength 0\ncrashes 0\ntried 1\noutcomes 1\noutcome done idle\nleast none\n",
+    ),
+    (
+        b"registers 1\nprocess\nrepeat 8\nemit 1\ndone\nend\n",
+        "0",
+        "0",
+        b"processes 1\nlength 0\ncrashes 0\ntried 1\noutcomes 1\noutcome done 1 1 1 1 1 1 1 1 idle\nleast none\n",
+    ),
+    (
+        b"registers 1\nprocess\nrepeat 9\nemit 1\ndone\nend\n",
+        "0",
+        "0",
+        b"processes 1\nlength 0\ncrashes 0\ntried 1\noutcomes 1\noutcome fault 4 idle\nleast none\n",
+    ),
+    (
+        b"registers 1\nprocess\nrepeat 100\ndone\nend\n",
+        "0",
+        "0",
+        b"processes 1\nlength 0\ncrashes 0\ntried 1\noutcomes 1\noutcome fault 3 idle\nleast none\n",
+    ),
+    (
+        b"registers 1\nprocess\nend\n",
+        "0",
+        "0",
+        b"processes 1\nlength 0\ncrashes 0\ntried 1\noutcomes 1\noutcome done idle\nleast none\n",
+    ),
+    (
+        b"registers 1\nprocess\nset v0 2\nset [v0] 7\nemit [2]\nend\n",
+        "0",
+        "0",
+        b"processes 1\nlength 0\ncrashes 0\ntried 1\noutcomes 1\noutcome done 7 idle\nleast none\n",
+    ),
+    (
+        b"registers 1\nprocess\nrepeat 99\nrepeat 99\nrepeat 99\nset v0 v0 + 1\ndone\ndone\ndone\nemit v0\nend\n",
+        "0",
+        "0",
+        b"processes 1\nlength 0\ncrashes 0\ntried 1\noutcomes 1\noutcome done 970299 idle\nleast none\n",
+    ),
+    (
+        b"registers 1\nprocess\nif v0\nemit 1\nelse\nemit 2\nfi\nif 1 = 1\nemit 3\nfi\nif 0\nelse\nfi\nend\n",
+        "0",
+        "0",
+        b"processes 1\nlength 0\ncrashes 0\ntried 1\noutcomes 1\noutcome done 2 3 idle\nleast none\n",
+    ),
+    (
+        TREE,
+        "10",
+        "0",
+        b"processes 1\nlength 10\ncrashes 0\ntried 1\noutcomes 1\noutcome done 1\nleast none\n",
+    ),
+    (
+        TREE,
+        "9",
+        "0",
+        b"processes 1\nlength 9\ncrashes 0\ntried 1\noutcomes 1\noutcome running\nleast none\n",
+    ),
+    (
+        b"registers 1\nprocess\nwrite 3 1\nend\n",
+        "4",
+        "0",
+        b"processes 1\nlength 4\ncrashes 0\ntried 1\noutcomes 1\noutcome fault 2 idle\nleast none\n",
+    ),
+    (
+        b"registers 1\nprocess\nwrite 3 0 - 1\nend\nprocess\nwrite 0 0 - 1\nend\nprocess\nset v0 32\nset [v0] 0 - 1\nend\n",
+        "0",
+        "0",
+        b"processes 3\nlength 0\ncrashes 0\ntried 1\noutcomes 1\noutcome fault 2 idle; fault 1 idle; fault 1 idle\nleast none\n",
+    ),
     (
         SOURCE,
         "2",
@@ -74,7 +182,12 @@ const REPORTS: [(&[u8], &str, &str, &[u8]); 8] = [
 ];
 
 /// Replays of sources, and what they print on standard output.
-const REPLAYS: [(&[u8], &str, &[u8]); 4] = [
+const REPLAYS: [(&[u8], &str, &[u8]); 5] = [
+    (
+        SPLITTER,
+        "R0 R0 R0 R1 R0 R1",
+        b"outcome done 3; done 2\nregisters 2 1\n",
+    ),
     (
         TWO_WRITERS,
         "R0 C1",
@@ -104,7 +217,54 @@ const IMPOSSIBLE: [(&[u8], &str, &[u8]); 6] = [
     (ONE_WRITER, "C0 C0", b"regtry: letter 1\n"),
     (ONE_WRITER, "R1", b"regtry: letter 0\n"),
     (FAULTS, "C0", b"regtry: letter 0\n"),
-    (b"process\n", "R0", b"regtry: line 1 code 2\n"),
+    (b"process\n", "R0", b"regtry: line 1 code 7\n"),
+];
+
+/// Texts that are refused, and what is printed on standard error.
+const REFUSED: [(&[u8], &[u8]); 16] = [
+    (b"process\n", b"regtry: line 1 code 7\n"),
+    (b"emit 1\n", b"regtry: line 1 code 5\n"),
+    (b"registers 65\n", b"regtry: line 1 code 6\n"),
+    (b"registers 01\n", b"regtry: line 1 code 3\n"),
+    (b"registers 1\n", b"regtry: line 1 code 6\n"),
+    (b"registers 1\nprocess\nhalt", b"regtry: line 3 code 5\n"),
+    (
+        b"registers 1\nprocess\nif v0\nend\n",
+        b"regtry: line 4 code 5\n",
+    ),
+    (
+        b"registers 1\nprocess\nset v16 1\nend\n",
+        b"regtry: line 3 code 2\n",
+    ),
+    (
+        b"registers 1\nprocess\nemit 007\nend\n",
+        b"regtry: line 3 code 3\n",
+    ),
+    (
+        b"registers 1\nprocess\nemit\nend\n",
+        b"regtry: line 3 code 4\n",
+    ),
+    (
+        b"registers 1\nprocess\nset 5 v0\nend\n",
+        b"regtry: line 3 code 4\n",
+    ),
+    (
+        b"registers 1\nprocess\nemit 1000000001\nend\n",
+        b"regtry: line 3 code 6\n",
+    ),
+    (
+        b"registers 1\nprocess\nuse split 0 1\nend\n",
+        b"regtry: line 3 code 6\n",
+    ),
+    (
+        b"registers 2\nprocess\nuse split 0 1\nhalt\nend\n",
+        b"regtry: line 4 code 5\n",
+    ),
+    (
+        b"registers 1\nprocess\nhalt\nend\ncheck atmost 1\n",
+        b"regtry: line 5 code 8\n",
+    ),
+    (b"# a\t\nregisters 1\n", b"regtry: line 1 code 1\n"),
 ];
 
 /// 65 letters; the text of 64 is 2 bytes shorter.
@@ -226,8 +386,8 @@ fn refuses_files(rt: HostRuntime) -> Result<(), Fail> {
     for (file, line) in [
         (None, b"regtry: file\n".as_slice()),
         (Some(long.as_slice()), b"regtry: file\n".as_slice()),
-        (Some(longest), b"regtry: line 1 code 2\n".as_slice()),
-        (Some(b"".as_slice()), b"regtry: line 1 code 2\n".as_slice()),
+        (Some(longest), b"regtry: line 1 code 7\n".as_slice()),
+        (Some(b"".as_slice()), b"regtry: line 1 code 7\n".as_slice()),
     ] {
         let (status, out, err) = answered(alloc, file)?;
         assert_eq!(rt; status, 2);
@@ -237,6 +397,17 @@ fn refuses_files(rt: HostRuntime) -> Result<(), Fail> {
     let (status, _, err) = answered(alloc, Some(Torn))?;
     assert_eq!(rt; status, 2);
     assert_eq!(rt; err.as_slice(), b"regtry: file\n".as_slice());
+    Ok(())
+}
+
+#[test]
+fn refuses_texts(rt: HostRuntime) -> Result<(), Fail> {
+    for (text, line) in REFUSED {
+        let (status, out, err) = answered(rt.alloc(), Some(text))?;
+        assert_eq!(rt; status, 2);
+        assert!(rt; out.is_empty());
+        assert_eq!(rt; err.as_slice(), line);
+    }
     Ok(())
 }
 
@@ -327,5 +498,60 @@ fn refuses_letters(rt: HostRuntime) -> Result<(), Fail> {
     let (status, _, err) = replayed(rt.alloc(), TWO_WRITERS, &LONG[3..])?;
     assert_eq!(rt; status, 2);
     assert_eq!(rt; err.as_slice(), b"regtry: letter 1\n".as_slice());
+    Ok(())
+}
+
+/// What is printed of an exploration.
+fn explored(alloc: Global, words: &[&str], source: &[u8]) -> Result<Vec<u8>, Fail> {
+    let mut out = Vec::new(alloc);
+    let mut err = Vec::new(alloc);
+    let Ok(order) = command(alloc, words, &mut err) else {
+        return Err(Fail::from("refused words"));
+    };
+    match answer(alloc, &order, Some(source), &mut out, &mut err) {
+        0 => Ok(out),
+        _ => Err(Fail::from("no report")),
+    }
+}
+
+#[test]
+fn native_machines_give_the_same_reports(rt: HostRuntime) -> Result<(), Fail> {
+    for (source, length, crashes) in USES {
+        let native = [
+            "regtry",
+            "explore",
+            "FILE",
+            "--length",
+            length,
+            "--crashes",
+            crashes,
+            "--workers",
+            "1",
+            "--cut",
+            "0",
+            "--room",
+            "0",
+        ];
+        let text = [
+            "regtry",
+            "explore",
+            "FILE",
+            "--text",
+            "--length",
+            length,
+            "--crashes",
+            crashes,
+            "--workers",
+            "1",
+            "--cut",
+            "0",
+            "--room",
+            "0",
+        ];
+        let native = explored(rt.alloc(), native.as_slice(), source)?;
+        let text = explored(rt.alloc(), text.as_slice(), source)?;
+        assert!(rt; native.len() > 60);
+        assert_eq!(rt; native.as_slice(), text.as_slice());
+    }
     Ok(())
 }

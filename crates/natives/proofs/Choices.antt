@@ -1,0 +1,72 @@
+-- What a choice of names in progress does, by where it stands.
+use Rattle.std.proofs.Common.{◌≡◌, ◌≢◌, ℕ, zero, suc, ◌+◌, ◌-◌, ◌*◌, ◌≤◌, Bool, true, false, not, ◌&&◌, ◌||◌, cond, List, [], ◌∷◌, take, refl, ap, ◌∙◌, arith}
+use Rattle.std.specs.Prelude.{nat_lt, ◌==◌, slice_set}
+use Rattle.regmodel.specs.declared.accesses.Pending.{Pending}
+use Rattle.regmodel.specs.declared.accesses.Pending.TheVariants.{Done}
+use Rattle.natives.specs.declared.names.NameSlots.{NameSlots}
+use Rattle.natives.specs.declared.names.Reading.{Reading}
+use Rattle.natives.specs.declared.names.Stage.{Stage}
+use Rattle.natives.specs.Bits.{bit}
+use Rattle.natives.specs.Names.{IsRead, past, first_slot, at_slot, cells_of, from_round, from_reading, from_after, from_slot, name_rest, number_from}
+use Rattle.natives.proofs.Steps.{eq_no}
+use Rattle.natives.proofs.Slots.{IsChoice, clash_after, rank_after, finish-next, read-own, read-other, round-read}
+
+pub choice : (m : NameSlots) → IsChoice m.base m.slots m.slot m.registers
+choice m = record { own_in = m.own_in; few_slots = m.few_slots; room = m.room; few = m.few }
+
+pub not_false : (b : Bool) → not b ≡ false → b ≡ true
+not_false true e = refl
+not_false false e = cc
+
+-- what a read tells, as the program computes it and as the machine does
+same_or : (clash same : Bool) → cond same 1 (bit clash) ≡ bit (clash || same)
+same_or true true = refl
+same_or true false = refl
+same_or false true = refl
+same_or false false = refl
+
+clash-past : (clash : Bool) (held proposal : ℕ) → clash_after proposal held (bit clash) ≡ bit (clash || held == proposal)
+clash-past clash held proposal = same_or clash (held == proposal)
+
+rank-past : (before : Bool) (held rank : ℕ) → rank_after before held rank ≡ cond (before && not (held == 0)) (rank + 1) rank
+rank-past true zero rank = refl
+rank-past true (suc held) rank = let some : suc held ≢ 0 = omega arith in rw (eq_no (suc held) 0 some) refl
+rank-past false held rank = refl
+
+module _ (m : NameSlots) where
+  abbrev pub rest_at : Stage → List ℕ → Pending
+  rest_at stage s = name_rest (from_round m.base m.slots m.slot m.registers (suc m.later) m.proposal (cells_of m.seen)) (from_reading m.base m.slots m.slot m.registers m.later m.proposal m.seen) m.proposal stage s
+
+  abbrev reads_on : Reading → List ℕ → Pending
+  reads_on = from_reading m.base m.slots m.slot m.registers m.later m.proposal m.seen
+
+  abbrev ends_round : Reading → List ℕ → Pending
+  ends_round reading s = from_after m.base m.slots m.slot m.registers m.later (at_slot m.proposal (bit reading.clash) reading.rank reading.at (cells_of m.seen)) s
+
+  -- a round that ends with a clash
+  pub ends-clash : (reading : Reading) (s : List ℕ) → reading.clash ≡ true → ends_round reading s ≡ from_round m.base m.slots m.slot m.registers m.later (number_from (take m.slots m.seen) (2 * m.slots - 1) reading.rank 0) (cells_of m.seen) s
+  ends-clash reading s e =
+      ap (λ b. from_after m.base m.slots m.slot m.registers m.later (at_slot m.proposal (bit b) reading.rank reading.at (cells_of m.seen)) s) e
+      ∙ finish-next m.base m.slots m.slot m.registers (choice m) m.seen m.eight m.later m.proposal reading.rank reading.at s
+
+  pub ends-over : (reading : Reading) (s : List ℕ) → reading.clash ≡ true → m.later ≡ 0 → ends_round reading s ≡ Done (record { items = [] })
+  ends-over reading s e none =
+      let number = number_from (take m.slots m.seen) (2 * m.slots - 1) reading.rank 0 in
+      ends-clash reading s e ∙ ap (λ n. from_round m.base m.slots m.slot m.registers n number (cells_of m.seen) s) none
+
+  pub reads-last : (reading : Reading) (s : List ℕ) → m.slots ≡ reading.at → ends_round reading s ≡ reads_on reading s
+  reads-last reading s e =
+      let none : 0 ≡ m.slots - reading.at = omega arith in
+      ap (λ n. from_slot m.base m.slots m.slot m.registers m.later n (at_slot m.proposal (bit reading.clash) reading.rank reading.at (cells_of m.seen)) s) none
+
+  pub reads-own : (reading : Reading) (s : List ℕ) → reading.at ≡ m.slot → reading.rank ≤ 8 → reads_on reading s ≡ reads_on (record reading { at = reading.at + 1 }) s
+  reads-own reading s e small = read-own m.base m.slots m.slot m.registers (choice m) m.seen m.eight m.later m.proposal reading.at reading.rank (bit reading.clash) s e m.own_empty small
+
+  pub reads-other : (reading : Reading) (held : ℕ) (s : List ℕ) → IsRead m.slots m.slot reading → reads_on reading (held ∷ s) ≡ from_reading m.base m.slots m.slot m.registers m.later m.proposal (slice_set m.seen reading.at held) (past m.slot m.proposal held reading) s
+  reads-other reading held s h =
+      read-other m.base m.slots m.slot m.registers (choice m) m.seen m.eight m.later m.proposal reading.at reading.rank (bit reading.clash) held s h.other h.inside h.small
+      ∙ ap (λ c. from_slot m.base m.slots m.slot m.registers m.later (m.slots - (reading.at + 1)) (at_slot m.proposal c (rank_after (nat_lt reading.at m.slot) held reading.rank) (reading.at + 1) (cells_of (slice_set m.seen reading.at held))) s) (clash-past reading.clash held m.proposal)
+      ∙ ap (λ r. from_slot m.base m.slots m.slot m.registers m.later (m.slots - (reading.at + 1)) (at_slot m.proposal (bit (reading.clash || held == m.proposal)) r (reading.at + 1) (cells_of (slice_set m.seen reading.at held))) s) (rank-past (nat_lt reading.at m.slot) held reading.rank)
+
+  pub round-begins : (w : ℕ) (s : List ℕ) → from_round m.base m.slots m.slot m.registers (suc m.later) m.proposal (cells_of m.seen) (w ∷ s) ≡ reads_on first_slot s
+  round-begins w s = round-read m.base m.slots m.slot m.registers (choice m) m.seen m.eight m.later m.proposal w s

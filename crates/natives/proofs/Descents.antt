@@ -1,0 +1,197 @@
+-- The way down a collect tree.
+use Rattle.std.proofs.Common.{◌≡◌, ◌≢◌, ℕ, zero, suc, ◌+◌, ◌-◌, ◌*◌, ◌^◌, ◌<◌, ◌≤◌, Bool, true, false, cond, List, [], ◌∷◌, refl, ap, sym, ◌∙◌, arith, replicate, set, map}
+use Rattle.std.specs.Prelude.{nat_lt, nat_le}
+use Rattle.regmodel.specs.declared.accesses.Access.TheVariants as access
+use Rattle.regmodel.specs.declared.accesses.Pending.{Pending}
+use Rattle.regmodel.specs.declared.accesses.Pending.TheVariants as pending
+use Rattle.regmodel.specs.Values.{Env}
+use Rattle.regmodel.specs.Act.{Flow, GoesOn, Wants, Faults, exec, times, stands, then_do, act_of}
+use Rattle.regmodel.specs.Program.{Stop}
+use Rattle.reglang.specs.Expansions.{tree_descend, tree_collect, expansion}
+use Rattle.reglang.specs.declared.uses.Use.TheVariants as kind
+use Rattle.natives.specs.Bits.{bit}
+use Rattle.natives.specs.Trees.{on_way, tree_after, tree_leave, from_vertex, from_stop, from_past}
+use Rattle.natives.proofs.Collects.{IsTree, collect_with, turns-alike}
+use Rattle.natives.proofs.Steps.{le_yes, lt_yes, lt_no, eq_yes, eq_no, then_stop}
+
+-- a vertex whose registers are there
+pub record IsNode (base registers vertex : ℕ) : Type 0 where
+  pub some : 1 ≤ vertex
+  pub room : (vertex - 1) * 4 + base + 4 ≤ registers
+  pub few : registers ≤ 64
+
+-- on the way down, with what is left of the last turn
+abbrev pub way_with : ℕ → ℕ → ℕ → ℕ → ℕ → ℕ → Env
+way_with vertex stopped a b c d = record { vars = vertex ∷ stopped ∷ a ∷ b ∷ c ∷ d ∷ replicate 10 0; cells = replicate 32 0; emitted = [] }
+
+module _ (base id registers vertex : ℕ) (h : IsNode base registers vertex) where
+  abbrev mark : ℕ
+  mark = (vertex - 1) * 4 + base
+
+  descend : Env → List ℕ → Flow
+  descend = exec (tree_descend base id) registers
+
+  not_below : nat_lt vertex 1 ≡ false
+  not_below = lt_no _ _ (omega (arith, h.some))
+
+  times_4 : nat_le ((vertex - 1) * 4) 1000000000 ≡ true
+  times_4 = le_yes _ _ (omega (arith, h.room, h.few))
+
+  with_base : nat_le ((vertex - 1) * 4 + base) 1000000000 ≡ true
+  with_base = le_yes _ _ (omega (arith, h.room, h.few))
+
+  plus_1 : nat_le ((vertex - 1) * 4 + base + 1) 1000000000 ≡ true
+  plus_1 = le_yes _ _ (omega (arith, h.room, h.few))
+
+  plus_2 : nat_le ((vertex - 1) * 4 + base + 2) 1000000000 ≡ true
+  plus_2 = le_yes _ _ (omega (arith, h.room, h.few))
+
+  mark_there : nat_lt ((vertex - 1) * 4 + base) registers ≡ true
+  mark_there = lt_yes _ _ (omega (arith, h.room))
+
+  last_there : nat_lt ((vertex - 1) * 4 + base + 1) registers ≡ true
+  last_there = lt_yes _ _ (omega (arith, h.room))
+
+  door_there : nat_lt ((vertex - 1) * 4 + base + 2) registers ≡ true
+  door_there = lt_yes _ _ (omega (arith, h.room))
+
+  doubled : nat_le (vertex * 2) 1000000000 ≡ true
+  doubled = le_yes _ _ (omega (arith, h.some, h.room, h.few))
+
+  doubled_1 : nat_le (vertex * 2 + 1) 1000000000 ≡ true
+  doubled_1 = le_yes _ _ (omega (arith, h.some, h.room, h.few))
+
+  pub visit-marks : (a b c d : ℕ) → exec (tree_descend base id) registers (way_with vertex 0 a b c d) [] ≡ Wants (access.Write mark 1)
+  visit-marks a b c d = rw (not_below, times_4, with_base, plus_1, plus_2, mark_there) refl
+
+  pub visit-signs : (a b c d w : ℕ) → exec (tree_descend base id) registers (way_with vertex 0 a b c d) (w ∷ []) ≡ Wants (access.Write (mark + 1) id)
+  visit-signs a b c d w = rw (not_below, times_4, with_base, plus_1, plus_2, mark_there, last_there) refl
+
+  pub visit-tries : (a b c d w x : ℕ) → exec (tree_descend base id) registers (way_with vertex 0 a b c d) (w ∷ x ∷ []) ≡ Wants (access.Read (mark + 2))
+  visit-tries a b c d w x = rw (not_below, times_4, with_base, plus_1, plus_2, mark_there, last_there, door_there) refl
+
+  pub visit-right : (a b c d w x door : ℕ) (s : List ℕ) → exec (tree_descend base id) registers (way_with vertex 0 a b c d) (w ∷ x ∷ suc door ∷ s) ≡ GoesOn (way_with (vertex * 2 + 1) 0 mark (mark + 1) (mark + 2) (suc door)) s
+  visit-right a b c d w x door s = rw (not_below, times_4, with_base, plus_1, plus_2, mark_there, last_there, door_there, doubled, doubled_1) refl
+
+  pub visit-closes : (a b c d w x : ℕ) → exec (tree_descend base id) registers (way_with vertex 0 a b c d) (w ∷ x ∷ 0 ∷ []) ≡ Wants (access.Write (mark + 2) 1)
+  visit-closes a b c d w x = rw (not_below, times_4, with_base, plus_1, plus_2, mark_there, last_there, door_there) refl
+
+  pub visit-looks : (a b c d w x y : ℕ) → exec (tree_descend base id) registers (way_with vertex 0 a b c d) (w ∷ x ∷ 0 ∷ y ∷ []) ≡ Wants (access.Read (mark + 1))
+  visit-looks a b c d w x y = rw (not_below, times_4, with_base, plus_1, plus_2, mark_there, last_there, door_there) refl
+
+  pub visit-stops : (a b c d w x y last : ℕ) (s : List ℕ) → last ≡ id → exec (tree_descend base id) registers (way_with vertex 0 a b c d) (w ∷ x ∷ 0 ∷ y ∷ last ∷ s) ≡ GoesOn (way_with vertex 1 mark (mark + 1) (mark + 2) last) s
+  visit-stops a b c d w x y last s e = rw (not_below, times_4, with_base, plus_1, plus_2, mark_there, last_there, door_there, eq_yes last id e) refl
+
+  pub visit-down : (a b c d w x y last : ℕ) (s : List ℕ) → last ≢ id → exec (tree_descend base id) registers (way_with vertex 0 a b c d) (w ∷ x ∷ 0 ∷ y ∷ last ∷ s) ≡ GoesOn (way_with (vertex * 2) 0 mark (mark + 1) (mark + 2) last) s
+  visit-down a b c d w x y last s e = rw (not_below, times_4, with_base, plus_1, plus_2, mark_there, last_there, door_there, eq_no last id e, doubled) refl
+
+  -- what is left of the last turn plays no part
+  pub visit-same : (a b c d : ℕ) (s : List ℕ) → exec (tree_descend base id) registers (way_with vertex 0 a b c d) s ≡ exec (tree_descend base id) registers (way_with vertex 0 0 0 0 0) s
+  visit-same a b c d [] = rw (not_below, times_4, with_base, plus_1, plus_2, mark_there) refl
+  visit-same a b c d (w ∷ []) = rw (not_below, times_4, with_base, plus_1, plus_2, mark_there, last_there) refl
+  visit-same a b c d (w ∷ x ∷ []) = rw (not_below, times_4, with_base, plus_1, plus_2, mark_there, last_there, door_there) refl
+  visit-same a b c d (w ∷ x ∷ y ∷ s) = rw (not_below, times_4, with_base, plus_1, plus_2, mark_there, last_there, door_there) refl
+
+-- ---- all levels
+
+module _ (base id registers depth value : ℕ) where
+  abbrev descends : ℕ → Env → List ℕ → Flow
+  descends levels = times levels (exec (tree_descend base id) registers)
+
+  abbrev then_levels : ℕ → Flow → Pending
+  then_levels levels f = stands (then_do (then_do f (descends levels)) (exec (tree_after base depth value) registers))
+
+  way-same : (levels vertex a b c d : ℕ) (s : List ℕ) → (0 < levels → IsNode base registers vertex) → stands (then_do (descends levels (way_with vertex 0 a b c d) s) (exec (tree_after base depth value) registers)) ≡ from_vertex base registers depth id value levels vertex s
+  way-same zero vertex a b c d s h = refl
+  way-same (suc levels) vertex a b c d s h = ap (then_levels levels) (visit-same base id registers vertex (h (omega arith)) a b c d s)
+
+  -- the levels below where it stopped do nothing
+  stopped : (levels vertex a b c d : ℕ) (s : List ℕ) → descends levels (way_with vertex 1 a b c d) s ≡ GoesOn (way_with vertex 1 a b c d) s
+  stopped zero vertex a b c d s = refl
+  stopped (suc levels) vertex a b c d s = stopped levels vertex a b c d s
+
+  module _ (levels k vertex : ℕ) (e : levels ≡ suc k) (h : IsNode base registers vertex) where
+    first_level : (s : List ℕ) → from_vertex base registers depth id value levels vertex s ≡ then_levels k (exec (tree_descend base id) registers (way_with vertex 0 0 0 0 0) s)
+    first_level s = ap (λ n. from_vertex base registers depth id value n vertex s) e
+
+    pub from-marks : from_vertex base registers depth id value levels vertex [] ≡ pending.Wants (access.Write ((vertex - 1) * 4 + base) 1)
+    from-marks = first_level [] ∙ ap (then_levels k) (visit-marks base id registers vertex h 0 0 0 0)
+
+    pub from-signs : (w : ℕ) → from_vertex base registers depth id value levels vertex (w ∷ []) ≡ pending.Wants (access.Write ((vertex - 1) * 4 + base + 1) id)
+    from-signs w = first_level (w ∷ []) ∙ ap (then_levels k) (visit-signs base id registers vertex h 0 0 0 0 w)
+
+    pub from-tries : (w x : ℕ) → from_vertex base registers depth id value levels vertex (w ∷ x ∷ []) ≡ pending.Wants (access.Read ((vertex - 1) * 4 + base + 2))
+    from-tries w x = first_level (w ∷ x ∷ []) ∙ ap (then_levels k) (visit-tries base id registers vertex h 0 0 0 0 w x)
+
+    pub from-closes : (w x : ℕ) → from_vertex base registers depth id value levels vertex (w ∷ x ∷ 0 ∷ []) ≡ pending.Wants (access.Write ((vertex - 1) * 4 + base + 2) 1)
+    from-closes w x = first_level (w ∷ x ∷ 0 ∷ []) ∙ ap (then_levels k) (visit-closes base id registers vertex h 0 0 0 0 w x)
+
+    pub from-looks : (w x y : ℕ) → from_vertex base registers depth id value levels vertex (w ∷ x ∷ 0 ∷ y ∷ []) ≡ pending.Wants (access.Read ((vertex - 1) * 4 + base + 1))
+    from-looks w x y = first_level (w ∷ x ∷ 0 ∷ y ∷ []) ∙ ap (then_levels k) (visit-looks base id registers vertex h 0 0 0 0 w x y)
+
+    pub from-right : (w x door : ℕ) (s : List ℕ) → door ≢ 0 → (0 < k → IsNode base registers (vertex * 2 + 1)) → from_vertex base registers depth id value levels vertex (w ∷ x ∷ door ∷ s) ≡ from_vertex base registers depth id value k (vertex * 2 + 1) s
+    from-right w x zero s closed more = absurd (closed refl)
+    from-right w x (suc door) s closed more =
+        first_level _
+        ∙ ap (then_levels k) (visit-right base id registers vertex h 0 0 0 0 w x door s)
+        ∙ way-same k (vertex * 2 + 1) _ _ _ _ s more
+
+    pub from-down : (w x y last : ℕ) (s : List ℕ) → last ≢ id → (0 < k → IsNode base registers (vertex * 2)) → from_vertex base registers depth id value levels vertex (w ∷ x ∷ 0 ∷ y ∷ last ∷ s) ≡ from_vertex base registers depth id value k (vertex * 2) s
+    from-down w x y last s other more =
+        first_level _
+        ∙ ap (then_levels k) (visit-down base id registers vertex h 0 0 0 0 w x y last s other)
+        ∙ way-same k (vertex * 2) _ _ _ _ s more
+
+  -- from the root
+  pub from_root : (s : List ℕ) → depth ≤ 4 → from_vertex base registers depth id value depth 1 s ≡ act_of (expansion (kind.Tree base depth id value) registers) s
+  from_root s small = sym (ap (λ test. stands (then_do (cond test (Faults 3) (descends depth (on_way 1 0 0) s)) (exec (tree_after base depth value) registers))) (lt_no 99 depth (omega arith)))
+
+  -- ---- where it stopped
+
+  module _ (vertex : ℕ) (h : IsNode base registers vertex) (small : depth ≤ 4) (t : IsTree base registers (2 ^ depth - 1)) where
+    abbrev register : ℕ
+    register = (vertex - 1) * 4 + base
+
+    value_sum : nat_le (register + 3) 1000000000 ≡ true
+    value_sum = le_yes _ _ (omega (arith, h.room, h.few))
+
+    value_there : nat_lt (register + 3) registers ≡ true
+    value_there = lt_yes _ _ (omega (arith, h.room))
+
+    few_vertices : nat_lt 99 (2 ^ depth - 1) ≡ false
+    few_vertices = lt_no _ _ (omega (arith, t.vertices))
+
+    abbrev root_reached : List Bool
+    root_reached = set (replicate 32 false) 1 true
+
+    leave-wants : (b c d : ℕ) → exec (tree_leave base depth value) registers (way_with vertex 1 register b c d) [] ≡ Wants (access.Write (register + 3) value)
+    leave-wants b c d = rw (value_sum, value_there) refl
+
+    leave-collects : (b c d w : ℕ) (s : List ℕ) → exec (tree_leave base depth value) registers (way_with vertex 1 register b c d) (w ∷ s) ≡ then_do (times (2 ^ depth - 1) (exec (tree_collect base) registers) (collect_with 0 (register + 3) b c d (map bit root_reached) []) s) (exec Stop registers)
+    leave-collects b c d w s = rw (value_sum, value_there) (ap (λ test. then_do (cond test (Faults 3) (times (2 ^ depth - 1) (exec (tree_collect base) registers) (collect_with 0 (register + 3) b c d (map bit root_reached) []) s)) (exec Stop registers)) few_vertices)
+
+    leave-past : (b c d w : ℕ) (s : List ℕ) → stands (exec (tree_leave base depth value) registers (way_with vertex 1 register b c d) (w ∷ s)) ≡ from_past base registers (2 ^ depth - 1) 0 root_reached [] s
+    leave-past b c d w s =
+        ap stands (leave-collects b c d w s ∙ then_stop _ registers)
+        ∙ turns-alike base registers (2 ^ depth - 1) t (2 ^ depth - 1) 0 (omega arith) (register + 3) b c d (map bit root_reached) [] s
+
+    leave-same : (b c d : ℕ) (s : List ℕ) → stands (exec (tree_leave base depth value) registers (way_with vertex 1 register b c d) s) ≡ from_stop base registers depth value vertex s
+    leave-same b c d [] = ap stands (leave-wants b c d ∙ sym (leave-wants 0 0 0))
+    leave-same b c d (w ∷ s) = leave-past b c d w s ∙ sym (leave-past 0 0 0 w s)
+
+    pub from_stop-leaves : from_stop base registers depth value vertex [] ≡ pending.Wants (access.Write (register + 3) value)
+    from_stop-leaves = ap stands (leave-wants 0 0 0)
+
+    pub from_stop-past : (w : ℕ) (s : List ℕ) → from_stop base registers depth value vertex (w ∷ s) ≡ from_past base registers (2 ^ depth - 1) 0 root_reached [] s
+    from_stop-past w s = leave-past 0 0 0 w s
+
+    pub from-stops : (levels k w x y last : ℕ) (s : List ℕ) → levels ≡ suc k → last ≡ id → from_vertex base registers depth id value levels vertex (w ∷ x ∷ 0 ∷ y ∷ last ∷ s) ≡ from_stop base registers depth value vertex s
+    from-stops levels k w x y last s e same =
+        first_level levels k vertex e h _
+        ∙ ap (then_levels k) (visit-stops base id registers vertex h 0 0 0 0 w x y last s same)
+        ∙ ap (λ f. stands (then_do f (exec (tree_after base depth value) registers))) (stopped k vertex register (register + 1) (register + 2) last s)
+        ∙ ap stands (after-stopped (register + 1) (register + 2) last s)
+        ∙ leave-same (register + 1) (register + 2) last s
+      where
+        after-stopped : (b c d : ℕ) (s : List ℕ) → exec (tree_after base depth value) registers (way_with vertex 1 register b c d) s ≡ exec (tree_leave base depth value) registers (way_with vertex 1 register b c d) s
+        after-stopped b c d s = refl

@@ -1,0 +1,10 @@
+use Rattle.std.proofs.Common.{◌∷◌, sym, ap, ◌∙◌}
+use Rattle.natives.proofs.Choices.{rest_at, round-begins}
+use Rattle.natives.proofs.names.NameSlotsMachine.feed.Goals as goal
+
+pub returns-in-Proposes-clause-goes_on : goal.returns-in-Proposes-clause-goes_on
+returns-in-Proposes-clause-goes_on c = λ s.
+    let m = c.args.self.now in
+    c.go_on.ensures.goes_on s
+    ∙ sym (round-begins m c.args.reply s)
+    ∙ sym (ap (λ stage. rest_at m stage (c.args.reply ∷ s)) c.in-Proposes.is)

@@ -1,0 +1,27 @@
+-- What a grid of splitters does on further replies.
+use Rattle.std.specs.Prelude.{ℕ, List, [], ◌∷◌, replicate}
+use Rattle.regmodel.specs.declared.accesses.Pending.{Pending}
+use Rattle.regmodel.specs.declared.accesses.Pending.TheVariants.{Done}
+use Rattle.regmodel.specs.Values.{Env}
+use Rattle.regmodel.specs.Act.{exec, times, stands}
+use Rattle.reglang.specs.Expansions.{grid_visit}
+use Rattle.natives.specs.declared.grid.Stage.{Stage}
+use Rattle.natives.specs.declared.grid.Stage.TheVariants.{Marks, Tries, Closes, Looks, Stopped, Over}
+
+-- at a vertex, with its row and column added up and its name
+abbrev pub at_vertex : ℕ → ℕ → Env
+at_vertex level vertex = record { vars = level ∷ vertex ∷ replicate 14 0; cells = replicate 32 0; emitted = [] }
+
+-- from a vertex on, with so many turns left, the one at this vertex counted
+abbrev pub grid_from : ℕ → ℕ → ℕ → ℕ → ℕ → ℕ → List ℕ → Pending
+grid_from base id registers turns level vertex s =
+    stands (times turns (exec (grid_visit base id) registers) (at_vertex level vertex) s)
+
+-- at an access the value from the vertex on, after the replies since then
+abbrev pub grid_rest : (List ℕ → Pending) → ℕ → Stage → List ℕ → Pending
+grid_rest from vertex Marks s = from s
+grid_rest from vertex Tries s = from (0 ∷ s)
+grid_rest from vertex Closes s = from (0 ∷ 0 ∷ s)
+grid_rest from vertex Looks s = from (0 ∷ 0 ∷ 0 ∷ s)
+grid_rest from vertex Stopped s = Done (record { items = vertex ∷ [] })
+grid_rest from vertex Over s = Done (record { items = [] })

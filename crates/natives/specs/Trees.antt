@@ -1,0 +1,93 @@
+-- What a collect tree does on further replies.
+use Rattle.std.specs.Prelude.{◌≤◌, ℕ, ◌+◌, ◌*◌, ◌-◌, ◌^◌, slice_set, Bool, true, Option, Some, None, List, [], ◌∷◌, map, replicate}
+use Rattle.regmodel.specs.declared.accesses.Pending.{Pending}
+use Rattle.regmodel.specs.declared.accesses.Pending.TheVariants.{Done, Fault}
+use Rattle.regmodel.specs.declared.programs.Op.TheVariants.{Add, Equal}
+use Rattle.regmodel.specs.declared.programs.Operand.TheVariants.{Number, Var}
+use Rattle.regmodel.specs.declared.programs.Expr.TheVariants.{One, Two}
+use Rattle.regmodel.specs.declared.programs.Target.TheVariants as target
+use Rattle.regmodel.specs.Values.{Env}
+use Rattle.regmodel.specs.Act.{Flow, exec, times, then_do, stands}
+use Rattle.regmodel.specs.Program.{Block, Stop, Assign, Write, If, Repeat, Halt}
+use Rattle.reglang.specs.Expansions.{◌▸◌, set, tree_descend, tree_collect, tree_look}
+use Rattle.natives.specs.Bits.{bit}
+use Rattle.natives.specs.declared.trees.Stage.{Stage}
+use Rattle.natives.specs.declared.trees.Stage.TheVariants.{Marks, Signs, Tries, Closes, Looks, Leaves, Sees, Takes, Collected, Overfull, Over}
+
+-- on the way down: the vertex, and whether the process stopped at it
+abbrev pub on_way : ℕ → ℕ → ℕ → Env
+on_way vertex stopped register = record { vars = vertex ∷ stopped ∷ register ∷ replicate 13 0; cells = replicate 32 0; emitted = [] }
+
+-- collecting: the vertex, which vertices were reached, and the numbers so far
+abbrev pub at_collect : ℕ → List Bool → List ℕ → Env
+at_collect vertex reached numbers = record { vars = vertex ∷ 1 ∷ replicate 14 0; cells = map bit reached; emitted = numbers }
+
+-- where the process stopped: writes its value, and collects
+abbrev pub tree_leave : ℕ → ℕ → ℕ → Block
+tree_leave base depth value =
+    set 2 (Two (Var 2) Add (Number 3)) ▸
+    Write (Var 2) (One (Number value)) ▸
+    Assign (target.Cell 1) (One (Number 1)) ▸
+    set 0 (One (Number 0)) ▸
+    Repeat (One (Number (2 ^ depth - 1))) (tree_collect base) ▸
+    Stop
+
+-- after the way down
+abbrev pub tree_after : ℕ → ℕ → ℕ → Block
+tree_after base depth value = If (Two (Var 1) Equal (Number 0)) (Halt ▸ Stop) Stop ▸ tree_leave base depth value
+
+module _ (base registers : ℕ) where
+  -- from a vertex on, with so many levels left, its own counted
+  abbrev pub from_vertex : ℕ → ℕ → ℕ → ℕ → ℕ → List ℕ → Pending
+  from_vertex depth id value levels vertex s =
+      stands (then_do (times levels (exec (tree_descend base id) registers) (on_way vertex 0 0) s) (exec (tree_after base depth value) registers))
+
+  -- from where it stopped
+  abbrev pub from_stop : ℕ → ℕ → ℕ → List ℕ → Pending
+  from_stop depth value vertex s =
+      stands (exec (tree_leave base depth value) registers (on_way vertex 1 ((vertex - 1) * 4 + base)) s)
+
+  -- so many vertices of the collect
+  abbrev pub collects : ℕ → Env → List ℕ → Flow
+  collects turns = times turns (exec (tree_collect base) registers)
+
+  -- from past a vertex on, with so many vertices left
+  abbrev pub from_past : ℕ → ℕ → List Bool → List ℕ → List ℕ → Pending
+  from_past turns vertex reached numbers s = stands (collects turns (at_collect vertex reached numbers) s)
+
+  -- from a vertex that is looked at on, with so many vertices left after it
+  abbrev pub from_look : ℕ → ℕ → List Bool → List ℕ → List ℕ → Pending
+  from_look turns vertex reached numbers s =
+      stands (then_do (exec (tree_look base) registers (at_collect vertex reached numbers) s) (collects turns))
+
+  -- the same in a tree with so many vertices
+  abbrev pub from_at : ℕ → List Bool → List ℕ → ℕ → List ℕ → Pending
+  from_at last reached numbers vertex s = from_look (last - vertex) vertex reached numbers s
+
+  -- from the next vertex that was reached on, where there is one
+  abbrev pub from_next : ℕ → List Bool → List ℕ → Option ℕ → List ℕ → Pending
+  from_next last reached numbers (Some vertex) s = from_at last reached numbers vertex s
+  from_next last reached numbers None s = Done (record { items = numbers })
+
+-- a vertex of a tree with so many
+pub record IsIn (last vertex : ℕ) : Type 0 where
+  pub some : 1 ≤ vertex
+  pub within : vertex ≤ last
+
+-- once both children of a vertex were reached
+abbrev pub below_reached : ℕ → List Bool → List Bool
+below_reached vertex reached = slice_set (slice_set reached (vertex * 2) true) (vertex * 2 + 1) true
+
+-- on the way down the value from the vertex on, in the collect that from the vertex looked at, after the replies since then
+abbrev pub tree_rest : (List ℕ → Pending) → (List ℕ → Pending) → (ℕ → List ℕ → Pending) → List ℕ → Stage → List ℕ → Pending
+tree_rest vertex stop look numbers Marks s = vertex s
+tree_rest vertex stop look numbers Signs s = vertex (0 ∷ s)
+tree_rest vertex stop look numbers Tries s = vertex (0 ∷ 0 ∷ s)
+tree_rest vertex stop look numbers Closes s = vertex (0 ∷ 0 ∷ 0 ∷ s)
+tree_rest vertex stop look numbers Looks s = vertex (0 ∷ 0 ∷ 0 ∷ 0 ∷ s)
+tree_rest vertex stop look numbers Leaves s = stop s
+tree_rest vertex stop look numbers (Sees at) s = look at s
+tree_rest vertex stop look numbers (Takes at) s = look at (1 ∷ s)
+tree_rest vertex stop look numbers Collected s = Done (record { items = numbers })
+tree_rest vertex stop look numbers Overfull s = Fault 4
+tree_rest vertex stop look numbers Over s = Done (record { items = [] })

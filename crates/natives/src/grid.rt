@@ -1,0 +1,145 @@
+//! Grids of splitters: a process goes from the first vertex right and down until it stops at one or leaves the grid.
+
+ghost use Rattle.std.specs.Prelude.{◌≡◌, ℕ, ◌+◌, ◌-◌, ◌*◌, ◌<◌, ◌≤◌, ◌↔◌, List, false, Err, IfOk, IsOk, IsTrue};
+ghost use Rattle.regmodel.specs.Act.{act_of};
+ghost use Rattle.regmodel.specs.Lawful.{IsLawful};
+ghost use Rattle.reglang.specs.declared.uses.Use.TheVariants as kind;
+ghost use Rattle.reglang.specs.Expansions.{expansion};
+ghost use Rattle.reglang.specs.Uses.{use_fits};
+ghost use Rattle.natives.specs.Grids.{grid_from};
+
+use crate::MakeFault;
+use crate::numbers::{done, done_with};
+use machine::Machine;
+use reglang::Use;
+use regmodel::{Access, Pending};
+
+/// Where a process stands in the grid.
+#[derive(Clone, Copy)]
+enum Stage {
+    /// It writes its number at a vertex.
+    Marks,
+    /// It reads the vertex's door.
+    Tries,
+    /// It closes the door.
+    Closes,
+    /// It reads who came last to the vertex.
+    Looks,
+    /// It stopped at the vertex.
+    Stopped,
+    /// It left the grid, or was ended.
+    Over,
+}
+
+/// A grid of splitters in progress. A vertex has two registers: who came last, and the door, 0 where it is open. The first
+/// vertex is 1; right of vertex v, in row and column that add up to d, is v + d + 2, and below it v + d + 1.
+#[derive(Drop)]
+pub struct Grid {
+    base: u8,
+    side: u8,
+    id: u32,
+    registers: u32,
+    level: u8,
+    vertex: u8,
+    stage: Stage,
+    ghost few: { registers ≤ 64 },
+    ghost room: { base + side * (side + 1) ≤ registers },
+    ghost sides: { side ≤ 7 },
+    ghost inside: { level < side },
+    ghost some: { 1 ≤ vertex },
+    ghost named: { vertex * 2 ≤ (level + 1) * (level + 2) },
+}
+
+impl Grid {
+    /// The grid of a use line, at its start: BASE, SIDE, ID, and how many registers there are. Fault 1 where a limit of the
+    /// line is passed, which [`Use::fits`] tells; no other fault comes. It takes no memory.
+    pub fn make(base: u32, side: u32, id: u32, registers: u32) -> Result<Grid, MakeFault>
+        ensures same { IfOk result (λ m. ⟦<Grid as Machine>⟧.program m ≡ expansion (kind.Grid base side id) registers) }
+        ensures starts { IfOk result (λ m. (s : List ℕ) → IsLawful (act_of (expansion (kind.Grid base side id) registers)) s → ⟦<Grid as Machine>⟧.rest m s ≡ act_of (expansion (kind.Grid base side id) registers) s) }
+        ensures limits { (result ≡ Err (record { code = 1 })) ↔ (use_fits (kind.Grid base side id) registers ≡ false) }
+        ensures made { IsOk result ↔ IsTrue (use_fits (kind.Grid base side id) registers) }
+    {
+        if !Use::Grid(base, side, id).fits(registers) {
+            return Err(MakeFault { code: 1 });
+        }
+        let mut grid = Grid {
+            base: base as u8,
+            side: side as u8,
+            id,
+            registers,
+            level: 0,
+            vertex: 1,
+            stage: Stage::Over,
+        };
+        grid.reset();
+        Ok(grid)
+    }
+
+    /// The register that tells who came last to the vertex.
+    fn last(&self) -> u8
+        ensures value { result ≡ self.now.vertex * 2 + self.now.base - 2 }
+        ensures there { result + 1 < self.now.registers }
+    {
+        self.vertex * 2 + self.base - 2
+    }
+
+    /// Goes to another vertex, one further right or down, or leaves the grid.
+    fn go_to(&mut self, vertex: u8)
+        requires some { 1 ≤ vertex }
+        requires named { vertex * 2 ≤ (self.old.level + 2) * (self.old.level + 3) }
+        ensures same { ⟦<Grid as Machine>⟧.program self.new ≡ ⟦<Grid as Machine>⟧.program self.old }
+        ensures goes_on { (s : List ℕ) → ⟦<Grid as Machine>⟧.rest self.new s ≡ grid_from self.old.base self.old.id self.old.registers (self.old.side - (self.old.level + 1)) (self.old.level + 1) vertex s }
+    {
+        if self.level + 1 == self.side {
+            self.stage = Stage::Over;
+        } else {
+            self.level += 1;
+            self.vertex = vertex;
+            self.stage = Stage::Marks;
+        }
+    }
+}
+
+impl Machine for Grid {
+    ghost use Rattle.std.specs.Prelude.{ℕ, List, ◌-◌};
+    ghost use Rattle.reglang.specs.declared.uses.Use.TheVariants as kind;
+    ghost use Rattle.reglang.specs.Expansions.{expansion};
+    ghost use Rattle.natives.specs.Grids.{grid_from, grid_rest};
+
+    ghost program = { λ m. expansion (kind.Grid m.base m.side m.id) m.registers };
+
+    ghost rest = { λ m. grid_rest (grid_from m.base m.id m.registers (m.side - m.level) m.level m.vertex) m.vertex m.stage };
+
+    fn reset(&mut self) {
+        self.level = 0;
+        self.vertex = 1;
+        self.stage = Stage::Marks;
+    }
+
+    fn pending(&self) -> Pending {
+        match self.stage {
+            Stage::Marks => Pending::Wants(Access::Write(self.last(), self.id)),
+            Stage::Tries => Pending::Wants(Access::Read(self.last() + 1)),
+            Stage::Closes => Pending::Wants(Access::Write(self.last() + 1, 1)),
+            Stage::Looks => Pending::Wants(Access::Read(self.last())),
+            Stage::Stopped => done_with(u32::from(self.vertex)),
+            Stage::Over => done(),
+        }
+    }
+
+    fn feed(&mut self, reply: u32) {
+        match self.stage {
+            Stage::Marks => self.stage = Stage::Tries,
+            Stage::Tries if reply != 0 => self.go_to(self.vertex + self.level + 2),
+            Stage::Tries => self.stage = Stage::Closes,
+            Stage::Closes => self.stage = Stage::Looks,
+            Stage::Looks if reply == self.id => self.stage = Stage::Stopped,
+            Stage::Looks => self.go_to(self.vertex + self.level + 1),
+            Stage::Stopped | Stage::Over => {}
+        }
+    }
+
+    fn end(&mut self) {
+        self.stage = Stage::Over;
+    }
+}

@@ -1,0 +1,24 @@
+//! Native machines: the four kinds of use lines as machines of their own, each with the program of its line.
+#![tactic(auto)]
+
+mod grid;
+mod names;
+mod numbers;
+mod split;
+#[cfg(test)]
+mod tests;
+mod trees;
+
+pub use grid::Grid;
+pub use names::NameSlots;
+pub use split::Split;
+use thiserror::Error;
+pub use trees::Tree;
+
+/// Why a native machine was not made.
+#[derive(Clone, Copy, PartialEq, Eq, Debug, Error)]
+#[error("no machine: code {code}")]
+pub struct MakeFault {
+    /// 1 where a limit of the use line is passed. 2 is that of memory, which no machine here takes.
+    pub code: u8,
+}

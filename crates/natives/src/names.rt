@@ -1,0 +1,239 @@
+//! Choices of names: a process proposes a name in its slot until no other slot holds it.
+
+ghost use Rattle.std.specs.Prelude.{◌≡◌, ◌≢◌, ℕ, zero, suc, ◌+◌, ◌-◌, ◌*◌, ◌<◌, ◌≤◌, ◌↔◌, List, ◌∷◌, false, Err, IfOk, IsOk, IsTrue, length, slice_index, take};
+ghost use Rattle.regmodel.specs.Act.{act_of};
+ghost use Rattle.regmodel.specs.Lawful.{IsLawful};
+ghost use Rattle.reglang.specs.declared.uses.Use.TheVariants as kind;
+ghost use Rattle.reglang.specs.Expansions.{expansion};
+ghost use Rattle.reglang.specs.Uses.{use_fits};
+ghost use Rattle.natives.specs.declared.names.Reading.{Reading};
+ghost use Rattle.natives.specs.declared.names.Stage.TheVariants.{Reads};
+ghost use Rattle.natives.specs.Bits.{bit};
+ghost use Rattle.natives.specs.Names.{IsRead, past, at_slot, cells_of, from_reading, from_after, holds, number_from};
+
+use crate::MakeFault;
+use crate::numbers::{done, done_with};
+use machine::Machine;
+use reglang::Use;
+use regmodel::{Access, Pending};
+
+/// How many rounds there are after the first.
+const LATER: u8 = 98;
+
+/// A slot that is read, and what the slots before it gave.
+#[derive(Clone, Copy)]
+struct Reading {
+    /// The slot.
+    at: u8,
+    /// Whether one of them held the proposal.
+    clash: bool,
+    /// One more than the slots among them that are below the own one and hold something.
+    rank: u8,
+}
+
+impl Reading {
+    /// Past the slot, which held this much.
+    fn past(self, held: u32, proposal: u32, own: u8) -> Reading
+        requires few { self.at ≤ 8 }
+        requires small { self.rank ≤ self.at + 1 }
+        ensures { result ≡ past own proposal held self }
+    {
+        let higher = self.at < own && held != 0;
+        Reading {
+            at: self.at + 1,
+            clash: self.clash || held == proposal,
+            rank: if higher { self.rank + 1 } else { self.rank },
+        }
+    }
+}
+
+/// Where a process stands in a round.
+#[derive(Clone, Copy)]
+enum Stage {
+    /// It writes its proposal into its slot.
+    Proposes,
+    /// It reads another slot.
+    Reads(Reading),
+    /// No other slot held its proposal, which is its name.
+    Named,
+    /// It has no rounds left, or was ended.
+    Over,
+}
+
+/// A choice of names in progress: a register a slot, for the proposal of its process. It keeps what it last read in each
+/// slot, 0 for its own.
+#[derive(Drop)]
+pub struct NameSlots {
+    base: u8,
+    slots: u8,
+    slot: u8,
+    registers: u32,
+    later: u8,
+    proposal: u32,
+    seen: [u32; 8],
+    stage: Stage,
+    ghost few: { registers ≤ 64 },
+    ghost few_slots: { slots ≤ 8 },
+    ghost room: { base + slots ≤ registers },
+    ghost own_in: { slot < slots },
+    ghost eight: { length seen ≡ 8 },
+    ghost own_empty: { slice_index seen slot ≡ 0 },
+    ghost reads: { (reading : Reading) → stage ≡ Reads reading → IsRead slots slot reading },
+}
+
+impl NameSlots {
+    /// The choice of a use line, at its start: BASE, SLOTS, SLOT, and how many registers there are. Fault 1 where a limit of
+    /// the line is passed, which [`Use::fits`] tells; no other fault comes. It takes no memory.
+    pub fn make(base: u32, slots: u32, slot: u32, registers: u32) -> Result<NameSlots, MakeFault>
+        ensures same { IfOk result (λ m. ⟦<NameSlots as Machine>⟧.program m ≡ expansion (kind.Name base slots slot) registers) }
+        ensures starts { IfOk result (λ m. (s : List ℕ) → IsLawful (act_of (expansion (kind.Name base slots slot) registers)) s → ⟦<NameSlots as Machine>⟧.rest m s ≡ act_of (expansion (kind.Name base slots slot) registers) s) }
+        ensures limits { (result ≡ Err (record { code = 1 })) ↔ (use_fits (kind.Name base slots slot) registers ≡ false) }
+        ensures made { IsOk result ↔ IsTrue (use_fits (kind.Name base slots slot) registers) }
+    {
+        if !Use::Name(base, slots, slot).fits(registers) {
+            return Err(MakeFault { code: 1 });
+        }
+        let mut names = NameSlots {
+            base: base as u8,
+            slots: slots as u8,
+            slot: slot as u8,
+            registers,
+            later: LATER,
+            proposal: 1,
+            seen: [0; 8],
+            stage: Stage::Over,
+        };
+        names.reset();
+        Ok(names)
+    }
+
+    /// Whether one of the slots held this number.
+    fn held(&self, number: u32) -> bool
+        ensures { result ≡ holds number (take self.now.slots self.now.seen) }
+    {
+        self.seen[..usize::from(self.slots)].contains(&number)
+    }
+
+    /// The number of this rank, from 1, among those that no slot held.
+    fn free_number(&self, rank: u8) -> u32
+        requires { 1 ≤ rank }
+        ensures { result ≡ number_from (take self.now.slots self.now.seen) (2 * self.now.slots - 1) rank 0 }
+    {
+        let end = 2 * u32::from(self.slots);
+        let mut left = rank;
+        for number in 1..end {
+            if self.held(number) {
+                continue;
+            }
+            left -= 1;
+            if left == 0 {
+                return number;
+            }
+        }
+        end - 1
+    }
+
+    /// Ends a round: the proposal stands, or there is a new one for the next round, where one is left.
+    fn finish(&mut self, reading: Reading)
+        requires { 1 ≤ reading.rank }
+        ensures same { ⟦<NameSlots as Machine>⟧.program self.new ≡ ⟦<NameSlots as Machine>⟧.program self.old }
+        ensures goes_on { (s : List ℕ) → ⟦<NameSlots as Machine>⟧.rest self.new s ≡ from_after self.old.base self.old.slots self.old.slot self.old.registers self.old.later (at_slot self.old.proposal (bit reading.clash) reading.rank reading.at (cells_of self.old.seen)) s }
+    {
+        if !reading.clash {
+            self.stage = Stage::Named;
+        } else if self.later == 0 {
+            self.stage = Stage::Over;
+        } else {
+            self.later -= 1;
+            self.proposal = self.free_number(reading.rank);
+            self.stage = Stage::Proposes;
+        }
+    }
+
+    /// Reads a slot, which is not the own one; past the last one it ends the round.
+    fn read(&mut self, reading: Reading)
+        requires inside { reading.at ≤ self.old.slots }
+        requires other { reading.at ≢ self.old.slot }
+        requires some { 1 ≤ reading.rank }
+        requires small { reading.rank ≤ reading.at + 1 }
+        ensures same { ⟦<NameSlots as Machine>⟧.program self.new ≡ ⟦<NameSlots as Machine>⟧.program self.old }
+        ensures goes_on { (s : List ℕ) → ⟦<NameSlots as Machine>⟧.rest self.new s ≡ from_reading self.old.base self.old.slots self.old.slot self.old.registers self.old.later self.old.proposal self.old.seen reading s }
+    {
+        if reading.at < self.slots {
+            self.stage = Stage::Reads(reading);
+        } else {
+            self.finish(reading);
+        }
+    }
+
+    /// Goes on to a slot, past the own one.
+    fn go_on(&mut self, reading: Reading)
+        requires inside { reading.at ≤ self.old.slots }
+        requires some { 1 ≤ reading.rank }
+        requires small { reading.rank ≤ reading.at + 1 }
+        ensures same { ⟦<NameSlots as Machine>⟧.program self.new ≡ ⟦<NameSlots as Machine>⟧.program self.old }
+        ensures goes_on { (s : List ℕ) → ⟦<NameSlots as Machine>⟧.rest self.new s ≡ from_reading self.old.base self.old.slots self.old.slot self.old.registers self.old.later self.old.proposal self.old.seen reading s }
+    {
+        if reading.at == self.slot {
+            self.read(Reading {
+                at: reading.at + 1,
+                ..reading
+            });
+        } else {
+            self.read(reading);
+        }
+    }
+
+    /// Takes what a slot holds, and goes on to the next one.
+    fn take(&mut self, reading: Reading, held: u32)
+        requires read { IsRead self.old.slots self.old.slot reading }
+        ensures same { ⟦<NameSlots as Machine>⟧.program self.new ≡ ⟦<NameSlots as Machine>⟧.program self.old }
+        ensures goes_on { (s : List ℕ) → ⟦<NameSlots as Machine>⟧.rest self.new s ≡ from_reading self.old.base self.old.slots self.old.slot self.old.registers self.old.later self.old.proposal self.old.seen reading (held ∷ s) }
+    {
+        self.seen[usize::from(reading.at)] = held;
+        self.go_on(reading.past(held, self.proposal, self.slot));
+    }
+}
+
+impl Machine for NameSlots {
+    ghost use Rattle.std.specs.Prelude.{ℕ, List, suc};
+    ghost use Rattle.reglang.specs.declared.uses.Use.TheVariants as kind;
+    ghost use Rattle.reglang.specs.Expansions.{expansion};
+    ghost use Rattle.natives.specs.Names.{cells_of, from_round, from_reading, name_rest};
+
+    ghost program = { λ m. expansion (kind.Name m.base m.slots m.slot) m.registers };
+
+    ghost rest = { λ m. name_rest (from_round m.base m.slots m.slot m.registers (suc m.later) m.proposal (cells_of m.seen)) (from_reading m.base m.slots m.slot m.registers m.later m.proposal m.seen) m.proposal m.stage };
+
+    fn reset(&mut self) {
+        self.later = LATER;
+        self.proposal = 1;
+        self.seen = [0; 8];
+        self.stage = Stage::Proposes;
+    }
+
+    fn pending(&self) -> Pending {
+        match self.stage {
+            Stage::Proposes => Pending::Wants(Access::Write(self.base + self.slot, self.proposal)),
+            Stage::Reads(reading) => Pending::Wants(Access::Read(reading.at + self.base)),
+            Stage::Named => done_with(self.proposal),
+            Stage::Over => done(),
+        }
+    }
+
+    fn feed(&mut self, reply: u32) {
+        match self.stage {
+            Stage::Proposes => self.go_on(Reading {
+                at: 0,
+                clash: false,
+                rank: 1,
+            }),
+            Stage::Reads(reading) => self.take(reading, reply),
+            Stage::Named | Stage::Over => {}
+        }
+    }
+
+    fn end(&mut self) {
+        self.stage = Stage::Over;
+    }
+}

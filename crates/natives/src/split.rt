@@ -1,0 +1,111 @@
+//! Splitters: a process leaves its number, tries a door and closes it, and stops, goes right or goes down by what it read.
+
+ghost use Rattle.std.specs.Prelude.{◌≡◌, ℕ, ◌+◌, ◌≤◌, ◌↔◌, List, false, Err, IfOk, IsOk, IsTrue};
+ghost use Rattle.regmodel.specs.Act.{act_of};
+ghost use Rattle.regmodel.specs.Lawful.{IsLawful};
+ghost use Rattle.reglang.specs.declared.uses.Use.TheVariants as kind;
+ghost use Rattle.reglang.specs.Expansions.{expansion};
+ghost use Rattle.reglang.specs.Uses.{use_fits};
+
+use crate::MakeFault;
+use crate::numbers::{done, done_with};
+use machine::Machine;
+use reglang::Use;
+use regmodel::{Access, Pending};
+
+/// Where a splitter stands.
+#[derive(Clone, Copy)]
+enum Stage {
+    /// It writes its number.
+    Marks,
+    /// It reads the door.
+    Tries,
+    /// It closes the door.
+    Closes,
+    /// It reads who came last.
+    Looks,
+    /// It found itself last.
+    Stopped,
+    /// It found the door closed.
+    Right,
+    /// It found another one last.
+    Down,
+    /// It was ended.
+    Ended,
+}
+
+/// A splitter in progress: register BASE tells who came last, the next one is the door, 0 where it is open.
+#[derive(Drop)]
+pub struct Split {
+    base: u8,
+    id: u32,
+    registers: u32,
+    stage: Stage,
+    ghost few: { registers ≤ 64 },
+    ghost room: { base + 2 ≤ registers },
+}
+
+impl Split {
+    /// The splitter of a use line, at its start: BASE, ID, and how many registers there are. Fault 1 where a limit of the
+    /// line is passed, which [`Use::fits`] tells; no other fault comes. It takes no memory.
+    pub fn make(base: u32, id: u32, registers: u32) -> Result<Split, MakeFault>
+        ensures same { IfOk result (λ m. ⟦<Split as Machine>⟧.program m ≡ expansion (kind.Split base id) registers) }
+        ensures starts { IfOk result (λ m. (s : List ℕ) → IsLawful (act_of (expansion (kind.Split base id) registers)) s → ⟦<Split as Machine>⟧.rest m s ≡ act_of (expansion (kind.Split base id) registers) s) }
+        ensures limits { (result ≡ Err (record { code = 1 })) ↔ (use_fits (kind.Split base id) registers ≡ false) }
+        ensures made { IsOk result ↔ IsTrue (use_fits (kind.Split base id) registers) }
+    {
+        if !Use::Split(base, id).fits(registers) {
+            return Err(MakeFault { code: 1 });
+        }
+        Ok(Split {
+            base: base as u8,
+            id,
+            registers,
+            stage: Stage::Marks,
+        })
+    }
+}
+
+impl Machine for Split {
+    ghost use Rattle.std.specs.Prelude.{ℕ, List};
+    ghost use Rattle.reglang.specs.declared.uses.Use.TheVariants as kind;
+    ghost use Rattle.reglang.specs.Expansions.{expansion};
+    ghost use Rattle.natives.specs.Splits.{split_rest};
+
+    ghost program = { λ m. expansion (kind.Split m.base m.id) m.registers };
+
+    ghost rest = { λ m. split_rest (expansion (kind.Split m.base m.id) m.registers) m.stage };
+
+    fn reset(&mut self) {
+        self.stage = Stage::Marks;
+    }
+
+    fn pending(&self) -> Pending {
+        match self.stage {
+            Stage::Marks => Pending::Wants(Access::Write(self.base, self.id)),
+            Stage::Tries => Pending::Wants(Access::Read(self.base + 1)),
+            Stage::Closes => Pending::Wants(Access::Write(self.base + 1, 1)),
+            Stage::Looks => Pending::Wants(Access::Read(self.base)),
+            Stage::Stopped => done_with(1),
+            Stage::Right => done_with(2),
+            Stage::Down => done_with(3),
+            Stage::Ended => done(),
+        }
+    }
+
+    fn feed(&mut self, reply: u32) {
+        self.stage = match self.stage {
+            Stage::Marks => Stage::Tries,
+            Stage::Tries if reply != 0 => Stage::Right,
+            Stage::Tries => Stage::Closes,
+            Stage::Closes => Stage::Looks,
+            Stage::Looks if reply == self.id => Stage::Stopped,
+            Stage::Looks => Stage::Down,
+            over => over,
+        };
+    }
+
+    fn end(&mut self) {
+        self.stage = Stage::Ended;
+    }
+}

@@ -1,0 +1,262 @@
+//! Collect trees: a process goes down a binary tree of splitters until it stops at a vertex, leaves its value there, and
+//! collects the values of the vertices whose marks it reads.
+
+ghost use Rattle.std.specs.Prelude.{◌≡◌, ◌≢◌, ℕ, suc, ◌+◌, ◌-◌, ◌*◌, ◌^◌, ◌<◌, ◌≤◌, ◌↔◌, List, [], ◌∷◌, true, false, Err, IfOk, IfSome, IsOk, IsTrue, length, replicate, slice_set};
+ghost use Rattle.regmodel.specs.Act.{act_of};
+ghost use Rattle.regmodel.specs.Lawful.{IsLawful};
+ghost use Rattle.reglang.specs.declared.uses.Use.TheVariants as kind;
+ghost use Rattle.reglang.specs.Expansions.{expansion};
+ghost use Rattle.reglang.specs.Uses.{use_fits};
+ghost use Rattle.natives.specs.declared.trees.Stage.TheVariants.{Sees, Takes};
+ghost use Rattle.natives.specs.Trees.{IsIn, below_reached, from_vertex, from_past, from_at, from_next};
+
+use crate::MakeFault;
+use crate::numbers::done;
+use machine::Machine;
+use reglang::Use;
+use regmodel::{Access, Numbers, Pending};
+
+/// Where a process stands in the tree.
+#[derive(Clone, Copy)]
+enum Stage {
+    /// It marks a vertex.
+    Marks,
+    /// It writes its number there.
+    Signs,
+    /// It reads the vertex's door.
+    Tries,
+    /// It closes the door.
+    Closes,
+    /// It reads who came last to the vertex.
+    Looks,
+    /// It writes its value at the vertex where it stopped.
+    Leaves,
+    /// It reads the mark of this vertex, whose parent was marked.
+    Sees(u8),
+    /// It reads the value of this vertex, which was marked.
+    Takes(u8),
+    /// It has collected all values.
+    Collected,
+    /// It collected a ninth value.
+    Overfull,
+    /// It left the tree, or was ended.
+    Over,
+}
+
+/// A collect tree in progress. A vertex has four registers: its mark, who came last, the door, 0 where it is open, and its
+/// value. The root is vertex 1; left and right below vertex v are 2 v and 2 v + 1.
+#[derive(Drop)]
+pub struct Tree {
+    base: u8,
+    depth: u8,
+    last: u8,
+    id: u32,
+    value: u32,
+    registers: u32,
+    vertex: u8,
+    levels: u8,
+    reached: [bool; 32],
+    numbers: Numbers,
+    stage: Stage,
+    ghost few: { registers ≤ 64 },
+    ghost some_level: { 1 ≤ depth },
+    ghost small: { depth ≤ 4 },
+    ghost all: { last ≡ 2 ^ depth - 1 },
+    ghost vertices: { last ≤ 15 },
+    ghost room: { base + last * 4 ≤ registers },
+    ghost some: { 1 ≤ vertex },
+    ghost within: { (vertex + 1) * 2 ^ levels ≤ last + 1 },
+    ghost long: { length reached ≡ 32 },
+    ghost sees: { (at : ℕ) → stage ≡ Sees at → IsIn last at },
+    ghost takes: { (at : ℕ) → stage ≡ Takes at → IsIn last at },
+}
+
+/// How many vertices a tree of so many levels has.
+fn vertices(depth: u8) -> u8
+    requires { depth ≤ 4 }
+    ensures value { result ≡ 2 ^ depth - 1 }
+    ensures few { result ≤ 15 }
+{
+    (1 << depth) - 1
+}
+
+impl Tree {
+    /// The collect tree of a use line, at its start: BASE, DEPTH, ID, VALUE, and how many registers there are. Fault 1 where a
+    /// limit of the line is passed, which [`Use::fits`] tells; no other fault comes. It takes no memory.
+    pub fn make(
+        base: u32,
+        depth: u32,
+        id: u32,
+        value: u32,
+        registers: u32,
+    ) -> Result<Tree, MakeFault>
+        ensures same { IfOk result (λ m. ⟦<Tree as Machine>⟧.program m ≡ expansion (kind.Tree base depth id value) registers) }
+        ensures starts { IfOk result (λ m. (s : List ℕ) → IsLawful (act_of (expansion (kind.Tree base depth id value) registers)) s → ⟦<Tree as Machine>⟧.rest m s ≡ act_of (expansion (kind.Tree base depth id value) registers) s) }
+        ensures limits { (result ≡ Err (record { code = 1 })) ↔ (use_fits (kind.Tree base depth id value) registers ≡ false) }
+        ensures made { IsOk result ↔ IsTrue (use_fits (kind.Tree base depth id value) registers) }
+    {
+        if !Use::Tree(base, depth, id, value).fits(registers) {
+            return Err(MakeFault { code: 1 });
+        }
+        let depth = depth as u8;
+        let mut tree = Tree {
+            base: base as u8,
+            depth,
+            last: vertices(depth),
+            id,
+            value,
+            registers,
+            vertex: 1,
+            levels: depth - 1,
+            reached: [false; 32],
+            numbers: Numbers::new(),
+            stage: Stage::Over,
+        };
+        tree.reset();
+        Ok(tree)
+    }
+
+    /// The first register of a vertex, which is its mark.
+    fn mark(&self, vertex: u8) -> u8
+        requires { IsIn self.now.last vertex }
+        ensures value { result ≡ (vertex - 1) * 4 + self.now.base }
+        ensures there { result + 4 ≤ self.now.registers }
+    {
+        (vertex - 1) * 4 + self.base
+    }
+
+    /// Goes to the vertex below on the left or right, or leaves the tree.
+    fn go_to(&mut self, vertex: u8)
+        requires some { 1 ≤ vertex }
+        requires below { vertex ≤ self.old.vertex * 2 + 1 }
+        ensures same { ⟦<Tree as Machine>⟧.program self.new ≡ ⟦<Tree as Machine>⟧.program self.old }
+        ensures goes_on { (s : List ℕ) → ⟦<Tree as Machine>⟧.rest self.new s ≡ from_vertex self.old.base self.old.registers self.old.depth self.old.id self.old.value self.old.levels vertex s }
+    {
+        if self.levels == 0 {
+            self.stage = Stage::Over;
+        } else {
+            self.levels -= 1;
+            self.vertex = vertex;
+            self.stage = Stage::Marks;
+        }
+    }
+
+    /// Begins the collect, at the root.
+    fn collect(&mut self)
+        ensures same { ⟦<Tree as Machine>⟧.program self.new ≡ ⟦<Tree as Machine>⟧.program self.old }
+        ensures goes_on { (s : List ℕ) → ⟦<Tree as Machine>⟧.rest self.new s ≡ from_past self.old.base self.old.registers self.old.last 0 (slice_set (replicate 32 false) 1 true) [] s }
+    {
+        self.reached = [false; 32];
+        self.reached[1] = true;
+        self.numbers = Numbers::new();
+        self.go_past(0);
+    }
+
+    /// The next vertex past this one that was reached.
+    fn next_reached(&self, vertex: u8) -> Option<u8>
+        requires { vertex ≤ self.now.last }
+        ensures there { IfSome result (IsIn self.now.last) }
+        ensures goes_on { (s : List ℕ) → from_next self.now.base self.now.registers self.now.last self.now.reached self.now.numbers.items result s ≡ from_past self.now.base self.now.registers (self.now.last - vertex) vertex self.now.reached self.now.numbers.items s }
+    {
+        for before in vertex..self.last {
+            let next = before + 1;
+            if self.reached[usize::from(next)] {
+                return Some(next);
+            }
+        }
+        None
+    }
+
+    /// Goes on past a vertex to the next one that was reached, if any.
+    fn go_past(&mut self, vertex: u8)
+        requires { vertex ≤ self.old.last }
+        ensures same { ⟦<Tree as Machine>⟧.program self.new ≡ ⟦<Tree as Machine>⟧.program self.old }
+        ensures goes_on { (s : List ℕ) → ⟦<Tree as Machine>⟧.rest self.new s ≡ from_past self.old.base self.old.registers (self.old.last - vertex) vertex self.old.reached self.old.numbers.items s }
+    {
+        match self.next_reached(vertex) {
+            Some(next) => self.stage = Stage::Sees(next),
+            None => self.stage = Stage::Collected,
+        }
+    }
+
+    /// Both children of a vertex are reached; goes on past it.
+    fn reach(&mut self, vertex: u8)
+        requires { IsIn self.old.last vertex }
+        ensures same { ⟦<Tree as Machine>⟧.program self.new ≡ ⟦<Tree as Machine>⟧.program self.old }
+        ensures goes_on { (s : List ℕ) → ⟦<Tree as Machine>⟧.rest self.new s ≡ from_past self.old.base self.old.registers (self.old.last - vertex) vertex (below_reached vertex self.old.reached) self.old.numbers.items s }
+    {
+        self.reached[usize::from(vertex * 2)] = true;
+        self.reached[usize::from(vertex * 2 + 1)] = true;
+        self.go_past(vertex);
+    }
+
+    /// Takes the value of a marked vertex, 0 where none was left there yet.
+    fn take(&mut self, vertex: u8, value: u32)
+        requires { IsIn self.old.last vertex }
+        ensures same { ⟦<Tree as Machine>⟧.program self.new ≡ ⟦<Tree as Machine>⟧.program self.old }
+        ensures goes_on { (s : List ℕ) → ⟦<Tree as Machine>⟧.rest self.new s ≡ from_at self.old.base self.old.registers self.old.last self.old.reached self.old.numbers.items vertex (1 ∷ value ∷ s) }
+    {
+        if value == 0 {
+            self.reach(vertex);
+        } else if self.numbers.is_full() {
+            self.stage = Stage::Overfull;
+        } else {
+            self.numbers.push(value);
+            self.reach(vertex);
+        }
+    }
+}
+
+impl Machine for Tree {
+    ghost use Rattle.std.specs.Prelude.{ℕ, List, suc};
+    ghost use Rattle.reglang.specs.declared.uses.Use.TheVariants as kind;
+    ghost use Rattle.reglang.specs.Expansions.{expansion};
+    ghost use Rattle.natives.specs.Trees.{from_vertex, from_stop, from_at, tree_rest};
+
+    ghost program = { λ m. expansion (kind.Tree m.base m.depth m.id m.value) m.registers };
+
+    ghost rest = { λ m. tree_rest (from_vertex m.base m.registers m.depth m.id m.value (suc m.levels) m.vertex) (from_stop m.base m.registers m.depth m.value m.vertex) (from_at m.base m.registers m.last m.reached m.numbers.items) m.numbers.items m.stage };
+
+    fn reset(&mut self) {
+        self.vertex = 1;
+        self.levels = self.depth - 1;
+        self.stage = Stage::Marks;
+    }
+
+    fn pending(&self) -> Pending {
+        match self.stage {
+            Stage::Marks => Pending::Wants(Access::Write(self.mark(self.vertex), 1)),
+            Stage::Signs => Pending::Wants(Access::Write(self.mark(self.vertex) + 1, self.id)),
+            Stage::Tries => Pending::Wants(Access::Read(self.mark(self.vertex) + 2)),
+            Stage::Closes => Pending::Wants(Access::Write(self.mark(self.vertex) + 2, 1)),
+            Stage::Looks => Pending::Wants(Access::Read(self.mark(self.vertex) + 1)),
+            Stage::Leaves => Pending::Wants(Access::Write(self.mark(self.vertex) + 3, self.value)),
+            Stage::Sees(vertex) => Pending::Wants(Access::Read(self.mark(vertex))),
+            Stage::Takes(vertex) => Pending::Wants(Access::Read(self.mark(vertex) + 3)),
+            Stage::Collected => Pending::Done(self.numbers.clone().unwrap()),
+            Stage::Overfull => Pending::Fault(4),
+            Stage::Over => done(),
+        }
+    }
+
+    fn feed(&mut self, reply: u32) {
+        match self.stage {
+            Stage::Marks => self.stage = Stage::Signs,
+            Stage::Signs => self.stage = Stage::Tries,
+            Stage::Tries if reply != 0 => self.go_to(self.vertex * 2 + 1),
+            Stage::Tries => self.stage = Stage::Closes,
+            Stage::Closes => self.stage = Stage::Looks,
+            Stage::Looks if reply == self.id => self.stage = Stage::Leaves,
+            Stage::Looks => self.go_to(self.vertex * 2),
+            Stage::Leaves => self.collect(),
+            Stage::Sees(vertex) if reply != 0 => self.stage = Stage::Takes(vertex),
+            Stage::Sees(vertex) => self.go_past(vertex),
+            Stage::Takes(vertex) => self.take(vertex, reply),
+            Stage::Collected | Stage::Overfull | Stage::Over => {}
+        }
+    }
+
+    fn end(&mut self) {
+        self.stage = Stage::Over;
+    }
+}

@@ -1,0 +1,369 @@
+-- What was read is within the limits.
+use Rattle.std.proofs.Common.{◌≡◌, ℕ, suc, ◌+◌, ◌<◌, ◌≤◌, max, Bool, true, false, leb, List, [], ◌∷◌, ◌++◌, length, Option, Some, None, Result, Ok, Err, refl, ap, subst, ◌∙◌, length-append, arith}
+use Rattle.std.specs.Prelude.{if◌then◌else◌, ◌&&◌, nat_lt}
+use Rattle.std.proofs.lemmas.Bool.{and_parts, and_from, leb-true, ltb-true}
+use Rattle.std.proofs.lemmas.List.Elements.{All-append, All-from_recursion}
+use Rattle.regmodel.specs.declared.programs.Expr.{Expr}
+use Rattle.regmodel.specs.Limits.{target_fits, operand_fits, expr_fits, operands_fit, statements, open_blocks, open_repeats}
+use Rattle.regmodel.specs.Program as program
+use Rattle.regmodel.specs.Program.{Block, Stop}
+use Rattle.reglang.specs.Contents.{Contents, Body, Text, Kind, IsBodyWithin, AreWithin, clause_fits}
+use Rattle.reglang.specs.Drafts.{Frame, First, Second, Turn, Reading, Empty, Between, Inside, Used, ◌⊕◌, turns, enter, enter_else, leave, leave_if, leave_repeat, take_line, take_read, BlockFits, FramesFit, statements_around, ContentsFit, InsideFits, UsedFits, ReadingFits}
+use Rattle.reglang.specs.Forms.{read_line}
+use Rattle.reglang.specs.Uses.{is_between, use_fits}
+use Rattle.reglang.specs.declared.forms.Line.{Line}
+use Rattle.reglang.specs.declared.forms.Line.TheVariants as line
+use Rattle.reglang.specs.declared.uses.Use.{Use}
+use Rattle.reglang.proofs.ClausesFit.{IsLineFit, IsReadFit, read_fits}
+
+-- ---- blocks one after another
+
+both : (x y z : Bool) → x && (y && z) ≡ x && y && z
+both true y z = refl
+both false y z = refl
+
+pub operands-join : (a b : Block) → operands_fit (a ⊕ b) ≡ operands_fit a && operands_fit b
+operands-join Stop b = refl
+operands-join (program.Assign t e rest) b = ap (λ x. target_fits t && expr_fits e && x) (operands-join rest b) ∙ both (target_fits t && expr_fits e) (operands_fit rest) (operands_fit b)
+operands-join (program.Read t a rest) b = ap (λ x. target_fits t && operand_fits a && x) (operands-join rest b) ∙ both (target_fits t && operand_fits a) (operands_fit rest) (operands_fit b)
+operands-join (program.Write a e rest) b = ap (λ x. operand_fits a && expr_fits e && x) (operands-join rest b) ∙ both (operand_fits a && expr_fits e) (operands_fit rest) (operands_fit b)
+operands-join (program.If e first second rest) b = ap (λ x. expr_fits e && operands_fit first && operands_fit second && x) (operands-join rest b) ∙ both (expr_fits e && operands_fit first && operands_fit second) (operands_fit rest) (operands_fit b)
+operands-join (program.Repeat e body rest) b = ap (λ x. expr_fits e && operands_fit body && x) (operands-join rest b) ∙ both (expr_fits e && operands_fit body) (operands_fit rest) (operands_fit b)
+operands-join (program.Emit e rest) b = ap (λ x. expr_fits e && x) (operands-join rest b) ∙ both (expr_fits e) (operands_fit rest) (operands_fit b)
+operands-join (program.Halt rest) b = operands-join rest b
+
+pub statements-join : (a b : Block) → statements (a ⊕ b) ≡ statements a + statements b
+statements-join Stop b = omega arith
+statements-join (program.Assign t e rest) b = omega (arith, statements-join rest b)
+statements-join (program.Read t a rest) b = omega (arith, statements-join rest b)
+statements-join (program.Write a e rest) b = omega (arith, statements-join rest b)
+statements-join (program.If e first second rest) b = omega (arith, statements-join rest b)
+statements-join (program.Repeat e body rest) b = omega (arith, statements-join rest b)
+statements-join (program.Emit e rest) b = omega (arith, statements-join rest b)
+statements-join (program.Halt rest) b = omega (arith, statements-join rest b)
+
+pub open_blocks-join : (a b : Block) → open_blocks (a ⊕ b) ≡ max (open_blocks a) (open_blocks b)
+open_blocks-join Stop b = omega arith
+open_blocks-join (program.Assign t e rest) b = open_blocks-join rest b
+open_blocks-join (program.Read t a rest) b = open_blocks-join rest b
+open_blocks-join (program.Write a e rest) b = open_blocks-join rest b
+open_blocks-join (program.If e first second rest) b = omega (arith, open_blocks-join rest b)
+open_blocks-join (program.Repeat e body rest) b = omega (arith, open_blocks-join rest b)
+open_blocks-join (program.Emit e rest) b = open_blocks-join rest b
+open_blocks-join (program.Halt rest) b = open_blocks-join rest b
+
+pub open_repeats-join : (a b : Block) → open_repeats (a ⊕ b) ≡ max (open_repeats a) (open_repeats b)
+open_repeats-join Stop b = omega arith
+open_repeats-join (program.Assign t e rest) b = open_repeats-join rest b
+open_repeats-join (program.Read t a rest) b = open_repeats-join rest b
+open_repeats-join (program.Write a e rest) b = open_repeats-join rest b
+open_repeats-join (program.If e first second rest) b = omega (arith, open_repeats-join rest b)
+open_repeats-join (program.Repeat e body rest) b = omega (arith, open_repeats-join rest b)
+open_repeats-join (program.Emit e rest) b = open_repeats-join rest b
+open_repeats-join (program.Halt rest) b = open_repeats-join rest b
+
+fits_join : (blocks repeats : ℕ) (a b : Block) → BlockFits blocks repeats a → BlockFits blocks repeats b → BlockFits blocks repeats (a ⊕ b)
+fits_join blocks repeats a b h k =
+    let depth = open_blocks-join a b in
+    let turning = open_repeats-join a b in
+    let hd = h.depth in let kd = k.depth in let ht = h.turning in let kt = k.turning in
+    record { operands = operands-join a b ∙ and_from _ _ h.operands k.operands; depth = omega arith; turning = omega arith }
+
+-- ---- open blocks
+
+frames_join : (frames : List Frame) (block c : Block) → FramesFit frames block → BlockFits (length frames) (turns frames) c → FramesFit frames (block ⊕ c)
+frames_join [] block c h k = fits_join 0 0 block c h k
+frames_join (First test outer ∷ frames) block c h k = (h.0, (fits_join _ _ block c h.1.0 k, h.1.1))
+frames_join (Second test first outer ∷ frames) block c h k = (h.0, (h.1.0, (fits_join _ _ block c h.1.1.0 k, h.1.1.1)))
+frames_join (Turn count outer ∷ frames) block c h k = (h.0, (fits_join _ _ block c h.1.0 k, h.1.1))
+
+innermost : (frames : List Frame) (block : Block) → FramesFit frames block → BlockFits (length frames) (turns frames) block
+innermost [] block h = h
+innermost (First test outer ∷ frames) block h = h.1.0
+innermost (Second test first outer ∷ frames) block h = h.1.1.0
+innermost (Turn count outer ∷ frames) block h = h.1.0
+
+if_fits : (blocks repeats : ℕ) (test : Expr) (first second : Block) → expr_fits test ≡ true → BlockFits (suc blocks) repeats first → BlockFits (suc blocks) repeats second → BlockFits blocks repeats (program.If test first second Stop)
+if_fits blocks repeats test first second t f s =
+    let fd = f.depth in let sd = s.depth in let ft = f.turning in let st = s.turning in
+    record { operands = rw (t, f.operands, s.operands) refl; depth = omega arith; turning = omega arith }
+
+repeat_fits : (blocks repeats : ℕ) (count : Expr) (body : Block) → expr_fits count ≡ true → BlockFits (suc blocks) (suc repeats) body → BlockFits blocks repeats (program.Repeat count body Stop)
+repeat_fits blocks repeats count body t f =
+    let fd = f.depth in let ft = f.turning in
+    record { operands = rw (t, f.operands) refl; depth = omega arith; turning = omega arith }
+
+nothing_fits : (blocks repeats : ℕ) → blocks ≤ 16 → repeats ≤ 3 → BlockFits blocks repeats Stop
+nothing_fits blocks repeats h k = record { operands = refl; depth = omega arith; turning = omega arith }
+
+-- ---- one line more
+
+abbrev Fitting : Result Reading ℕ → Type 0
+Fitting (Ok next) = ReadingFits next
+Fitting (Err code) = Unit {0}
+
+chosen : (next : Reading) (t : Bool) (code : ℕ) → (t ≡ true → ReadingFits next) → Fitting (if t then Ok next else Err code)
+chosen next true code k = k refl
+chosen next false code k = tt
+
+added : (before : Contents) (frames : List Frame) (block : Block) (n : ℕ) (fits : Bool) (statement : Block) → InsideFits before frames block n → (fits ≡ true → operands_fit statement ≡ true) → open_blocks statement ≡ 0 → open_repeats statement ≡ 0 → statements statement ≡ 1 → Fitting (if nat_lt n 200 && fits then Ok (Inside before frames (block ⊕ statement) (suc n)) else Err 6)
+added before frames block n fits statement h operands blocks repeats one =
+    chosen (Inside before frames (block ⊕ statement) (suc n)) (nat_lt n 200 && fits) 6 (λ t.
+    let parts = and_parts (nat_lt n 200) fits t in
+    let room = ltb-true n 200 parts.0 in
+    let inner = innermost frames block h.nested in
+    let deep = inner.depth in let turning = inner.turning in
+    let count = h.count in
+    let sum = statements-join block statement in
+    record {
+      contents = h.contents;
+      room = h.room;
+      nested = frames_join frames block statement h.nested (record { operands = operands parts.1; depth = omega arith; turning = omega arith });
+      count = omega arith;
+      few = omega arith;
+    })
+
+entered : (before : Contents) (frame : Frame) (frames : List Frame) (block : Block) (n : ℕ) (fits : Bool) → InsideFits before frames block n → (fits ≡ true → length frames < 16 → FramesFit (frame ∷ frames) Stop) → statements_around (frame ∷ frames) ≡ suc (statements block + statements_around frames) → Fitting (enter before frame frames n fits)
+entered before frame frames block n fits h nested around =
+    chosen (Inside before (frame ∷ frames) Stop (suc n)) (nat_lt n 200 && fits && nat_lt (length frames) 16) 6 (λ t.
+    let parts = and_parts (nat_lt n 200 && fits) (nat_lt (length frames) 16) t in
+    let inner = and_parts (nat_lt n 200) fits parts.0 in
+    let room = ltb-true n 200 inner.0 in
+    let deep = ltb-true (length frames) 16 parts.1 in
+    let count = h.count in
+    record {
+      contents = h.contents;
+      room = h.room;
+      nested = nested inner.1 deep;
+      count = omega arith;
+      few = omega arith;
+    })
+
+elsed : (before : Contents) (frames : List Frame) (block : Block) (n : ℕ) → InsideFits before frames block n → Fitting (enter_else before frames block n)
+elsed before [] block n h = tt
+elsed before (First test outer ∷ frames) block n h =
+    let nested = h.nested in
+    let count = h.count in
+    let deep = nested.1.0.depth in
+    let turning = nested.1.0.turning in
+    record {
+      contents = h.contents;
+      room = h.room;
+      nested = (nested.0, (nested.1.0, (nothing_fits _ _ (omega arith) (omega arith), nested.1.1)));
+      count = omega arith;
+      few = h.few;
+    }
+elsed before (Second test first outer ∷ frames) block n h = tt
+elsed before (Turn count outer ∷ frames) block n h = tt
+
+fi_left : (before : Contents) (frames : List Frame) (block : Block) (n : ℕ) → InsideFits before frames block n → Fitting (leave_if before frames block n)
+fi_left before [] block n h = tt
+fi_left before (First test outer ∷ frames) block n h =
+    let nested = h.nested in
+    let count = h.count in
+    let deep = nested.1.0.depth in
+    let turning = nested.1.0.turning in
+    let sum = statements-join outer (program.If test block Stop Stop) in
+    record {
+      contents = h.contents;
+      room = h.room;
+      nested = frames_join frames outer (program.If test block Stop Stop) nested.1.1 (if_fits _ _ test block Stop nested.0 nested.1.0 (nothing_fits _ _ (omega arith) (omega arith)));
+      count = omega arith;
+      few = h.few;
+    }
+fi_left before (Second test first outer ∷ frames) block n h =
+    let nested = h.nested in
+    let count = h.count in
+    let sum = statements-join outer (program.If test first block Stop) in
+    record {
+      contents = h.contents;
+      room = h.room;
+      nested = frames_join frames outer (program.If test first block Stop) nested.1.1.1 (if_fits _ _ test first block nested.0 nested.1.0 nested.1.1.0);
+      count = omega arith;
+      few = h.few;
+    }
+fi_left before (Turn count outer ∷ frames) block n h = tt
+
+done_left : (before : Contents) (frames : List Frame) (block : Block) (n : ℕ) → InsideFits before frames block n → Fitting (leave_repeat before frames block n)
+done_left before [] block n h = tt
+done_left before (First test outer ∷ frames) block n h = tt
+done_left before (Second test first outer ∷ frames) block n h = tt
+done_left before (Turn times outer ∷ frames) block n h =
+    let nested = h.nested in
+    let count = h.count in
+    let sum = statements-join outer (program.Repeat times block Stop) in
+    record {
+      contents = h.contents;
+      room = h.room;
+      nested = frames_join frames outer (program.Repeat times block Stop) nested.1.1 (repeat_fits _ _ times block nested.0 nested.1.0);
+      count = omega arith;
+      few = h.few;
+    }
+
+-- one more process
+process_more : (before : Contents) (body : Body) → ContentsFit before → length before.processes < 8 → IsBodyWithin before.registers body → ContentsFit (record before { processes = before.processes ++ body ∷ [] })
+process_more before body h room k =
+    let count = length-append before.processes (body ∷ []) in
+    record {
+      some_register = h.some_register;
+      few_registers = h.few_registers;
+      few_processes = omega arith;
+      processes = All-append (IsBodyWithin before.registers) before.processes (body ∷ []) h.processes (All-from_recursion (IsBodyWithin before.registers) (body ∷ []) (k, tt));
+      few_clauses = h.few_clauses;
+      clauses_fit = h.clauses_fit;
+    }
+
+ended : (before : Contents) (frames : List Frame) (block : Block) (n : ℕ) → InsideFits before frames block n → Fitting (leave before frames block)
+ended before [] block n h =
+    let nested = h.nested in
+    let count = h.count in
+    let few = h.few in
+    let deep = nested.depth in
+    let turning = nested.turning in
+    process_more before (Text block) h.contents h.room
+    (record { some_register = h.contents.some_register; registers = h.contents.few_registers; operands = nested.operands; statements = omega arith; open_blocks = omega arith; open_repeats = omega arith })
+ended before (frame ∷ frames) block n h = tt
+
+stood : (before : Contents) (frames : List Frame) (block : Block) (n : ℕ) (kind : Use) (t : Bool) → InsideFits before frames block n → Fitting (if t then Err 5 else (if use_fits kind before.registers then Ok (Used before kind) else Err 6))
+stood before frames block n kind true h = tt
+stood before frames block n kind false h =
+    chosen (Used before kind) (use_fits kind before.registers) 6 (λ k. record { contents = h.contents; room = h.room; fits = k })
+
+turned : (before : Contents) (frames : List Frame) (block : Block) (n : ℕ) (count : Expr) → InsideFits before frames block n → expr_fits count && nat_lt (turns frames) 3 ≡ true → length frames < 16 → FramesFit (Turn count block ∷ frames) Stop
+turned before frames block n count h k deep =
+    let parts = and_parts (expr_fits count) (nat_lt (turns frames) 3) k in
+    let few = ltb-true (turns frames) 3 parts.1 in
+    (parts.0, (nothing_fits _ _ (omega arith) (omega arith), h.nested))
+
+tested : (before : Contents) (frames : List Frame) (block : Block) (n : ℕ) (test : Expr) → InsideFits before frames block n → expr_fits test ≡ true → length frames < 16 → FramesFit (First test block ∷ frames) Stop
+tested before frames block n test h k deep =
+    let turning = (innermost frames block h.nested).turning in
+    (k, (nothing_fits _ _ (omega arith) (omega arith), h.nested))
+
+and_true : (x : Bool) → x ≡ true → x && true ≡ true
+and_true x h = ap (λ y. y && true) h
+
+inside : (before : Contents) (frames : List Frame) (block : Block) (n : ℕ) (l : Line) → InsideFits before frames block n → Fitting (take_line (Inside before frames block n) l)
+inside before frames block n (line.Registers r) h = tt
+inside before frames block n line.Process h = tt
+inside before frames block n (line.Check clause) h = tt
+inside before frames block n (line.Set to value) h = added before frames block n (target_fits to && expr_fits value) (program.Assign to value Stop) h (and_true _) refl refl refl
+inside before frames block n (line.Read to from) h = added before frames block n (target_fits to && operand_fits from) (program.Read to from Stop) h (and_true _) refl refl refl
+inside before frames block n (line.Write to value) h = added before frames block n (operand_fits to && expr_fits value) (program.Write to value Stop) h (and_true _) refl refl refl
+inside before frames block n (line.Emit value) h = added before frames block n (expr_fits value) (program.Emit value Stop) h (and_true _) refl refl refl
+inside before frames block n line.Halt h = added before frames block n true (program.Halt Stop) h (λ k. refl) refl refl refl
+inside before frames block n (line.If test) h = entered before (First test block) frames block n (expr_fits test) h (tested before frames block n test h) refl
+inside before frames block n (line.Repeat count) h = entered before (Turn count block) frames block n (expr_fits count && nat_lt (turns frames) 3) h (turned before frames block n count h) refl
+inside before frames block n line.Else h = elsed before frames block n h
+inside before frames block n line.Fi h = fi_left before frames block n h
+inside before frames block n line.Done h = done_left before frames block n h
+inside before frames block n line.End h = ended before frames block n h
+inside before frames block n (line.Use kind) h = stood before frames block n kind (nat_lt 0 n) h
+
+begins : (l : Line) → Fitting (take_line Empty l)
+begins (line.Registers n) =
+    chosen (Between (record { registers = n; processes = []; clauses = [] })) (is_between 1 64 n) 6 (λ t.
+    let parts = and_parts (leb 1 n) (leb n 64) t in
+    let low = leb-true 1 n parts.0 in
+    let high = leb-true n 64 parts.1 in
+    record {
+      some_register = omega arith;
+      few_registers = high;
+      few_processes = omega arith;
+      processes = All-from_recursion (IsBodyWithin n) [] tt;
+      few_clauses = omega arith;
+      clauses_fit = All-from_recursion (λ clause. clause_fits clause ≡ true) [] tt;
+    })
+begins line.Process = tt
+begins line.End = tt
+begins (line.Set to value) = tt
+begins (line.Read to from) = tt
+begins (line.Write to value) = tt
+begins (line.If test) = tt
+begins line.Else = tt
+begins line.Fi = tt
+begins (line.Repeat count) = tt
+begins line.Done = tt
+begins (line.Emit value) = tt
+begins line.Halt = tt
+begins (line.Use kind) = tt
+begins (line.Check clause) = tt
+
+refused : (t : Bool) → Fitting (if t then Err 8 else Err 6)
+refused true = tt
+refused false = tt
+
+between : (before : Contents) (l : Line) → ContentsFit before → IsLineFit l → Fitting (take_line (Between before) l)
+between before line.Process h k =
+    chosen (Inside before [] Stop 0) (nat_lt (length before.processes) 8) 6 (λ t.
+    record { contents = h; room = ltb-true _ 8 t; nested = nothing_fits 0 0 (omega arith) (omega arith); count = omega arith; few = omega arith })
+between before (line.Check (Some clause)) h k =
+    chosen (Between (record before { clauses = before.clauses ++ clause ∷ [] })) (nat_lt (length before.clauses) 16) 6 (λ t.
+    let room = ltb-true (length before.clauses) 16 t in
+    let count = length-append before.clauses (clause ∷ []) in
+    record {
+      some_register = h.some_register;
+      few_registers = h.few_registers;
+      few_processes = h.few_processes;
+      processes = h.processes;
+      few_clauses = omega arith;
+      clauses_fit = All-append (λ clause. clause_fits clause ≡ true) before.clauses (clause ∷ []) h.clauses_fit (All-from_recursion (λ clause. clause_fits clause ≡ true) (clause ∷ []) (k, tt));
+    })
+between before (line.Check None) h k = refused (nat_lt (length before.clauses) 16)
+between before (line.Registers n) h k = tt
+between before line.End h k = tt
+between before (line.Set to value) h k = tt
+between before (line.Read to from) h k = tt
+between before (line.Write to value) h k = tt
+between before (line.If test) h k = tt
+between before line.Else h k = tt
+between before line.Fi h k = tt
+between before (line.Repeat count) h k = tt
+between before line.Done h k = tt
+between before (line.Emit value) h k = tt
+between before line.Halt h k = tt
+between before (line.Use kind) h k = tt
+
+used : (before : Contents) (kind : Use) (l : Line) → UsedFits before kind → Fitting (take_line (Used before kind) l)
+used before kind line.End h = process_more before (Kind kind) h.contents h.room h.fits
+used before kind (line.Registers n) h = tt
+used before kind line.Process h = tt
+used before kind (line.Set to value) h = tt
+used before kind (line.Read to from) h = tt
+used before kind (line.Write to value) h = tt
+used before kind (line.If test) h = tt
+used before kind line.Else h = tt
+used before kind line.Fi h = tt
+used before kind (line.Repeat count) h = tt
+used before kind line.Done h = tt
+used before kind (line.Emit value) h = tt
+used before kind line.Halt h = tt
+used before kind (line.Use other) h = tt
+used before kind (line.Check clause) h = tt
+
+line_fits : (reading : Reading) (l : Line) → ReadingFits reading → IsLineFit l → Fitting (take_line reading l)
+line_fits Empty l h k = begins l
+line_fits (Between before) l h k = between before l h k
+line_fits (Inside before frames block n) l h k = inside before frames block n l h
+line_fits (Used before kind) l h k = used before kind l h
+
+taken_fits : (reading : Reading) (read : Result (Option Line) ℕ) → ReadingFits reading → IsReadFit read → Fitting (take_read reading read)
+taken_fits reading (Ok (Some l)) h k = line_fits reading l h k
+taken_fits reading (Ok None) h k = h
+taken_fits reading (Err code) h k = tt
+
+-- what was taken is within the limits
+pub read_on_fits : (reading next : Reading) (bytes : List ℕ) → ReadingFits reading → take_read reading (read_line bytes) ≡ Ok next → ReadingFits next
+read_on_fits reading next bytes h e = subst Fitting e (taken_fits reading (read_line bytes) h (read_fits bytes))
+
+-- and so is what was read in the end
+pub end_fits : (before : Contents) → ContentsFit before → 0 < length before.processes → AreWithin before
+end_fits before h some = record {
+  some_register = h.some_register;
+  few_registers = h.few_registers;
+  some_process = some;
+  few_processes = h.few_processes;
+  processes = h.processes;
+  few_clauses = h.few_clauses;
+  clauses_fit = h.clauses_fit;
+}

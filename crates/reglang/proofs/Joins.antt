@@ -1,0 +1,41 @@
+-- Blocks one after another.
+use Rattle.std.proofs.Common.{◌≡◌, List, [], ◌∷◌, ◌++◌, refl, ap, ◌∙◌}
+use Rattle.regmodel.specs.declared.programs.Stmt.{Stmt}
+use Rattle.regmodel.specs.declared.programs.Stmt.TheVariants as stmt
+use Rattle.regmodel.specs.Program.{Block, Stop, Assign, Read, Write, If, Repeat, Emit, Halt, block_of, with_stmt}
+use Rattle.reglang.specs.Drafts.{◌⊕◌}
+
+-- a statement before a block
+pub with_stmt-join : (s : Stmt) (a b : Block) → with_stmt s (a ⊕ b) ≡ with_stmt s a ⊕ b
+with_stmt-join (stmt.Assign t e) a b = refl
+with_stmt-join (stmt.Read t o) a b = refl
+with_stmt-join (stmt.Write o e) a b = refl
+with_stmt-join (stmt.If' e m first k second) a b = refl
+with_stmt-join (stmt.Repeat' e m body) a b = refl
+with_stmt-join (stmt.Emit e) a b = refl
+with_stmt-join stmt.Halt a b = refl
+
+-- a statement after a list of them
+pub block_of-push : (xs : List Stmt) (s : Stmt) → block_of (xs ++ s ∷ []) ≡ block_of xs ⊕ with_stmt s Stop
+block_of-push [] s = refl
+block_of-push (x ∷ xs) s = ap (with_stmt x) (block_of-push xs s) ∙ with_stmt-join x (block_of xs) (with_stmt s Stop)
+
+pub join-stop : (a : Block) → a ⊕ Stop ≡ a
+join-stop Stop = refl
+join-stop (Assign t e rest) = ap (Assign t e) (join-stop rest)
+join-stop (Read t o rest) = ap (Read t o) (join-stop rest)
+join-stop (Write o e rest) = ap (Write o e) (join-stop rest)
+join-stop (If e first second rest) = ap (If e first second) (join-stop rest)
+join-stop (Repeat e body rest) = ap (Repeat e body) (join-stop rest)
+join-stop (Emit e rest) = ap (Emit e) (join-stop rest)
+join-stop (Halt rest) = ap Halt (join-stop rest)
+
+pub join-assoc : (a b c : Block) → (a ⊕ b) ⊕ c ≡ a ⊕ (b ⊕ c)
+join-assoc Stop b c = refl
+join-assoc (Assign t e rest) b c = ap (Assign t e) (join-assoc rest b c)
+join-assoc (Read t o rest) b c = ap (Read t o) (join-assoc rest b c)
+join-assoc (Write o e rest) b c = ap (Write o e) (join-assoc rest b c)
+join-assoc (If e first second rest) b c = ap (If e first second) (join-assoc rest b c)
+join-assoc (Repeat e body rest) b c = ap (Repeat e body) (join-assoc rest b c)
+join-assoc (Emit e rest) b c = ap (Emit e) (join-assoc rest b c)
+join-assoc (Halt rest) b c = ap Halt (join-assoc rest b c)

@@ -1,0 +1,231 @@
+-- What was read tells where the next line stands, and reading by whole values finds the first fault.
+use Rattle.std.proofs.Common.{◌≡◌, ℕ, suc, Bool, true, false, not, List, [], ◌∷◌, ◌++◌, length, map, Option, Some, None, Result, Ok, Err, refl, ap, sym, ◌∙◌, length-append, arith}
+use Rattle.std.specs.Prelude.{if◌then◌else◌, ◌&&◌, nat_lt, max}
+use Rattle.std.proofs.lemmas.Bool.{lt-ltb}
+use Rattle.std.proofs.lemmas.List.{append-nil, length-map}
+use Rattle.std.proofs.lemmas.Grind.{flat_map-append}
+use Rattle.regmodel.specs.declared.clauses.Clause.{Clause}
+use Rattle.regmodel.specs.Limits.{target_fits, operand_fits, expr_fits}
+use Rattle.regmodel.specs.Program as program
+use Rattle.regmodel.specs.Program.{Block}
+use Rattle.reglang.specs.Contents.{Contents, Text, Kind}
+use Rattle.reglang.specs.Drafts.{Frame, First, Second, Turn, opened_of, Reading, Empty, Between, Inside, Used, ◌⊕◌, turns, enter, enter_else, leave, leave_if, leave_repeat, take_line, take_read, finished, read_from, faulty_at, goes_on}
+use Rattle.reglang.specs.Faults as faults
+use Rattle.reglang.specs.Faults.{Standing, at_start, stands_after, stands_after_all, standing_after, line_fault, fault_of, end_fault, at_line, or_later, fault_from, first_fault}
+use Rattle.reglang.specs.Forms.{read_line}
+use Rattle.reglang.specs.Grammar.{said, told}
+use Rattle.reglang.specs.Uses.{is_between, use_fits}
+use Rattle.reglang.specs.declared.forms.Line.{Line}
+use Rattle.reglang.specs.declared.forms.Line.TheVariants as line
+use Rattle.reglang.specs.declared.reader.ReadFault.{ReadFault}
+use Rattle.reglang.specs.declared.uses.Use.{Use}
+
+-- where the next line stands
+abbrev pub standing_of : Reading → Standing
+standing_of Empty = at_start
+standing_of (Between before) = record { registers = Some before.registers; processes = length before.processes; checks = length before.clauses; place = faults.Outside }
+standing_of (Inside before frames block n) = record { registers = Some before.registers; processes = suc (length before.processes); checks = length before.clauses; place = faults.Inside (map opened_of frames) n }
+standing_of (Used before kind) = record { registers = Some before.registers; processes = suc (length before.processes); checks = length before.clauses; place = faults.Used }
+
+-- what was taken had no fault, and leads where its line leads; what was not had just this fault
+abbrev Steps : Reading → Line → Result Reading ℕ → Type 0
+Steps reading line (Ok next) = (line_fault (standing_of reading) line ≡ None) × (standing_of next ≡ stands_after line (standing_of reading))
+Steps reading line (Err code) = line_fault (standing_of reading) line ≡ Some code
+
+limited : (reading : Reading) (line : Line) (next : Reading) (t : Bool) → line_fault (standing_of reading) line ≡ (if not t then Some 6 else None) → standing_of next ≡ stands_after line (standing_of reading) → Steps reading line (if t then Ok next else Err 6)
+limited reading line next true f s = (f, s)
+limited reading line next false f s = f
+
+one_more : {A : Type 0} (xs : List A) (x : A) → length (xs ++ x ∷ []) ≡ suc (length xs)
+one_more xs x = length-append xs (x ∷ []) ∙ omega arith
+
+begins : (l : Line) → Steps Empty l (take_line Empty l)
+begins (line.Registers n) = limited Empty (line.Registers n) _ (is_between 1 64 n) refl refl
+begins line.Process = refl
+begins line.End = refl
+begins (line.Set to value) = refl
+begins (line.Read to from) = refl
+begins (line.Write to value) = refl
+begins (line.If test) = refl
+begins line.Else = refl
+begins line.Fi = refl
+begins (line.Repeat count) = refl
+begins line.Done = refl
+begins (line.Emit value) = refl
+begins line.Halt = refl
+begins (line.Use kind) = refl
+begins (line.Check clause) = refl
+
+abbrev outside : ℕ → ℕ → ℕ → Standing
+outside registers processes checks = record { registers = Some registers; processes = processes; checks = checks; place = faults.Outside }
+
+no_clause : (before : Contents) (t : Bool) → nat_lt (length before.clauses) 16 ≡ t → Steps (Between before) (line.Check None) (if t then Err 8 else Err 6)
+no_clause before true h = ap (λ t. if not t then Some 6 else Some 8) h
+no_clause before false h = ap (λ t. if not t then Some 6 else Some 8) h
+
+checked : (before : Contents) (clause : Option Clause) → Steps (Between before) (line.Check clause) (take_line (Between before) (line.Check clause))
+checked before (Some clause) =
+    limited (Between before) (line.Check (Some clause)) _ (nat_lt (length before.clauses) 16) refl
+    (ap (outside before.registers (length before.processes)) (one_more before.clauses clause))
+checked before None = no_clause before (nat_lt (length before.clauses) 16) refl
+
+between : (before : Contents) (l : Line) → Steps (Between before) l (take_line (Between before) l)
+between before (line.Registers n) = refl
+between before line.Process = limited (Between before) line.Process _ (nat_lt (length before.processes) 8) refl refl
+between before line.End = refl
+between before (line.Set to value) = refl
+between before (line.Read to from) = refl
+between before (line.Write to value) = refl
+between before (line.If test) = refl
+between before line.Else = refl
+between before line.Fi = refl
+between before (line.Repeat count) = refl
+between before line.Done = refl
+between before (line.Emit value) = refl
+between before line.Halt = refl
+between before (line.Use kind) = refl
+between before (line.Check clause) = checked before clause
+
+entered : (before : Contents) (frames : List Frame) (block : Block) (n : ℕ) (l : Line) (frame : Frame) (fits : Bool) →
+    line_fault (standing_of (Inside before frames block n)) l ≡ (if not (nat_lt n 200 && fits && nat_lt (length (map opened_of frames)) 16) then Some 6 else None) →
+    standing_of (Inside before (frame ∷ frames) program.Stop (suc n)) ≡ stands_after l (standing_of (Inside before frames block n)) →
+    Steps (Inside before frames block n) l (enter before frame frames n fits)
+entered before frames block n l frame fits f s =
+    limited (Inside before frames block n) l _ (nat_lt n 200 && fits && nat_lt (length frames) 16)
+    (f ∙ ap (λ m. if not (nat_lt n 200 && fits && nat_lt m 16) then Some 6 else None) (length-map frames opened_of)) s
+
+elsed : (before : Contents) (frames : List Frame) (block : Block) (n : ℕ) → Steps (Inside before frames block n) line.Else (enter_else before frames block n)
+elsed before [] block n = refl
+elsed before (First test outer ∷ frames) block n = (refl, refl)
+elsed before (Second test first outer ∷ frames) block n = refl
+elsed before (Turn count outer ∷ frames) block n = refl
+
+fi_left : (before : Contents) (frames : List Frame) (block : Block) (n : ℕ) → Steps (Inside before frames block n) line.Fi (leave_if before frames block n)
+fi_left before [] block n = refl
+fi_left before (First test outer ∷ frames) block n = (refl, refl)
+fi_left before (Second test first outer ∷ frames) block n = (refl, refl)
+fi_left before (Turn count outer ∷ frames) block n = refl
+
+done_left : (before : Contents) (frames : List Frame) (block : Block) (n : ℕ) → Steps (Inside before frames block n) line.Done (leave_repeat before frames block n)
+done_left before [] block n = refl
+done_left before (First test outer ∷ frames) block n = refl
+done_left before (Second test first outer ∷ frames) block n = refl
+done_left before (Turn count outer ∷ frames) block n = (refl, refl)
+
+ended : (before : Contents) (frames : List Frame) (block : Block) (n : ℕ) → Steps (Inside before frames block n) line.End (leave before frames block)
+ended before [] block n = (refl, ap (λ m. outside before.registers m (length before.clauses)) (one_more before.processes (Text block)))
+ended before (frame ∷ frames) block n = ap (λ t. if t then Some 5 else None) (lt-ltb 0 (suc (length (map opened_of frames))) (omega arith))
+
+stood : (before : Contents) (frames : List Frame) (block : Block) (n : ℕ) (kind : Use) (t : Bool) → nat_lt 0 n ≡ t → Steps (Inside before frames block n) (line.Use kind) (if t then Err 5 else (if use_fits kind before.registers then Ok (Used before kind) else Err 6))
+stood before frames block n kind true h = ap (λ t. if t then Some 5 else (if not (use_fits kind before.registers) then Some 6 else None)) h
+stood before frames block n kind false h =
+    limited (Inside before frames block n) (line.Use kind) _ (use_fits kind before.registers)
+    (ap (λ t. if t then Some 5 else (if not (use_fits kind before.registers) then Some 6 else None)) h) refl
+
+halted : (before : Contents) (frames : List Frame) (block : Block) (n : ℕ) (t : Bool) → nat_lt n 200 ≡ t → Steps (Inside before frames block n) line.Halt (if t && true then Ok (Inside before frames (block ⊕ program.Halt program.Stop) (suc n)) else Err 6)
+halted before frames block n true h = (ap (λ t. if not t then Some 6 else None) h, refl)
+halted before frames block n false h = ap (λ t. if not t then Some 6 else None) h
+
+inside : (before : Contents) (frames : List Frame) (block : Block) (n : ℕ) (l : Line) → Steps (Inside before frames block n) l (take_line (Inside before frames block n) l)
+inside before frames block n (line.Registers r) = refl
+inside before frames block n line.Process = refl
+inside before frames block n (line.Check clause) = refl
+inside before frames block n (line.Set to value) = limited (Inside before frames block n) (line.Set to value) _ (nat_lt n 200 && (target_fits to && expr_fits value)) refl refl
+inside before frames block n (line.Read to from) = limited (Inside before frames block n) (line.Read to from) _ (nat_lt n 200 && (target_fits to && operand_fits from)) refl refl
+inside before frames block n (line.Write to value) = limited (Inside before frames block n) (line.Write to value) _ (nat_lt n 200 && (operand_fits to && expr_fits value)) refl refl
+inside before frames block n (line.Emit value) = limited (Inside before frames block n) (line.Emit value) _ (nat_lt n 200 && expr_fits value) refl refl
+inside before frames block n line.Halt = halted before frames block n (nat_lt n 200) refl
+inside before frames block n (line.If test) = entered before frames block n (line.If test) (First test block) (expr_fits test) refl refl
+inside before frames block n (line.Repeat count) = entered before frames block n (line.Repeat count) (Turn count block) (expr_fits count && nat_lt (turns frames) 3) refl refl
+inside before frames block n line.Else = elsed before frames block n
+inside before frames block n line.Fi = fi_left before frames block n
+inside before frames block n line.Done = done_left before frames block n
+inside before frames block n line.End = ended before frames block n
+inside before frames block n (line.Use kind) = stood before frames block n kind (nat_lt 0 n) refl
+
+used : (before : Contents) (kind : Use) (l : Line) → Steps (Used before kind) l (take_line (Used before kind) l)
+used before kind (line.Registers n) = refl
+used before kind line.Process = refl
+used before kind line.End = (refl, ap (λ m. outside before.registers m (length before.clauses)) (one_more before.processes (Kind kind)))
+used before kind (line.Set to value) = refl
+used before kind (line.Read to from) = refl
+used before kind (line.Write to value) = refl
+used before kind (line.If test) = refl
+used before kind line.Else = refl
+used before kind line.Fi = refl
+used before kind (line.Repeat count) = refl
+used before kind line.Done = refl
+used before kind (line.Emit value) = refl
+used before kind line.Halt = refl
+used before kind (line.Use other) = refl
+used before kind (line.Check clause) = refl
+
+steps : (reading : Reading) (l : Line) → Steps reading l (take_line reading l)
+steps Empty l = begins l
+steps (Between before) l = between before l
+steps (Inside before frames block n) l = inside before frames block n l
+steps (Used before kind) l = used before kind l
+
+-- the same of a line as it was read
+abbrev StepsRead : Reading → Result (Option Line) ℕ → Result Reading ℕ → Type 0
+StepsRead reading read (Ok next) = (fault_of (standing_of reading) read ≡ None) × (standing_of next ≡ stands_after_all (told read) (standing_of reading))
+StepsRead reading read (Err code) = fault_of (standing_of reading) read ≡ Some code
+
+read_as : (reading : Reading) (l : Line) (result : Result Reading ℕ) → Steps reading l result → StepsRead reading (Ok (Some l)) result
+read_as reading l (Ok next) h = h
+read_as reading l (Err code) h = h
+
+steps_read : (reading : Reading) (read : Result (Option Line) ℕ) → StepsRead reading read (take_read reading read)
+steps_read reading (Ok (Some l)) = read_as reading l (take_line reading l) (steps reading l)
+steps_read reading (Ok None) = (refl, refl)
+steps_read reading (Err code) = refl
+
+after_append : (xs ys : List Line) (standing : Standing) → stands_after_all (xs ++ ys) standing ≡ stands_after_all ys (stands_after_all xs standing)
+after_append [] ys standing = refl
+after_append (x ∷ xs) ys standing = after_append xs ys (stands_after x standing)
+
+-- one line more before the next
+standing_more : (before : List (List ℕ)) (l : List ℕ) → standing_after (before ++ l ∷ []) ≡ stands_after_all (told (read_line l)) (standing_after before)
+standing_more before l =
+    ap (λ lines. stands_after_all lines at_start) (flat_map-append (λ l. told (read_line l)) before (l ∷ []))
+    ∙ (after_append (said before) (told (read_line l) ++ []) at_start
+    ∙ ap (λ lines. stands_after_all lines (standing_after before)) (append-nil (told (read_line l))))
+
+-- what was read at the end, or the end's fault
+abbrev Ends : Reading → Result Contents ℕ → Type 0
+Ends reading (Ok contents) = end_fault (standing_of reading) ≡ None
+Ends reading (Err code) = end_fault (standing_of reading) ≡ Some code
+
+ends_between : (before : Contents) (t : Bool) → nat_lt 0 (length before.processes) ≡ t → Ends (Between before) (if t then Ok before else Err 6)
+ends_between before true h = ap (λ t. if t then None else Some 6) h
+ends_between before false h = ap (λ t. if t then None else Some 6) h
+
+ends : (reading : Reading) → Ends reading (finished reading)
+ends Empty = refl
+ends (Between before) = ends_between before (nat_lt 0 (length before.processes)) refl
+ends (Inside before frames block n) = refl
+ends (Used before kind) = refl
+
+-- the answer of a whole text goes with its first fault
+abbrev pub Agrees : Result Contents ReadFault → Option ReadFault → Type 0
+Agrees (Ok contents) fault = fault ≡ None
+Agrees (Err f) fault = fault ≡ Some f
+
+end_agrees : (reading : Reading) (n number : ℕ) (standing : Standing) → standing_of reading ≡ standing → n ≡ number → (result : Result Contents ℕ) → Ends reading result → Agrees (faulty_at (max 1 n) result) (at_line (max 1 number) (end_fault standing))
+end_agrees reading n number standing s e (Ok contents) h = rw (← s, h) refl
+end_agrees reading n number standing s e (Err code) h = rw (← s, h, ← e) refl
+
+reads_on : (reading : Reading) (before : List (List ℕ)) (n : ℕ) (l : List ℕ) (lines : List (List ℕ)) → standing_of reading ≡ standing_after before → n ≡ length before →
+    ((next : Reading) → standing_of next ≡ standing_after (before ++ l ∷ []) → Agrees (read_from next (suc n) lines) (fault_from (before ++ l ∷ []) lines)) →
+    (result : Result Reading ℕ) → StepsRead reading (read_line l) result →
+    Agrees (goes_on (faulty_at (suc n) result) (λ next. read_from next (suc n) lines)) (or_later (at_line (suc (length before)) (fault_of (standing_after before) (read_line l))) (fault_from (before ++ l ∷ []) lines))
+reads_on reading before n l lines s e later (Ok next) h =
+    rw (← s, h.0) (later next (h.1 ∙ (ap (stands_after_all (told (read_line l))) s ∙ sym (standing_more before l))))
+reads_on reading before n l lines s e later (Err code) h = rw (← s, h, ← e) refl
+
+-- reading by whole values finds the first fault, where it stands as the lines before say
+pub reads_first : (reading : Reading) (before : List (List ℕ)) (n : ℕ) (lines : List (List ℕ)) → standing_of reading ≡ standing_after before → n ≡ length before → Agrees (read_from reading n lines) (fault_from before lines)
+reads_first reading before n [] s e = end_agrees reading n (length before) (standing_after before) s e (finished reading) (ends reading)
+reads_first reading before n (l ∷ lines) s e =
+    reads_on reading before n l lines s e (λ next t. reads_first next (before ++ l ∷ []) (suc n) lines t (ap suc e ∙ sym (one_more before l)))
+    (take_read reading (read_line l)) (steps_read reading (read_line l))

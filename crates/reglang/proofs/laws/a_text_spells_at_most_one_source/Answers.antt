@@ -1,0 +1,8 @@
+use Rattle.reglang.proofs.Spelled.{one_source, faultless}
+use Rattle.reglang.proofs.laws.a_text_spells_at_most_one_source.Goals as goal
+
+pub returns-clause-one : goal.returns-clause-one
+returns-clause-one c = one_source
+
+pub returns-clause-faultless : goal.returns-clause-faultless
+returns-clause-faultless c = faultless

@@ -1,0 +1,41 @@
+use Rattle.std.proofs.Common.{◌≡◌, Err, length, max, ◌∙◌, ap, arith}
+use Rattle.reglang.proofs.Fits.{read_on_fits}
+use Rattle.reglang.proofs.Spelled.{IsCut, left_next, left_refused, left_ended, read_spells, read_fails}
+use Rattle.reglang.proofs.reader.read_source.Goals as goal
+
+pub returns-in-Err-clause-first_fault : goal.returns-in-Err-clause-first_fault
+returns-in-Err-clause-first_fault c = λ other.
+    let cut : IsCut c.loop-bytes.rest.now c.in-Some.bytes.now c.in-Some.after.now = record { cut = c.in-Some.ensures.0 } in
+    (read_fails c.args.text.now _ (left_refused _ _ _ _ _ _ c.in-Err.refusal _ c.loop-bytes.invariant.left cut c.in-Err.ensures c.fault.ensures other)).0
+
+pub returns-in-Err-clause-not_spelled : goal.returns-in-Err-clause-not_spelled
+returns-in-Err-clause-not_spelled c = λ other.
+    let cut : IsCut c.loop-bytes.rest.now c.in-Some.bytes.now c.in-Some.after.now = record { cut = c.in-Some.ensures.0 } in
+    (read_fails c.args.text.now _ (left_refused _ _ _ _ _ _ c.in-Err.refusal _ c.loop-bytes.invariant.left cut c.in-Err.ensures c.fault.ensures other)).1
+
+pub loop-bytes-preserved : goal.loop-bytes-preserved
+loop-bytes-preserved c =
+    let cut : IsCut c.loop-bytes.rest.now c.in-Some.bytes.now c.in-Some.after.now = record { cut = c.in-Some.ensures.0 } in
+    let shorter = c.in-Some.ensures.1 in
+    let counted = c.loop-bytes.invariant.counted in
+    let short = c.loop-bytes.invariant.short in
+    let fewer = ap length cut.cut in
+    record {
+      fits = read_on_fits _ _ c.in-Some.bytes.now c.loop-bytes.invariant.fits c.in-Ok.ensures;
+      left = left_next _ _ _ _ _ _ _ c.loop-bytes.invariant.left cut c.in-Ok.ensures;
+      counted = omega arith;
+      short = omega arith;
+    }
+
+pub returns-in-Ok-finish-clause-spelled : goal.returns-in-Ok-finish-clause-spelled
+returns-in-Ok-finish-clause-spelled c =
+    read_spells c.args.text.now _ (left_ended _ _ _ _ _ c.loop-bytes.invariant.left c.in_default.ensures c.in-Ok-finish.ensures)
+
+pub returns-in-Err-finish-clause-first_fault : goal.returns-in-Err-finish-clause-first_fault
+returns-in-Err-finish-clause-first_fault c = λ other.
+    let number : max 1 c.loop-bytes.line ≡ c.max.result = omega (arith, c.max.ensures) in
+    (read_fails c.args.text.now _ (left_ended _ _ _ _ _ c.loop-bytes.invariant.left c.in_default.ensures c.in-Err-finish.ensures ∙ ap (λ n. Err (record { line = n; code = c.in-Err-finish.code })) number)).0
+
+pub returns-in-Err-finish-clause-not_spelled : goal.returns-in-Err-finish-clause-not_spelled
+returns-in-Err-finish-clause-not_spelled c = λ other.
+    (read_fails c.args.text.now _ (left_ended _ _ _ _ _ c.loop-bytes.invariant.left c.in_default.ensures c.in-Err-finish.ensures)).1

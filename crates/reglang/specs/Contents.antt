@@ -1,0 +1,66 @@
+-- What a source says.
+use Rattle.std.specs.Prelude.{◌≡◌, ℕ, ◌<◌, ◌≤◌, ◌==◌, ◌&&◌, Bool, true, List, length, map, All, nat_le}
+use Rattle.regmodel.specs.declared.clauses.Clause.{Clause}
+use Rattle.regmodel.specs.declared.clauses.Clause.TheVariants as clause
+use Rattle.regmodel.specs.Limits.{IsWithin}
+use Rattle.regmodel.specs.Program.{Block, Program, block_of}
+use Rattle.reglang.specs.Expansions.{expansion}
+use Rattle.reglang.specs.Uses.{use_fits}
+use Rattle.reglang.specs.declared.uses.Use.{Use}
+use Rattle.reglang.specs.declared.source.Process.{Process}
+use Rattle.reglang.specs.declared.source.Process.TheVariants as process
+
+-- what a process runs: its own statements, or what a use line stands for
+pub data Body : Type 0 where
+  Text : (block : Block) → Body
+  Kind : (kind : Use) → Body
+
+-- it runs statements of its own
+abbrev pub IsText : Body → Type 0
+IsText (Text block) = Unit {0}
+IsText (Kind kind) = ⊥
+
+-- a source: its registers, its processes from process 0, its clauses in their order
+pub record Contents : Type 0 where
+  pub registers : ℕ
+  pub processes : List Body
+  pub clauses : List Clause
+
+-- the program of a process over so many registers
+abbrev pub program_over : ℕ → Body → Program
+program_over registers (Text block) = record { registers = registers; body = block }
+program_over registers (Kind kind) = expansion kind registers
+
+-- the programs of its processes, from process 0
+abbrev pub programs_in : Contents → List Program
+programs_in source = map (program_over source.registers) source.processes
+
+-- a process within the limits of a program, or of a use line
+abbrev pub IsBodyWithin : ℕ → Body → Type 0
+IsBodyWithin registers (Text block) = IsWithin (record { registers = registers; body = block })
+IsBodyWithin registers (Kind kind) = use_fits kind registers ≡ true
+
+-- the numbers of a clause are within their limits
+abbrev pub clause_fits : Clause → Bool
+clause_fits (clause.AtMost name count) = nat_le name 1000000000 && nat_le count 8
+clause_fits (clause.Within low high) = nat_le low 1000000000 && nat_le high 1000000000
+clause_fits _ = true
+
+-- a source within the limits
+pub record AreWithin (source : Contents) : Type 0 where
+  pub some_register : 0 < source.registers
+  pub few_registers : source.registers ≤ 64
+  pub some_process : 0 < length source.processes
+  pub few_processes : length source.processes ≤ 8
+  pub processes : All (IsBodyWithin source.registers) source.processes
+  pub few_clauses : length source.clauses ≤ 16
+  pub clauses_fit : All (λ clause. clause_fits clause ≡ true) source.clauses
+
+-- a process that is at home over so many registers
+abbrev pub is_over : ℕ → Process → Bool
+is_over registers (process.Text prog) = prog.registers == registers
+is_over registers (process.Use kind) = use_fits kind registers
+
+abbrev pub body_of : Process → Body
+body_of (process.Text prog) = Text (block_of prog.body.items)
+body_of (process.Use kind) = Kind kind

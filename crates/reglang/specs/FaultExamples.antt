@@ -1,0 +1,72 @@
+-- Worked examples: the first faults of texts, and a text that spells a source.
+use Rattle.std.specs.Prelude.{◌≡◌, ℕ, List, [], ◌∷◌, ◌++◌, Option, Some, None, codes, refl}
+use Rattle.reglang.specs.Faults.{first_fault}
+use Rattle.reglang.specs.declared.reader.ReadFault.{ReadFault}
+
+-- a line and the byte that ends it, before more
+infixr 5 ◌▹◌
+abbrev ◌▹◌ : List ℕ → List ℕ → List ℕ
+line ▹ more = line ++ 10 ∷ more
+
+abbrev at : ℕ → ℕ → Option ReadFault
+at line code = Some (record { line = line; code = code })
+
+pub no_registers : first_fault (codes "process" ▹ []) ≡ at 1 7
+no_registers = refl
+
+pub empty_text : first_fault [] ≡ at 1 7
+empty_text = refl
+
+-- a line outside a process is judged before the missing registers
+pub outside : first_fault (codes "emit 1" ▹ []) ≡ at 1 5
+outside = refl
+
+pub registers_past_the_limit : first_fault (codes "registers 65" ▹ []) ≡ at 1 6
+registers_past_the_limit = refl
+
+pub leading_zero : first_fault (codes "registers 01" ▹ []) ≡ at 1 3
+leading_zero = refl
+
+pub no_process : first_fault (codes "registers 1" ▹ []) ≡ at 1 6
+no_process = refl
+
+pub open_process : first_fault (codes "registers 1" ▹ codes "process" ▹ codes "halt") ≡ at 3 5
+open_process = refl
+
+pub open_block : first_fault (codes "registers 1" ▹ codes "process" ▹ codes "if v0" ▹ codes "end" ▹ []) ≡ at 4 5
+open_block = refl
+
+pub no_variable : first_fault (codes "registers 1" ▹ codes "process" ▹ codes "set v16 1" ▹ codes "end" ▹ []) ≡ at 3 2
+no_variable = refl
+
+pub no_number : first_fault (codes "registers 1" ▹ codes "process" ▹ codes "emit 007" ▹ codes "end" ▹ []) ≡ at 3 3
+no_number = refl
+
+pub operand_missing : first_fault (codes "registers 1" ▹ codes "process" ▹ codes "emit" ▹ codes "end" ▹ []) ≡ at 3 4
+operand_missing = refl
+
+pub number_for_a_target : first_fault (codes "registers 1" ▹ codes "process" ▹ codes "set 5 v0" ▹ codes "end" ▹ []) ≡ at 3 4
+number_for_a_target = refl
+
+pub value_past_the_limit : first_fault (codes "registers 1" ▹ codes "process" ▹ codes "emit 1000000001" ▹ codes "end" ▹ []) ≡ at 3 6
+value_past_the_limit = refl
+
+pub registers_of_a_kind : first_fault (codes "registers 1" ▹ codes "process" ▹ codes "use split 0 1" ▹ codes "end" ▹ []) ≡ at 3 6
+registers_of_a_kind = refl
+
+pub line_after_use : first_fault (codes "registers 2" ▹ codes "process" ▹ codes "use split 0 1" ▹ codes "halt" ▹ codes "end" ▹ []) ≡ at 4 5
+line_after_use = refl
+
+pub no_clause : first_fault (codes "registers 1" ▹ codes "process" ▹ codes "halt" ▹ codes "end" ▹ codes "check atmost 1" ▹ []) ≡ at 5 8
+no_clause = refl
+
+-- a tab, in a skipped line too
+pub tab : first_fault ((codes "# a" ++ 9 ∷ []) ▹ codes "registers 1" ▹ []) ≡ at 1 1
+tab = refl
+
+-- accepted: what faults only when it is run is no fault of the text
+pub count_past_the_limit : first_fault (codes "registers 1" ▹ codes "process" ▹ codes "repeat 100" ▹ codes "done" ▹ codes "end" ▹ []) ≡ None
+count_past_the_limit = refl
+
+pub nothing_to_do : first_fault (codes "registers 1" ▹ codes "process" ▹ codes "end" ▹ []) ≡ None
+nothing_to_do = refl

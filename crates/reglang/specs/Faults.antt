@@ -1,0 +1,231 @@
+-- The first fault of a text.
+use Rattle.std.specs.Prelude.{ℕ, suc, Bool, true, false, not, ◌&&◌, if◌then◌else◌, List, [], ◌∷◌, ◌++◌, length, max, Option, Some, None, is_some, is_none, unwrap_or, option_map, Result, Ok, Err, nat_lt}
+use Rattle.regmodel.specs.Limits.{target_fits, operand_fits, expr_fits}
+use Rattle.reglang.specs.Lines.{lines}
+use Rattle.reglang.specs.Forms.{read_line}
+use Rattle.reglang.specs.Grammar.{said}
+use Rattle.reglang.specs.Uses.{is_between, use_fits}
+use Rattle.reglang.specs.declared.forms.Line.{Line}
+use Rattle.reglang.specs.declared.forms.Line.TheVariants as line
+use Rattle.reglang.specs.declared.reader.ReadFault.{ReadFault}
+
+-- ---- where a line stands, by the lines before it
+
+-- a block that is open: an `if` without its `else` so far, one with it, or a `repeat`
+pub data Opened : Type 0 where
+  If : Opened
+  Else : Opened
+  Repeat : Opened
+
+-- outside processes, in one with these open blocks, the innermost first, and so many statements so far, or after a use line
+pub data Place : Type 0 where
+  Outside : Place
+  Inside : (opened : List Opened) (statements : ℕ) → Place
+  Used : Place
+
+-- how many registers there are, where it was told; the processes and the checks so far; and the place
+pub record Standing : Type 0 where
+  pub registers : Option ℕ
+  pub processes : ℕ
+  pub checks : ℕ
+  pub place : Place
+
+-- the innermost `if` now has its `else`
+abbrev pub with_else : List Opened → List Opened
+with_else [] = []
+with_else (block ∷ outer) = Else ∷ outer
+
+-- the innermost block has ended
+abbrev pub without_innermost : List Opened → List Opened
+without_innermost [] = []
+without_innermost (block ∷ outer) = outer
+
+abbrev pub place_after : Line → Place → Place
+place_after line.Process place = Inside [] 0
+place_after line.End place = Outside
+place_after (line.Use kind) place = Used
+place_after (line.If test) (Inside opened n) = Inside (If ∷ opened) (suc n)
+place_after (line.Repeat count) (Inside opened n) = Inside (Repeat ∷ opened) (suc n)
+place_after line.Else (Inside opened n) = Inside (with_else opened) n
+place_after line.Fi (Inside opened n) = Inside (without_innermost opened) n
+place_after line.Done (Inside opened n) = Inside (without_innermost opened) n
+place_after (line.Set to value) (Inside opened n) = Inside opened (suc n)
+place_after (line.Read to from) (Inside opened n) = Inside opened (suc n)
+place_after (line.Write to value) (Inside opened n) = Inside opened (suc n)
+place_after (line.Emit value) (Inside opened n) = Inside opened (suc n)
+place_after line.Halt (Inside opened n) = Inside opened (suc n)
+place_after _ place = place
+
+abbrev pub registers_after : Line → Option ℕ → Option ℕ
+registers_after (line.Registers n) registers = Some n
+registers_after _ registers = registers
+
+abbrev pub processes_after : Line → ℕ → ℕ
+processes_after line.Process n = suc n
+processes_after _ n = n
+
+abbrev pub checks_after : Line → ℕ → ℕ
+checks_after (line.Check clause) n = suc n
+checks_after _ n = n
+
+-- after one line more
+abbrev pub stands_after : Line → Standing → Standing
+stands_after line standing = record {
+  registers = registers_after line standing.registers;
+  processes = processes_after line standing.processes;
+  checks = checks_after line standing.checks;
+  place = place_after line standing.place;
+}
+
+-- before any line
+abbrev pub at_start : Standing
+at_start = record { registers = None; processes = 0; checks = 0; place = Outside }
+
+-- after lines that were taken from there on
+abbrev pub stands_after_all : List Line → Standing → Standing
+stands_after_all [] standing = standing
+stands_after_all (line ∷ lines) standing = stands_after_all lines (stands_after line standing)
+
+-- ---- the conditions of the codes
+
+abbrev pub is_if : List Opened → Bool
+is_if (If ∷ outer) = true
+is_if _ = false
+
+abbrev pub is_if_or_else : List Opened → Bool
+is_if_or_else (If ∷ outer) = true
+is_if_or_else (Else ∷ outer) = true
+is_if_or_else _ = false
+
+abbrev pub is_repeat : List Opened → Bool
+is_repeat (Repeat ∷ outer) = true
+is_repeat _ = false
+
+-- code 5: the line cannot stand outside processes, where `registers` came or not
+abbrev pub is_no_outer : Bool → Line → Bool
+is_no_outer came (line.Registers n) = came
+is_no_outer came line.Process = false
+is_no_outer came (line.Check clause) = false
+is_no_outer came _ = true
+
+-- or in a process, after so many statements and with these blocks open
+abbrev pub is_no_inner : List Opened → ℕ → Line → Bool
+is_no_inner opened n (line.Registers r) = true
+is_no_inner opened n line.Process = true
+is_no_inner opened n (line.Check clause) = true
+is_no_inner opened n line.End = nat_lt 0 (length opened)
+is_no_inner opened n line.Else = not (is_if opened)
+is_no_inner opened n line.Fi = not (is_if_or_else opened)
+is_no_inner opened n line.Done = not (is_repeat opened)
+is_no_inner opened n (line.Use kind) = nat_lt 0 n
+is_no_inner opened n _ = false
+
+-- or after a use line
+abbrev pub is_no_end : Line → Bool
+is_no_end line.End = false
+is_no_end _ = true
+
+abbrev pub misplaced_at : Place → Bool → Line → Bool
+misplaced_at Outside came line = is_no_outer came line
+misplaced_at (Inside opened n) came line = is_no_inner opened n line
+misplaced_at Used came line = is_no_end line
+
+abbrev pub is_misplaced : Standing → Line → Bool
+is_misplaced standing line = misplaced_at standing.place (is_some standing.registers) line
+
+-- code 6: how many statements there are so far, and which blocks are open
+abbrev pub statements_at : Place → ℕ
+statements_at (Inside opened n) = n
+statements_at _ = 0
+
+abbrev pub opened_at : Place → List Opened
+opened_at (Inside opened n) = opened
+opened_at _ = []
+
+abbrev pub repeats_in : List Opened → ℕ
+repeats_in [] = 0
+repeats_in (Repeat ∷ outer) = suc (repeats_in outer)
+repeats_in (If ∷ outer) = repeats_in outer
+repeats_in (Else ∷ outer) = repeats_in outer
+
+-- whether there is room for one more statement, for one more block, and for one more repeat
+abbrev pub has_room : Place → Bool
+has_room place = nat_lt (statements_at place) 200
+
+abbrev pub has_depth : Place → Bool
+has_depth place = nat_lt (length (opened_at place)) 16
+
+abbrev pub has_turns : Place → Bool
+has_turns place = nat_lt (repeats_in (opened_at place)) 3
+
+-- whether a line is within the limits where it stands
+abbrev pub is_within : Standing → Line → Bool
+is_within standing (line.Registers n) = is_between 1 64 n
+is_within standing line.Process = nat_lt standing.processes 8
+is_within standing (line.Check clause) = nat_lt standing.checks 16
+is_within standing (line.Use kind) = use_fits kind (unwrap_or standing.registers 0)
+is_within standing (line.Set to value) = has_room standing.place && (target_fits to && expr_fits value)
+is_within standing (line.Read to from) = has_room standing.place && (target_fits to && operand_fits from)
+is_within standing (line.Write to value) = has_room standing.place && (operand_fits to && expr_fits value)
+is_within standing (line.If test) = has_room standing.place && expr_fits test && has_depth standing.place
+is_within standing (line.Repeat count) = has_room standing.place && (expr_fits count && has_turns standing.place) && has_depth standing.place
+is_within standing (line.Emit value) = has_room standing.place && expr_fits value
+is_within standing line.Halt = has_room standing.place
+is_within standing _ = true
+
+-- code 7: no `registers` line came, and this is none
+abbrev pub is_too_early : Standing → Line → Bool
+is_too_early standing (line.Registers n) = false
+is_too_early standing _ = is_none standing.registers
+
+-- code 8: a check without a clause
+abbrev pub is_no_clause : Line → Bool
+is_no_clause (line.Check None) = true
+is_no_clause _ = false
+
+-- the code of a line's fault where it stands
+abbrev pub line_fault : Standing → Line → Option ℕ
+line_fault standing line =
+    if is_misplaced standing line then Some 5 else
+    (if not (is_within standing line) then Some 6 else
+    (if is_too_early standing line then Some 7 else
+    (if is_no_clause line then Some 8 else None)))
+
+-- the code of the fault of a line that says this, where it stands
+abbrev pub fault_of : Standing → Result (Option Line) ℕ → Option ℕ
+fault_of standing (Ok (Some line)) = line_fault standing line
+fault_of standing (Ok None) = None
+fault_of standing (Err code) = Some code
+
+abbrev pub is_inside : Place → Bool
+is_inside Outside = false
+is_inside _ = true
+
+-- the code of the fault of the end of a text
+abbrev pub end_fault : Standing → Option ℕ
+end_fault standing =
+    if is_none standing.registers then Some 7 else
+    (if is_inside standing.place then Some 5 else
+    (if nat_lt 0 standing.processes then None else Some 6))
+
+-- ---- the first of them
+
+-- where a line stands that comes after these lines
+abbrev pub standing_after : List (List ℕ) → Standing
+standing_after before = stands_after_all (said before) at_start
+
+abbrev pub at_line : ℕ → Option ℕ → Option ReadFault
+at_line number code = option_map (λ c. record { line = number; code = c }) code
+
+abbrev pub or_later : Option ReadFault → Option ReadFault → Option ReadFault
+or_later (Some fault) later = Some fault
+or_later None later = later
+
+-- the fault of the first of these lines that has one, where they come after others; else that of the end, on the last line
+abbrev pub fault_from : List (List ℕ) → List (List ℕ) → Option ReadFault
+fault_from before [] = at_line (max 1 (length before)) (end_fault (standing_after before))
+fault_from before (line ∷ lines) =
+    or_later (at_line (suc (length before)) (fault_of (standing_after before) (read_line line))) (fault_from (before ++ line ∷ []) lines)
+
+abbrev pub first_fault : List ℕ → Option ReadFault
+first_fault text = fault_from [] (lines text)

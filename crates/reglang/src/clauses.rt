@@ -1,0 +1,86 @@
+//! Clauses, from the words after `check`.
+
+ghost use Rattle.std.specs.Prelude.{◌≡◌};
+ghost use Rattle.reglang.specs.Forms as spec;
+
+use crate::operands::alone;
+use crate::words::{GREATEST, Property, Word};
+use regmodel::Clause;
+
+/// The number that a word is, up to this limit.
+fn number_to(limit: u32, word: Word) -> Option<u32>
+    ensures { result ≡ spec.number_to limit word }
+{
+    match word {
+        Word::Number(n) if n <= limit => Some(n),
+        _ => None,
+    }
+}
+
+/// A property with its numbers, each up to its limit.
+fn property_clause(property: Property, numbers: &[Word]) -> Option<Clause>
+    ensures { result ≡ spec.property_clause property numbers.now }
+{
+    match property {
+        Property::Distinct => alone(Clause::Distinct, numbers),
+        Property::AtMost => {
+            let [name, count] = numbers else { return None };
+            Some(Clause::AtMost(number_to(GREATEST, *name)?, number_to(8, *count)?))
+        }
+        Property::Within => {
+            let [low, high] = numbers else { return None };
+            Some(Clause::Within(number_to(GREATEST, *low)?, number_to(GREATEST, *high)?))
+        }
+        Property::Adaptive => alone(Clause::Adaptive, numbers),
+        Property::Triangle => alone(Clause::Triangle, numbers),
+        Property::SelfSeen => alone(Clause::SelfSeen, numbers),
+        Property::Ended => alone(Clause::Ended, numbers),
+        Property::NoFault => alone(Clause::NoFault, numbers),
+    }
+}
+
+/// The clause that words are: a property, and its numbers within their limits. None for any other words.
+pub fn clause_of(words: &[Word]) -> Option<Clause>
+    ensures { result ≡ spec.clause_of words.now }
+{
+    match words {
+        [Word::Property(property), numbers @ ..] => property_clause(*property, numbers),
+        _ => None,
+    }
+}
+
+#[cfg(test)]
+mod tests {
+    use super::*;
+    use crate::forms::{Line, read_line};
+    use std::test::Fail;
+
+    /// Check lines, and the clause of each.
+    const CLAUSES: [(&[u8], Option<Clause>); 14] = [
+        (b"check distinct", Some(Clause::Distinct)),
+        (
+            b"check atmost 1000000000 8",
+            Some(Clause::AtMost(1_000_000_000, 8)),
+        ),
+        (b"check within 3 2", Some(Clause::Within(3, 2))),
+        (b"check adaptive", Some(Clause::Adaptive)),
+        (b"check triangle", Some(Clause::Triangle)),
+        (b"check selfseen", Some(Clause::SelfSeen)),
+        (b"check ended", Some(Clause::Ended)),
+        (b"check nofault", Some(Clause::NoFault)),
+        (b"check", None),
+        (b"check distinct 1", None),
+        (b"check atmost 0 9", None),
+        (b"check atmost 1000000001 1", None),
+        (b"check within 0 1000000001", None),
+        (b"check within 00 1", None),
+    ];
+
+    #[test]
+    fn reads_clauses(rt: HostRuntime) -> Result<(), Fail> {
+        for (line, clause) in CLAUSES {
+            assert_eq!(rt; read_line(line), Ok(Some(Line::Check(clause))));
+        }
+        Ok(())
+    }
+}

@@ -1,0 +1,12 @@
+//! Laws of the language, as contracts of functions that do nothing.
+
+ghost use Rattle.std.specs.Prelude.{◌≡◌, ℕ, List, None};
+ghost use Rattle.reglang.specs.Contents.{Contents};
+ghost use Rattle.reglang.specs.Faults.{first_fault};
+ghost use Rattle.reglang.specs.Grammar.{Spells};
+
+/// A text spells at most one source, and where it spells one it has no fault.
+pub fn a_text_spells_at_most_one_source()
+    ensures one { (text : List ℕ) (a b : Contents) → Spells text a → Spells text b → a ≡ b }
+    ensures faultless { (text : List ℕ) (source : Contents) → Spells text source → first_fault text ≡ None }
+{}

@@ -1,0 +1,295 @@
+//! A process of a text, up to its end.
+
+ghost use Rattle.std.specs.Prelude.{◌≡◌, ◌<◌, ◌&&◌, [], ◌∷◌, suc, length, nat_lt, count_by, IfErr, IfOk};
+ghost use Rattle.regmodel.specs.Program.{Stop, block_of, with_stmt};
+ghost use Rattle.reglang.specs.Drafts as spec;
+ghost use Rattle.reglang.specs.Drafts.{Answers, Inside, ReadingFits, ◌⊕◌, contents_before, frame_of, frames_of, inside_of, is_turn, reading_of, take_line};
+ghost use Rattle.reglang.specs.declared.forms.Line.TheVariants as line;
+
+use crate::draft::Draft;
+use crate::forms::Line;
+use crate::parts::Parts;
+use crate::refusals::{MISPLACED, PAST_LIMIT, Refusal};
+use crate::source::Process;
+use crate::uses::Use;
+use regmodel::{Expr, Prog, Stmt};
+use std::alloc::Global;
+
+/// The most statements of a process.
+const MOST_STATEMENTS: u32 = 200;
+
+/// The most blocks that are open at a time.
+const MOST_OPEN: usize = 16;
+
+/// The most repeats among them.
+const MOST_REPEATS: usize = 3;
+
+/// A block that is open, with the statements before it in the block around it.
+#[derive(Debug, Drop)]
+pub enum Open {
+    /// An `if` without its `else` so far: its test, and what stands before it.
+    First(Expr, Vec<Stmt>),
+    /// An `if` whose `else` came: its test, its first part, and what stands before it.
+    Second(Expr, Vec<Stmt>, Vec<Stmt>),
+    /// A `repeat`: its count, and what stands before it.
+    Turn(Expr, Vec<Stmt>),
+}
+
+/// A process without its `end`, and what stands before it in the text.
+#[derive(Debug, Drop)]
+pub struct OpenProcess {
+    before: Parts,
+    /// The open blocks, the innermost last.
+    blocks: Vec<Open>,
+    /// The statements of the innermost block.
+    block: Vec<Stmt>,
+    /// How many statements there are so far in all blocks.
+    statements: u32,
+}
+
+impl Open {
+    /// Whether it is a `repeat`.
+    fn is_turn(&self) -> bool
+        ensures { result ≡ is_turn self.now }
+    {
+        matches!(self, Open::Turn(_, _))
+    }
+}
+
+impl OpenProcess {
+    /// A process without statements so far.
+    pub fn new(alloc: Global, before: Parts) -> OpenProcess
+        ensures { inside_of result ≡ Inside (contents_before before) [] Stop 0 }
+    {
+        OpenProcess {
+            before,
+            blocks: Vec::new(alloc),
+            block: Vec::new(alloc),
+            statements: 0,
+        }
+    }
+
+    /// Takes a line of the process.
+    pub fn take(self, alloc: Global, line: Line) -> Result<Draft, Refusal>
+        requires { ReadingFits (inside_of self) }
+        ensures { Answers (take_line (inside_of self) line) result }
+    {
+        match line {
+            Line::Set(to, value) => self.add(to.fits() && value.fits(), Stmt::Assign(to, value)),
+            Line::Read(to, from) => self.add(to.fits() && from.fits(), Stmt::Read(to, from)),
+            Line::Write(to, value) => self.add(to.fits() && value.fits(), Stmt::Write(to, value)),
+            Line::Emit(value) => self.add(value.fits(), Stmt::Emit(value)),
+            Line::Halt => self.add(true, Stmt::Halt),
+            Line::If(test) => self.enter_if(alloc, test),
+            Line::Repeat(count) => self.enter_repeat(alloc, count),
+            Line::Else => self.enter_else(alloc),
+            Line::Fi => self.leave_if(alloc),
+            Line::Done => self.leave_repeat(),
+            Line::End => self.end(),
+            Line::Use(kind) => self.stand_for(kind),
+            Line::Registers(_) | Line::Process | Line::Check(_) => Err(Refusal::Fault(MISPLACED)),
+        }
+    }
+
+    /// Adds a statement, where its operands are within their limits.
+    fn add(mut self, fits: bool, stmt: Stmt) -> Result<Draft, Refusal>
+        ensures { Answers (spec.add (contents_before self.before) (frames_of self.blocks.items) (block_of self.block.items) self.statements fits (with_stmt stmt Stop)) result }
+    {
+        if self.statements >= MOST_STATEMENTS || !fits {
+            return Err(Refusal::Fault(PAST_LIMIT));
+        }
+        self.block.push(stmt)?;
+        self.statements += 1;
+        Ok(Draft::Inside(self))
+    }
+
+    /// Whether there is room for one more statement, and for one more block.
+    fn may_enter(&self) -> bool
+        ensures { result ≡ nat_lt self.now.statements 200 && nat_lt (length self.now.blocks.items) 16 }
+    {
+        self.statements < MOST_STATEMENTS && self.blocks.len() < MOST_OPEN
+    }
+
+    /// Begins an `if`.
+    fn enter_if(self, alloc: Global, test: Expr) -> Result<Draft, Refusal>
+        ensures { Answers (take_line (inside_of self) (line.If test)) result }
+    {
+        if !self.may_enter() || !test.fits() {
+            return Err(Refusal::Fault(PAST_LIMIT));
+        }
+        let OpenProcess {
+            before,
+            blocks,
+            block,
+            statements,
+        } = self;
+        enter(alloc, before, blocks, Open::First(test, block), statements)
+    }
+
+    /// Begins a `repeat`.
+    fn enter_repeat(self, alloc: Global, count: Expr) -> Result<Draft, Refusal>
+        ensures { Answers (take_line (inside_of self) (line.Repeat count)) result }
+    {
+        if !self.may_enter() || !count.fits() {
+            return Err(Refusal::Fault(PAST_LIMIT));
+        }
+        if open_repeats(self.blocks.as_slice()) >= MOST_REPEATS {
+            return Err(Refusal::Fault(PAST_LIMIT));
+        }
+        let OpenProcess {
+            before,
+            blocks,
+            block,
+            statements,
+        } = self;
+        enter(alloc, before, blocks, Open::Turn(count, block), statements)
+    }
+
+    /// Begins the second part of the innermost `if`.
+    fn enter_else(self, alloc: Global) -> Result<Draft, Refusal>
+        ensures { Answers (take_line (inside_of self) line.Else) result }
+    {
+        let OpenProcess {
+            before,
+            mut blocks,
+            block,
+            statements,
+        } = self;
+        match blocks.pop() {
+            Some(Open::First(test, outer)) => {
+                blocks.push(Open::Second(test, block, outer))?;
+                Ok(Draft::Inside(OpenProcess {
+                    before,
+                    blocks,
+                    block: Vec::new(alloc),
+                    statements,
+                }))
+            }
+            _ => Err(Refusal::Fault(MISPLACED)),
+        }
+    }
+
+    /// Ends the innermost block, an `if`.
+    fn leave_if(self, alloc: Global) -> Result<Draft, Refusal>
+        ensures { Answers (take_line (inside_of self) line.Fi) result }
+    {
+        let OpenProcess {
+            before,
+            mut blocks,
+            block,
+            statements,
+        } = self;
+        match blocks.pop() {
+            Some(Open::First(test, outer)) => leave(
+                before,
+                blocks,
+                outer,
+                Stmt::If(test, block, Vec::new(alloc)),
+                statements,
+            ),
+            Some(Open::Second(test, first, outer)) => leave(
+                before,
+                blocks,
+                outer,
+                Stmt::If(test, first, block),
+                statements,
+            ),
+            _ => Err(Refusal::Fault(MISPLACED)),
+        }
+    }
+
+    /// Ends the innermost block, a `repeat`.
+    fn leave_repeat(self) -> Result<Draft, Refusal>
+        ensures { Answers (take_line (inside_of self) line.Done) result }
+    {
+        let OpenProcess {
+            before,
+            mut blocks,
+            block,
+            statements,
+        } = self;
+        match blocks.pop() {
+            Some(Open::Turn(count, outer)) => leave(
+                before,
+                blocks,
+                outer,
+                Stmt::Repeat(count, block),
+                statements,
+            ),
+            _ => Err(Refusal::Fault(MISPLACED)),
+        }
+    }
+
+    /// Ends the process.
+    fn end(self) -> Result<Draft, Refusal>
+        requires { ReadingFits (inside_of self) }
+        ensures { Answers (take_line (inside_of self) line.End) result }
+    {
+        if !self.blocks.is_empty() {
+            return Err(Refusal::Fault(MISPLACED));
+        }
+        let prog = Prog::new(self.before.registers(), self.block).unwrap();
+        self.before.add_process(Process::Text(prog))
+    }
+
+    /// Lets the process be what a use line stands for.
+    fn stand_for(self, kind: Use) -> Result<Draft, Refusal>
+        ensures { Answers (take_line (inside_of self) (line.Use kind)) result }
+    {
+        if self.statements > 0 {
+            return Err(Refusal::Fault(MISPLACED));
+        }
+        if !kind.fits(self.before.registers()) {
+            return Err(Refusal::Fault(PAST_LIMIT));
+        }
+        Ok(Draft::Used(self.before, kind))
+    }
+}
+
+/// How many repeats there are among open blocks.
+fn open_repeats(blocks: &[Open]) -> usize
+    ensures { result ≡ count_by is_turn blocks.now }
+{
+    blocks.iter().filter(|open| open.is_turn()).count()
+}
+
+/// Goes into a block.
+fn enter(
+    alloc: Global,
+    before: Parts,
+    mut blocks: Vec<Open>,
+    opened: Open,
+    statements: u32,
+) -> Result<Draft, Refusal>
+    requires { statements < 200 }
+    ensures ok { IfOk result (λ draft. reading_of draft ≡ Inside (contents_before before) (frame_of opened ∷ frames_of blocks.items) Stop (suc statements)) }
+    ensures err { IfErr result (λ refusal. refusal ≡ Refusal.Memory) }
+{
+    blocks.push(opened)?;
+    Ok(Draft::Inside(OpenProcess {
+        before,
+        blocks,
+        block: Vec::new(alloc),
+        statements: statements + 1,
+    }))
+}
+
+/// Goes back to the block around one that has ended, which is now its last statement.
+fn leave(
+    before: Parts,
+    blocks: Vec<Open>,
+    mut outer: Vec<Stmt>,
+    stmt: Stmt,
+    statements: u32,
+) -> Result<Draft, Refusal>
+    ensures ok { IfOk result (λ draft. reading_of draft ≡ Inside (contents_before before) (frames_of blocks.items) (block_of outer.items ⊕ with_stmt stmt Stop) statements) }
+    ensures err { IfErr result (λ refusal. refusal ≡ Refusal.Memory) }
+{
+    outer.push(stmt)?;
+    Ok(Draft::Inside(OpenProcess {
+        before,
+        blocks,
+        block: outer,
+        statements,
+    }))
+}

@@ -1,0 +1,126 @@
+//! Whole processes and checks of a text.
+
+ghost use Rattle.std.specs.Prelude.{◌≡◌, All, true};
+ghost use Rattle.reglang.specs.Contents.{is_over};
+
+use crate::draft::Draft;
+use crate::forms::Line;
+use crate::open_process::OpenProcess;
+use crate::refusals::{MISPLACED, NO_CLAUSE, PAST_LIMIT, Refusal};
+use crate::source::{Process, Source};
+use crate::uses::Use;
+use arrayvec::ArrayVec;
+use regmodel::{Clause, Clauses};
+use std::alloc::Global;
+
+/// The most processes of a source.
+const MOST_PROCESSES: usize = 8;
+
+/// The registers, and the whole processes and checks so far.
+#[derive(Debug, Drop)]
+pub struct Parts {
+    registers: u32,
+    processes: Vec<Process>,
+    clauses: ArrayVec<Clause, 16>,
+    ghost fit: { All (λ p. is_over registers p ≡ true) processes.items },
+}
+
+impl Parts {
+    ghost use Rattle.std.specs.Prelude.{Err, IfErr, IfOk, MatchResult, Ok, [], ◌∷◌, ◌++◌};
+    ghost use Rattle.reglang.specs.Contents.{body_of};
+    ghost use Rattle.reglang.specs.Drafts as spec;
+    ghost use Rattle.reglang.specs.Drafts.{Answers, Between, ReadingFits, contents_before, finished, reading_of};
+    ghost use Rattle.reglang.specs.Sources.{contents_of};
+    ghost use Rattle.reglang.specs.declared.forms.Line.TheVariants as line;
+    ghost use Rattle.reglang.specs.declared.source.Process.TheVariants as process;
+
+    /// So many registers, and nothing else so far.
+    pub fn new(alloc: Global, registers: u32) -> Parts
+        ensures { contents_before result ≡ record { registers = registers; processes = []; clauses = [] } }
+    {
+        Parts {
+            registers,
+            processes: Vec::new(alloc),
+            clauses: ArrayVec::new(),
+        }
+    }
+
+    /// How many registers there are.
+    pub fn registers(&self) -> u32
+        ensures { result ≡ (contents_before self.now).registers }
+    {
+        self.registers
+    }
+
+    /// Takes a line between processes.
+    pub fn take(self, alloc: Global, line: Line) -> Result<Draft, Refusal>
+        ensures { Answers (spec.take_between (contents_before self) line) result }
+    {
+        match line {
+            Line::Process => self.begin_process(alloc),
+            Line::Check(clause) => self.add_clause(clause),
+            _ => Err(Refusal::Fault(MISPLACED)),
+        }
+    }
+
+    /// Begins a process.
+    fn begin_process(self, alloc: Global) -> Result<Draft, Refusal>
+        ensures { Answers (spec.take_between (contents_before self) line.Process) result }
+    {
+        if self.processes.len() >= MOST_PROCESSES {
+            return Err(Refusal::Fault(PAST_LIMIT));
+        }
+        Ok(Draft::Inside(OpenProcess::new(alloc, self)))
+    }
+
+    /// Adds the clause of a check line.
+    fn add_clause(mut self, clause: Option<Clause>) -> Result<Draft, Refusal>
+        ensures { Answers (spec.add_clause (contents_before self) clause) result }
+    {
+        if self.clauses.is_full() {
+            return Err(Refusal::Fault(PAST_LIMIT));
+        }
+        let Some(clause) = clause else {
+            return Err(Refusal::Fault(NO_CLAUSE));
+        };
+        self.clauses.push(clause);
+        Ok(Draft::Between(self))
+    }
+
+    /// Adds a process that is read to its end.
+    pub fn add_process(mut self, process: Process) -> Result<Draft, Refusal>
+        requires { is_over self.registers process ≡ true }
+        ensures ok { IfOk result (λ draft. reading_of draft ≡ Between (record (contents_before self) { processes = (contents_before self).processes ++ body_of process ∷ [] })) }
+        ensures err { IfErr result (λ refusal. refusal ≡ Refusal.Memory) }
+    {
+        self.processes.push(process)?;
+        Ok(Draft::Between(self))
+    }
+
+    /// The source of these parts.
+    pub fn finish(self) -> Result<Source, u8>
+        requires { ReadingFits (Between (contents_before self)) }
+        ensures { MatchResult result (λ source. finished (Between (contents_before self)) ≡ Ok (contents_of source)) (λ code. finished (Between (contents_before self)) ≡ Err code) }
+    {
+        let Parts {
+            registers,
+            processes,
+            clauses,
+        } = self;
+        if processes.is_empty() {
+            return Err(PAST_LIMIT);
+        }
+        Ok(Source::new(registers, processes, Clauses::new(clauses)))
+    }
+
+    /// Takes a line after a use line.
+    pub fn take_used(self, kind: Use, line: Line) -> Result<Draft, Refusal>
+        requires { is_over self.registers (process.Use kind) ≡ true }
+        ensures { Answers (spec.take_used (contents_before self) kind line) result }
+    {
+        match line {
+            Line::End => self.add_process(Process::Use(kind)),
+            _ => Err(Refusal::Fault(MISPLACED)),
+        }
+    }
+}

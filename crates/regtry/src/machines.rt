@@ -1,0 +1,119 @@
+//! The machine of one process.
+
+ghost use Rattle.std.specs.Prelude.{◌≡◌, ◌<◌, ◌↔◌, IfErr, IfOk, IsOk, IsTrue, Some, length, slice_get};
+ghost use Rattle.reglang.specs.Expansions.{expansion};
+ghost use Rattle.reglang.specs.Sources.{programs_of};
+ghost use Rattle.reglang.specs.Uses.{use_fits};
+ghost use Rattle.regtry.specs.declared.machines.ProcessMachine.TheVariants as process;
+
+use crate::refusals::Refusal;
+use machine::{Interp, Machine};
+use natives::{Grid, MakeFault, NameSlots, Split, Tree};
+use reglang::{Source, Use};
+use regmodel::Pending;
+use std::alloc::Global;
+
+/// What runs one process: an interpreter of its program, or the native machine of its kind.
+#[derive(Drop)]
+pub enum ProcessMachine {
+    Text(Interp),
+    Split(Split),
+    Grid(Grid),
+    Tree(Tree),
+    Name(NameSlots),
+}
+
+impl Machine for ProcessMachine {
+    ghost program = { λ m. elim m [ process.Text i ↦ ⟦<Interp as Machine>⟧.program i | process.Split i ↦ ⟦<Split as Machine>⟧.program i | process.Grid i ↦ ⟦<Grid as Machine>⟧.program i | process.Tree i ↦ ⟦<Tree as Machine>⟧.program i | process.Name i ↦ ⟦<NameSlots as Machine>⟧.program i ] };
+
+    ghost rest = { λ m. elim m [ process.Text i ↦ ⟦<Interp as Machine>⟧.rest i | process.Split i ↦ ⟦<Split as Machine>⟧.rest i | process.Grid i ↦ ⟦<Grid as Machine>⟧.rest i | process.Tree i ↦ ⟦<Tree as Machine>⟧.rest i | process.Name i ↦ ⟦<NameSlots as Machine>⟧.rest i ] };
+
+    fn reset(&mut self) {
+        match self {
+            ProcessMachine::Text(machine) => machine.reset(),
+            ProcessMachine::Split(machine) => machine.reset(),
+            ProcessMachine::Grid(machine) => machine.reset(),
+            ProcessMachine::Tree(machine) => machine.reset(),
+            ProcessMachine::Name(machine) => machine.reset(),
+        }
+    }
+
+    fn pending(&self) -> Pending {
+        match self {
+            ProcessMachine::Text(machine) => machine.pending(),
+            ProcessMachine::Split(machine) => machine.pending(),
+            ProcessMachine::Grid(machine) => machine.pending(),
+            ProcessMachine::Tree(machine) => machine.pending(),
+            ProcessMachine::Name(machine) => machine.pending(),
+        }
+    }
+
+    fn feed(&mut self, reply: u32) {
+        match self {
+            ProcessMachine::Text(machine) => machine.feed(reply),
+            ProcessMachine::Split(machine) => machine.feed(reply),
+            ProcessMachine::Grid(machine) => machine.feed(reply),
+            ProcessMachine::Tree(machine) => machine.feed(reply),
+            ProcessMachine::Name(machine) => machine.feed(reply),
+        }
+    }
+
+    fn end(&mut self) {
+        match self {
+            ProcessMachine::Text(machine) => machine.end(),
+            ProcessMachine::Split(machine) => machine.end(),
+            ProcessMachine::Grid(machine) => machine.end(),
+            ProcessMachine::Tree(machine) => machine.end(),
+            ProcessMachine::Name(machine) => machine.end(),
+        }
+    }
+}
+
+/// The machine of process p of a source, counted from 0: a native one for a use line where natives are asked for, else an
+/// interpreter. An error where a request for memory was refused.
+pub fn machine_of(
+    alloc: Global,
+    source: &Source,
+    p: usize,
+    native: bool,
+) -> Result<ProcessMachine, Refusal>
+    requires { p < length (programs_of source.now) }
+    ensures program { IfOk result (λ m. slice_get (programs_of source.now) p ≡ Some (⟦<ProcessMachine as Machine>⟧.program m)) }
+    ensures err { IfErr result (λ refusal. refusal ≡ Refusal.Memory) }
+{
+    match source.use_of(p) {
+        Some(kind) if native => native_of(kind, source.registers()).map_err(|_| Refusal::Memory),
+        _ => interpreter_of(alloc, source, p),
+    }
+}
+
+/// An interpreter of the program of process p.
+fn interpreter_of(alloc: Global, source: &Source, p: usize) -> Result<ProcessMachine, Refusal>
+    requires { p < length (programs_of source.now) }
+    ensures program { IfOk result (λ m. slice_get (programs_of source.now) p ≡ Some (⟦<ProcessMachine as Machine>⟧.program m)) }
+    ensures err { IfErr result (λ refusal. refusal ≡ Refusal.Memory) }
+{
+    let prog = source.prog(alloc, p)?;
+    let interp = Interp::make(alloc, prog)?;
+    Ok(ProcessMachine::Text(interp))
+}
+
+/// The native machine of a use line. An error where a limit of the line is passed.
+fn native_of(kind: &Use, registers: u32) -> Result<ProcessMachine, MakeFault>
+    ensures program { IfOk result (λ m. ⟦<ProcessMachine as Machine>⟧.program m ≡ expansion kind.now registers) }
+    ensures made { IsOk result ↔ IsTrue (use_fits kind.now registers) }
+    ensures code { IfErr result (λ fault. fault.code ≡ 1) }
+{
+    match *kind {
+        Use::Split(base, id) => Ok(ProcessMachine::Split(Split::make(base, id, registers)?)),
+        Use::Grid(base, side, id) => {
+            Ok(ProcessMachine::Grid(Grid::make(base, side, id, registers)?))
+        }
+        Use::Tree(base, depth, id, value) => Ok(ProcessMachine::Tree(Tree::make(
+            base, depth, id, value, registers,
+        )?)),
+        Use::Name(base, slots, slot) => Ok(ProcessMachine::Name(NameSlots::make(
+            base, slots, slot, registers,
+        )?)),
+    }
+}
