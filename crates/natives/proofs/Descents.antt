@@ -7,10 +7,10 @@ use Rattle.regmodel.specs.declared.accesses.Pending.TheVariants as pending
 use Rattle.regmodel.specs.Values.{Env}
 use Rattle.regmodel.specs.Act.{Flow, GoesOn, Wants, Faults, exec, times, stands, then_do, act_of}
 use Rattle.regmodel.specs.Program.{Stop}
-use Rattle.reglang.specs.Expansions.{tree_descend, tree_collect, expansion}
+use Rattle.reglang.specs.Expansions.{tree_after, tree_leave, tree_descend, tree_collect, expansion}
 use Rattle.reglang.specs.declared.uses.Use.TheVariants as kind
 use Rattle.natives.specs.Bits.{bit}
-use Rattle.natives.specs.Trees.{on_way, tree_after, tree_leave, from_vertex, from_stop, from_past}
+use Rattle.natives.specs.Trees.{on_way, from_vertex, from_stop, from_past}
 use Rattle.natives.proofs.Collects.{IsTree, collect_with, turns-alike}
 use Rattle.natives.proofs.Steps.{le_yes, lt_yes, lt_no, eq_yes, eq_no, then_stop}
 

@@ -1,15 +1,10 @@
 -- What a collect tree does on further replies.
-use Rattle.std.specs.Prelude.{◌≤◌, ℕ, ◌+◌, ◌*◌, ◌-◌, ◌^◌, slice_set, Bool, true, Option, Some, None, List, [], ◌∷◌, map, replicate}
+use Rattle.std.specs.Prelude.{◌≤◌, ℕ, ◌+◌, ◌*◌, ◌-◌, slice_set, Bool, true, Option, Some, None, List, [], ◌∷◌, map, replicate}
 use Rattle.regmodel.specs.declared.accesses.Pending.{Pending}
 use Rattle.regmodel.specs.declared.accesses.Pending.TheVariants.{Done, Fault}
-use Rattle.regmodel.specs.declared.programs.Op.TheVariants.{Add, Equal}
-use Rattle.regmodel.specs.declared.programs.Operand.TheVariants.{Number, Var}
-use Rattle.regmodel.specs.declared.programs.Expr.TheVariants.{One, Two}
-use Rattle.regmodel.specs.declared.programs.Target.TheVariants as target
 use Rattle.regmodel.specs.Values.{Env}
 use Rattle.regmodel.specs.Act.{Flow, exec, times, then_do, stands}
-use Rattle.regmodel.specs.Program.{Block, Stop, Assign, Write, If, Repeat, Halt}
-use Rattle.reglang.specs.Expansions.{◌▸◌, set, tree_descend, tree_collect, tree_look}
+use Rattle.reglang.specs.Expansions.{tree_leave, tree_after, tree_descend, tree_collect, tree_look}
 use Rattle.natives.specs.Bits.{bit}
 use Rattle.natives.specs.declared.trees.Stage.{Stage}
 use Rattle.natives.specs.declared.trees.Stage.TheVariants.{Marks, Signs, Tries, Closes, Looks, Leaves, Sees, Takes, Collected, Overfull, Over}
@@ -21,20 +16,6 @@ on_way vertex stopped register = record { vars = vertex ∷ stopped ∷ register
 -- collecting: the vertex, which vertices were reached, and the numbers so far
 abbrev pub at_collect : ℕ → List Bool → List ℕ → Env
 at_collect vertex reached numbers = record { vars = vertex ∷ 1 ∷ replicate 14 0; cells = map bit reached; emitted = numbers }
-
--- where the process stopped: writes its value, and collects
-abbrev pub tree_leave : ℕ → ℕ → ℕ → Block
-tree_leave base depth value =
-    set 2 (Two (Var 2) Add (Number 3)) ▸
-    Write (Var 2) (One (Number value)) ▸
-    Assign (target.Cell 1) (One (Number 1)) ▸
-    set 0 (One (Number 0)) ▸
-    Repeat (One (Number (2 ^ depth - 1))) (tree_collect base) ▸
-    Stop
-
--- after the way down
-abbrev pub tree_after : ℕ → ℕ → ℕ → Block
-tree_after base depth value = If (Two (Var 1) Equal (Number 0)) (Halt ▸ Stop) Stop ▸ tree_leave base depth value
 
 module _ (base registers : ℕ) where
   -- from a vertex on, with so many levels left, its own counted

@@ -149,19 +149,27 @@ tree_collect base =
     If (One (CellOf 0)) (tree_look base) Stop ▸
     Stop
 
--- goes down from the root; where it stops it writes its value, then collects the values of the marked vertices
-abbrev pub tree_body : ℕ → ℕ → ℕ → ℕ → Block
-tree_body base depth id value =
-    set 0 (One (Number 1)) ▸
-    set 1 (One (Number 0)) ▸
-    Repeat (One (Number depth)) (tree_descend base id) ▸
-    If (Two (Var 1) Equal (Number 0)) (Halt ▸ Stop) Stop ▸
+-- where the process stopped: writes its value, then collects the values of the marked vertices
+abbrev pub tree_leave : ℕ → ℕ → ℕ → Block
+tree_leave base depth value =
     set 2 (Two (Var 2) Add (Number 3)) ▸
     Write (Var 2) (One (Number value)) ▸
     Assign (target.Cell 1) (One (Number 1)) ▸
     set 0 (One (Number 0)) ▸
     Repeat (One (Number (2 ^ depth - 1))) (tree_collect base) ▸
     Stop
+
+-- after the way down: over where the process did not stop
+abbrev pub tree_after : ℕ → ℕ → ℕ → Block
+tree_after base depth value = If (Two (Var 1) Equal (Number 0)) (Halt ▸ Stop) Stop ▸ tree_leave base depth value
+
+-- goes down from the root; where it stops it writes its value, then collects the values of the marked vertices
+abbrev pub tree_body : ℕ → ℕ → ℕ → ℕ → Block
+tree_body base depth id value =
+    set 0 (One (Number 1)) ▸
+    set 1 (One (Number 0)) ▸
+    Repeat (One (Number depth)) (tree_descend base id) ▸
+    tree_after base depth value
 
 -- ---- name: a register a slot, for its proposal; cell j is what slot j held,
 -- variable 0 is the proposal, variable 1 tells a clash, variable 2 is the rank

@@ -9,6 +9,7 @@ ghost use Rattle.reglang.specs.Forms as spec;
 use crate::clauses::clause_of;
 use crate::lines::{is_printable, split_word};
 use crate::operands::{alone, expr_of, kind_of, number_in, operand_of, target_of, use_of};
+use crate::refusals::{NO_FORM, NO_NUMBER, NOT_PRINTABLE, UNKNOWN_WORD};
 use crate::uses::Use;
 use crate::words::{Keyword, Word, word_of};
 use arrayvec::ArrayVec;
@@ -166,14 +167,14 @@ fn formed(key: Keyword, rest: &[u8]) -> Result<Option<Line>, u8>
 {
     let later = later_words(rest);
     if !later.known {
-        return Err(2);
+        return Err(UNKNOWN_WORD);
     }
     if later.no_number {
-        return Err(3);
+        return Err(NO_NUMBER);
     }
     match form_of(key, later.first.as_slice()) {
         Some(line) => Ok(Some(line)),
-        None => Err(4),
+        None => Err(NO_FORM),
     }
 }
 
@@ -184,7 +185,7 @@ pub fn read_line(line: &[u8]) -> Result<Option<Line>, u8>
     ensures { result ≡ spec.read_line line.now }
 {
     if !is_printable(line) {
-        return Err(1);
+        return Err(NOT_PRINTABLE);
     }
     let Some((first, rest)) = split_word(line) else {
         return Ok(None);
@@ -195,7 +196,7 @@ pub fn read_line(line: &[u8]) -> Result<Option<Line>, u8>
             later_words(rest).first.as_slice(),
         )))),
         Word::Keyword(key) => formed(key, rest),
-        _ => Err(2),
+        _ => Err(UNKNOWN_WORD),
     }
 }
 
@@ -254,26 +255,26 @@ mod tests {
 
     /// Lines that say nothing, and the code of each.
     const FAULTY: [(&[u8], u8); 20] = [
-        (b"#\t", 1),
-        (b"emit\t1", 1),
-        (b"emit 1\r", 1),
-        (b"emit \x7f", 1),
-        (b"emits 1", 2),
-        (b"1", 2),
-        (b"v0", 2),
-        (b"split 0 1", 2),
-        (b"set v16 1", 2),
-        (b"emit 007 x", 2),
-        (b"emit 1 # one", 2),
-        (b"emit end", 2),
-        (b"use distinct 0 1", 2),
-        (b"emit 007", 3),
-        (b"end 1 2 3 4 5 6 7 8a", 3),
-        (b"emit", 4),
-        (b"set 5 v0", 4),
-        (b"emit 1 + 2 + 3", 4),
-        (b"use tree 0 4 1 2 3", 4),
-        (b"registers v1", 4),
+        (b"#\t", NOT_PRINTABLE),
+        (b"emit\t1", NOT_PRINTABLE),
+        (b"emit 1\r", NOT_PRINTABLE),
+        (b"emit \x7f", NOT_PRINTABLE),
+        (b"emits 1", UNKNOWN_WORD),
+        (b"1", UNKNOWN_WORD),
+        (b"v0", UNKNOWN_WORD),
+        (b"split 0 1", UNKNOWN_WORD),
+        (b"set v16 1", UNKNOWN_WORD),
+        (b"emit 007 x", UNKNOWN_WORD),
+        (b"emit 1 # one", UNKNOWN_WORD),
+        (b"emit end", UNKNOWN_WORD),
+        (b"use distinct 0 1", UNKNOWN_WORD),
+        (b"emit 007", NO_NUMBER),
+        (b"end 1 2 3 4 5 6 7 8a", NO_NUMBER),
+        (b"emit", NO_FORM),
+        (b"set 5 v0", NO_FORM),
+        (b"emit 1 + 2 + 3", NO_FORM),
+        (b"use tree 0 4 1 2 3", NO_FORM),
+        (b"registers v1", NO_FORM),
     ];
 
     #[test]

@@ -12,13 +12,10 @@ ghost use Rattle.reglang.specs.Sources.{contents_of};
 use crate::draft::Draft;
 use crate::forms::read_line;
 use crate::lines::split_line;
-use crate::refusals::Refusal;
+use crate::refusals::{NO_MEMORY, Refusal};
 use crate::source::Source;
 use std::alloc::Global;
 use thiserror::Error;
-
-/// The code of a request for memory that was refused.
-const NO_MEMORY: u8 = 9;
 
 /// Why a text was not read.
 #[derive(Clone, Copy, PartialEq, Eq, Debug, Error)]

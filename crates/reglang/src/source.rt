@@ -6,7 +6,6 @@ ghost use Rattle.reglang.specs.Contents.{clause_fits, is_over};
 use crate::copies::copy_block;
 use crate::expansions::expand;
 use crate::uses::Use;
-use arrayvec::ArrayVec;
 use regmodel::{Clause, Clauses, OutOfMemory, Prog};
 use std::alloc::Global;
 
@@ -134,6 +133,6 @@ impl Source {
         requires { p < length (programs_of self.now) }
         ensures { IfOk result (λ prog. slice_get (programs_of self.now) p ≡ Some (program_of prog)) }
     {
-        self.processes[p].prog(alloc, self.registers)
+        self.processes[p].prog(alloc, self.registers())
     }
 }

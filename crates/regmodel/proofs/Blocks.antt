@@ -13,7 +13,7 @@ block_of-drop xs i x h e = ap block_of (drop-cons xs i x h) ∙ rw (← e, add-o
 
 -- ---- a statement before the rest of its block
 
-pub open_blocks-with_stmt : (s : Stmt) (b : Block) → open_blocks (with_stmt s b) ≡ max (open_blocks (with_stmt s Stop)) (open_blocks b)
+open_blocks-with_stmt : (s : Stmt) (b : Block) → open_blocks (with_stmt s b) ≡ max (open_blocks (with_stmt s Stop)) (open_blocks b)
 open_blocks-with_stmt (stmt.Assign t e) b = omega arith
 open_blocks-with_stmt (stmt.Read t a) b = omega arith
 open_blocks-with_stmt (stmt.Write a e) b = omega arith
@@ -22,7 +22,7 @@ open_blocks-with_stmt (stmt.Repeat' e m body) b = omega arith
 open_blocks-with_stmt (stmt.Emit e) b = omega arith
 open_blocks-with_stmt stmt.Halt b = omega arith
 
-pub open_repeats-with_stmt : (s : Stmt) (b : Block) → open_repeats (with_stmt s b) ≡ max (open_repeats (with_stmt s Stop)) (open_repeats b)
+open_repeats-with_stmt : (s : Stmt) (b : Block) → open_repeats (with_stmt s b) ≡ max (open_repeats (with_stmt s Stop)) (open_repeats b)
 open_repeats-with_stmt (stmt.Assign t e) b = omega arith
 open_repeats-with_stmt (stmt.Read t a) b = omega arith
 open_repeats-with_stmt (stmt.Write a e) b = omega arith
@@ -31,7 +31,7 @@ open_repeats-with_stmt (stmt.Repeat' e m body) b = omega arith
 open_repeats-with_stmt (stmt.Emit e) b = omega arith
 open_repeats-with_stmt stmt.Halt b = omega arith
 
-pub statements-with_stmt : (s : Stmt) (b : Block) → statements (with_stmt s b) ≡ statements (with_stmt s Stop) + statements b
+statements-with_stmt : (s : Stmt) (b : Block) → statements (with_stmt s b) ≡ statements (with_stmt s Stop) + statements b
 statements-with_stmt (stmt.Assign t e) b = omega arith
 statements-with_stmt (stmt.Read t a) b = omega arith
 statements-with_stmt (stmt.Write a e) b = omega arith
@@ -40,20 +40,12 @@ statements-with_stmt (stmt.Repeat' e m body) b = omega arith
 statements-with_stmt (stmt.Emit e) b = omega arith
 statements-with_stmt stmt.Halt b = omega arith
 
-and_true : (a : Bool) → a && true ≡ a
-and_true true = refl
-and_true false = refl
-
-and_assoc : (a b c : Bool) → (a && b) && c ≡ a && (b && c)
-and_assoc true b c = refl
-and_assoc false b c = refl
-
 -- a test before the rest, where the test alone stands before `true`
 parted : (a b : Bool) → a && b ≡ (a && true) && b
 parted true b = refl
 parted false b = refl
 
-pub operands_fit-with_stmt : (s : Stmt) (b : Block) → operands_fit (with_stmt s b) ≡ operands_fit (with_stmt s Stop) && operands_fit b
+operands_fit-with_stmt : (s : Stmt) (b : Block) → operands_fit (with_stmt s b) ≡ operands_fit (with_stmt s Stop) && operands_fit b
 operands_fit-with_stmt (stmt.Assign t e) b = parted (target_fits t && expr_fits e) (operands_fit b)
 operands_fit-with_stmt (stmt.Read t a) b = parted (target_fits t && operand_fits a) (operands_fit b)
 operands_fit-with_stmt (stmt.Write a e) b = parted (operand_fits a && expr_fits e) (operands_fit b)

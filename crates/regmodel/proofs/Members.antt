@@ -17,12 +17,12 @@ module _ {X : Type 0} where
   Mem-from_Contains xs x h = subst (λ y. Mem y xs) h.2 (Mem_at xs h.0 x h.1)
 
   pub Contains-from_Mem : (xs : List X) (x : X) → Mem x xs → Contains xs x
-  Contains-from_Mem [] x x3 = elim x3 [ ]
+  Contains-from_Mem [] x m = absurd m
   Contains-from_Mem (y ∷ ys) x (inl e) = (0, omega arith, e)
   Contains-from_Mem (y ∷ ys) x (inr h) = let r = Contains-from_Mem ys x h in (suc r.0, omega (arith, r.1), r.2)
 
   pub Mem-append_left : (xs ys : List X) (x : X) → Mem x xs → Mem x (xs ++ ys)
-  Mem-append_left [] ys x x3 = elim x3 [ ]
+  Mem-append_left [] ys x m = absurd m
   Mem-append_left (y ∷ xs) ys x (inl e) = inl e
   Mem-append_left (y ∷ xs) ys x (inr h) = inr (Mem-append_left xs ys x h)
 
@@ -35,7 +35,15 @@ module _ {X : Type 0} where
   Mem-append_cases (y ∷ xs) ys x (inl e) = inl (inl e)
   Mem-append_cases (y ∷ xs) ys x (inr h) = elim (Mem-append_cases xs ys x h) [ inl a ↦ inl (inr a) | inr b ↦ inr b ]
 
+  pub no_members : (xs : List X) → ((x : X) → Mem x xs → ⊥) → xs ≡ []
+  no_members [] none = refl
+  no_members (x ∷ xs) none = absurd (none x (inl refl))
+
   -- ---- what passes a test
+
+  pub filter-all : (xs : List X) → filter (λ x. true) xs ≡ xs
+  filter-all [] = refl
+  filter-all (x ∷ xs) = ap (λ ys. x ∷ ys) (filter-all xs)
 
   kept_if : (b : Bool) (x y : X) (xs : List X) → Mem x (cond b (y ∷ xs) xs) → ((y ≡ x) × (b ≡ true)) ⊎ Mem x xs
   kept_if true x y xs (inl e) = inl (e, refl)
@@ -43,7 +51,7 @@ module _ {X : Type 0} where
   kept_if false x y xs h = inr h
 
   pub Mem-filter : (p : X → Bool) (xs : List X) (x : X) → Mem x xs → p x ≡ true → Mem x (filter p xs)
-  Mem-filter p [] x x4 h = elim x4 [ ]
+  Mem-filter p [] x m h = absurd m
   Mem-filter p (y ∷ xs) x (inl e) h = subst (λ b. Mem x (cond b (y ∷ filter p xs) (filter p xs))) (sym (ap p e ∙ h)) (inl e)
   Mem-filter p (y ∷ xs) x (inr m) h = either (p y) (Mem-filter p xs x m h)
     where
@@ -52,7 +60,7 @@ module _ {X : Type 0} where
       either false m = m
 
   pub Mem-from_filter : (p : X → Bool) (xs : List X) (x : X) → Mem x (filter p xs) → Mem x xs × (p x ≡ true)
-  Mem-from_filter p [] x m = elim m [ ]
+  Mem-from_filter p [] x m = absurd m
   Mem-from_filter p (y ∷ xs) x m = elim (kept_if (p y) x y (filter p xs) m) [
     | inl h ↦ (inl h.0, ap p (sym h.0) ∙ h.1)
     | inr h ↦ (let r = Mem-from_filter p xs x h in (inr r.0, r.1))
@@ -75,6 +83,12 @@ module _ {X : Type 0} where
   Sorted-append R (x ∷ xs) ys s t h =
       (λ y m. elim (Mem-append_cases xs ys y m) [ inl a ↦ s.0 y a | inr b ↦ h x y (inl refl) b ], Sorted-append R xs ys s.1 t (λ a b m n. h a b (inr m) n))
 
+  -- what is in the first part stands in the relation to what is in the second
+  pub Sorted-across : (R : X → X → Type 0) (xs ys : List X) (x y : X) → Sorted R (xs ++ ys) → Mem x xs → Mem y ys → R x y
+  Sorted-across R [] ys x y s m n = absurd m
+  Sorted-across R (z ∷ xs) ys x y s (inl e) n = subst (λ (v : X). R v y) e (s.0 y (Mem-append_right xs ys y n))
+  Sorted-across R (z ∷ xs) ys x y s (inr m) n = Sorted-across R xs ys x y s.1 m n
+
   pub Sorted-filter : (R : X → X → Type 0) (p : X → Bool) (xs : List X) → Sorted R xs → Sorted R (filter p xs)
   Sorted-filter R p [] s = tt
   Sorted-filter R p (x ∷ xs) s = either (p x) (Sorted-filter R p xs s.1)
@@ -85,12 +99,12 @@ module _ {X : Type 0} where
 
 module _ {X Y : Type 0} where
   pub Mem-map : (f : X → Y) (xs : List X) (x : X) → Mem x xs → Mem (f x) (map f xs)
-  Mem-map f [] x x3 = elim x3 [ ]
+  Mem-map f [] x m = absurd m
   Mem-map f (z ∷ xs) x (inl e) = inl (ap f e)
   Mem-map f (z ∷ xs) x (inr h) = inr (Mem-map f xs x h)
 
   pub Mem-from_map : (f : X → Y) (xs : List X) (y : Y) → Mem y (map f xs) → (x : X) × Mem x xs × (f x ≡ y)
-  Mem-from_map f [] y x' = elim x' [ ]
+  Mem-from_map f [] y m = absurd m
   Mem-from_map f (z ∷ xs) y (inl e) = (z, inl refl, e)
   Mem-from_map f (z ∷ xs) y (inr h) = let r = Mem-from_map f xs y h in (r.0, inr r.1, r.2)
 
@@ -100,12 +114,12 @@ module _ {X Y : Type 0} where
       (λ y m. let r = Mem-from_map f xs y m in subst (Q (f x)) r.2 (h x r.0 (s.0 r.0 r.1)), Sorted-map R Q f xs h s.1)
 
   pub Mem-flat_map : (f : X → List Y) (xs : List X) (x : X) (y : Y) → Mem x xs → Mem y (f x) → Mem y (flat_map f xs)
-  Mem-flat_map f [] x y x4 h = elim x4 [ ]
+  Mem-flat_map f [] x y m h = absurd m
   Mem-flat_map f (z ∷ xs) x y (inl e) h = Mem-append_left (f z) (flat_map f xs) y (subst (λ a. Mem y (f a)) (sym e) h)
   Mem-flat_map f (z ∷ xs) x y (inr m) h = Mem-append_right (f z) (flat_map f xs) y (Mem-flat_map f xs x y m h)
 
   pub Mem-from_flat_map : (f : X → List Y) (xs : List X) (y : Y) → Mem y (flat_map f xs) → (x : X) × Mem x xs × Mem y (f x)
-  Mem-from_flat_map f [] y m = elim m [ ]
+  Mem-from_flat_map f [] y m = absurd m
   Mem-from_flat_map f (z ∷ xs) y m = elim (Mem-append_cases (f z) (flat_map f xs) y m) [
     | inl a ↦ (z, inl refl, a)
     | inr b ↦ (let r = Mem-from_flat_map f xs y b in (r.0, inr r.1, r.2))
@@ -123,8 +137,8 @@ pub Mem-range : (a n k : ℕ) → a ≤ k → k < a + n → Mem k (range_with_le
 Mem-range a zero k h l = absurd (omega arith)
 Mem-range a (suc n) k h l = elim (cases_eq a k) [ inl e ↦ inl e | inr ne ↦ inr (Mem-range (a + 1) n k (omega arith) (omega arith)) ]
 
-pub Mem-from_range : (a n k : ℕ) → Mem k (range_with_len a n) → (a ≤ k) × (k < a + n)
-Mem-from_range a zero k x' = elim x' [ ]
+Mem-from_range : (a n k : ℕ) → Mem k (range_with_len a n) → (a ≤ k) × (k < a + n)
+Mem-from_range a zero k m = absurd m
 Mem-from_range a (suc n) k (inl e) = (omega arith, omega arith)
 Mem-from_range a (suc n) k (inr h) = let r = Mem-from_range (a + 1) n k h in (omega (arith, r.0), omega (arith, r.1))
 

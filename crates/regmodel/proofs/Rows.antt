@@ -6,10 +6,11 @@ use Rattle.regmodel.specs.declared.programs.Stmt.{Stmt, If, If', Repeat, Repeat'
 use Rattle.regmodel.specs.Program as program
 use Rattle.regmodel.specs.Program.{Block, block_of, row_block, with_stmt}
 
-pub block_of_row : (n : _) (row : Row_of-Stmt n) → row_block row ≡ block_of (items-the_row-Stmt n row)
+block_of_row : (n : _) (row : Row_of-Stmt n) → row_block row ≡ block_of (items-the_row-Stmt n row)
 block_of_row n end_of-Stmt = refl
 block_of_row n (more_of-Stmt s rest) = ap (with_stmt s) (block_of_row _ rest)
 
+-- the vectors in a statement, as rows
 abbrev first_row : Stmt → (n : Count) × Row_of-Stmt n
 first_row (If' e m a k b) = (_, a)
 first_row (Repeat' e m a) = (_, a)

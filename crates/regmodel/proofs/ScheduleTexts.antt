@@ -70,6 +70,7 @@ next-letter : (v w u : List Letter) (rest : List ℕ) → w ≡ v ++ u → space
 next-letter v w [] rest e h = absurd (cc)
 next-letter v w (a ∷ u) rest e h = record { letter = a; later = u; whole = e; left = cc }
 
+-- a schedule with the whole text goes on after what is read of it
 goes_on : (v w : List Letter) (rest text : List ℕ) → IsReadUpTo v rest text → schedule_text w ≡ text → GoesOn v w rest
 goes_on v [] rest text read e = absurd (read.no_dot (sym e))
 goes_on v (c ∷ w) rest text read e =

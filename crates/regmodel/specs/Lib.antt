@@ -3,8 +3,10 @@ pub mod AllSchedules
 pub mod Asleep
 pub mod AsleepExamples
 pub mod Bounds
+pub mod Classes
 pub mod Conflict
 pub mod ConflictExamples
+pub mod Events
 pub mod Examples
 pub mod Lawful
 pub mod Letters
@@ -14,6 +16,8 @@ pub mod Outcomes
 pub mod PlainReport
 pub mod Prefixes
 pub mod Program
+pub mod Reduced
+pub mod ReducedExamples
 pub mod Replies
 pub mod ReportText
 pub mod ScheduleText

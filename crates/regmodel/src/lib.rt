@@ -10,6 +10,7 @@ mod limits;
 pub mod memory;
 pub mod outcomes;
 pub mod programs;
+pub mod reductions;
 pub mod schedule_texts;
 pub mod schedules;
 

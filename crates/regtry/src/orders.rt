@@ -126,7 +126,7 @@ fn explore<'a>(alloc: Global) -> Result<Command<'a>, AllocError> {
         .action(ArgAction::SetTrue)
         .help("Interpret the processes with a `use` line, too, which else run as native machines");
     Command::new(alloc, "explore")
-        .about("Tries all schedules of a source and prints a report of the outcomes.")
+        .about("Explores all schedules of a source and prints a report of the outcomes.")
         .after_help(STATUSES)
         .arg(file(alloc))?
         .arg(number(

@@ -58,7 +58,7 @@ const USES: [(&[u8], &str, &str); 8] = [
 ];
 
 /// Sources, the length and the crashes, and the report.
-const REPORTS: [(&[u8], &str, &str, &[u8]); 20] = [
+const REPORTS: [(&[u8], &str, &str, &[u8]); 21] = [
     (
         HALTS,
         "0",
@@ -147,19 +147,25 @@ const REPORTS: [(&[u8], &str, &str, &[u8]); 20] = [
         TWO_WRITERS,
         "2",
         "0",
-        b"processes 2\nlength 2\ncrashes 0\ntried 2\noutcomes 1\noutcome done; done\nleast none\n",
+        b"processes 2\nlength 2\ncrashes 0\ntried 1\noutcomes 1\noutcome done; done\nleast none\n",
     ),
     (
         TWO_READERS,
         "2",
         "0",
-        b"processes 2\nlength 2\ncrashes 0\ntried 2\noutcomes 1\noutcome done; done\nleast none\n",
+        b"processes 2\nlength 2\ncrashes 0\ntried 1\noutcomes 1\noutcome done; done\nleast none\n",
     ),
     (
         TWO_WRITERS,
         "2",
         "1",
-        b"processes 2\nlength 2\ncrashes 1\ntried 6\noutcomes 3\noutcome crashed idle; done\noutcome done; crashed idle\noutcome done; done\nleast none\n",
+        b"processes 2\nlength 2\ncrashes 1\ntried 3\noutcomes 3\noutcome crashed idle; done\noutcome done; crashed idle\noutcome done; done\nleast none\n",
+    ),
+    (
+        TWO_WRITERS,
+        "2",
+        "2",
+        b"processes 2\nlength 2\ncrashes 2\ntried 5\noutcomes 4\noutcome crashed idle; crashed idle\noutcome crashed idle; done\noutcome done; crashed idle\noutcome done; done\nleast none\n",
     ),
     (
         ONE_WRITER,

@@ -1,25 +1,23 @@
 use Rattle.std.proofs.Common.{◌≡◌, ◌&&◌, Bool, true, false, ap, refl, sym, ◌∙◌, arith}
+use Rattle.std.proofs.Math.Bool.{and-true}
 use Rattle.regmodel.specs.Limits.{operands_fit}
 use Rattle.regmodel.specs.Program.{block_of}
 use Rattle.regmodel.proofs.Blocks.{operands_fit-step, with_stmt_if, with_stmt_repeat}
 use Rattle.regmodel.proofs.limits.+fits.Goals as goal
 
-and_true : (a : Bool) → a && true ≡ a
-and_true true = refl
-and_true false = refl
-
+-- tests one after another, as `operands_fit` writes them
 and_first : (a b c : Bool) → false ≡ b → a ≡ true → false ≡ ((a && b) && c) && true
 and_first true false c e h = refl
 and_first true true c e h = cc
 and_first false b c e h = refl
 
 and_last : (a b c : Bool) → a ≡ true → b ≡ true → c ≡ ((a && b) && c) && true
-and_last true true c g h = sym (and_true c)
+and_last true true c g h = sym (and-true c)
 and_last true false c g h = cc
 and_last false b c g h = cc
 
 and_only : (a b : Bool) → a ≡ true → b ≡ (a && b) && true
-and_only true b h = sym (and_true b)
+and_only true b h = sym (and-true b)
 and_only false b h = cc
 
 pub operands_fit-returns-then-not-stmt_fits : goal.operands_fit-returns-then-not-stmt_fits
