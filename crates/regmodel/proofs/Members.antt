@@ -1,7 +1,9 @@
 -- Members of lists, and lists in which each element stands in a relation to each later one, by recursion.
-use Rattle.std.proofs.Common.{◌≡◌, ℕ, zero, suc, ◌+◌, ◌<◌, ◌≤◌, Bool, true, false, cond, List, [], ◌∷◌, ◌++◌, ◌⊎◌, inl, inr, length, get_or, refl, ap, sym, ◌∙◌, subst, arith, map, AllPairs, Contains, filter}
+use Rattle.std.proofs.Common.{◌≡◌, ℕ, zero, suc, ◌+◌, ◌<◌, ◌≤◌, Bool, true, false, cond, List, [], ◌∷◌, ◌++◌, ◌⊎◌, inl, inr, length, get_or, refl, ap, sym, ◌∙◌, subst, arith, map, take, All, AllPairs, Contains, Some, filter}
 use Rattle.std.proofs.lemmas.Bool.{cases_eq}
-use Rattle.std.specs.List.{flat_map, range_with_len}
+use Rattle.std.proofs.lemmas.List.{take_more}
+use Rattle.std.proofs.lemmas.Option.{get_or_from_slice_get, slice_get_within}
+use Rattle.std.specs.List.{flat_map, range_with_len, slice_get}
 
 module _ {X : Type 0} where
   abbrev pub Mem : X → List X → Type 0
@@ -35,9 +37,16 @@ module _ {X : Type 0} where
   Mem-append_cases (y ∷ xs) ys x (inl e) = inl (inl e)
   Mem-append_cases (y ∷ xs) ys x (inr h) = elim (Mem-append_cases xs ys x h) [ inl a ↦ inl (inr a) | inr b ↦ inr b ]
 
+  pub All-from_Mem : (P : X → Type 0) (xs : List X) → ((x : X) → Mem x xs → P x) → All P xs
+  All-from_Mem P xs h k d lt = h (get_or xs k d) (Mem_at xs k d lt)
+
   pub no_members : (xs : List X) → ((x : X) → Mem x xs → ⊥) → xs ≡ []
   no_members [] none = refl
   no_members (x ∷ xs) none = absurd (none x (inl refl))
+
+  -- the first elements, with one more
+  pub take_push : (xs : List X) (i : ℕ) (x : X) → slice_get xs i ≡ Some x → take (i + 1) xs ≡ take i xs ++ x ∷ []
+  take_push xs i x h = take_more xs i x (slice_get_within xs i x h) ∙ ap (λ y. take i xs ++ y ∷ []) (get_or_from_slice_get xs i x x h)
 
   -- ---- what passes a test
 
@@ -78,10 +87,21 @@ module _ {X : Type 0} where
   AllPairs-from_Sorted R (x ∷ xs) s zero (suc j) d h k = s.0 (get_or xs j d) (Mem_at xs j d (omega arith))
   AllPairs-from_Sorted R (x ∷ xs) s (suc i) (suc j) d h k = AllPairs-from_Sorted R xs s.1 i j d (omega arith) (omega arith)
 
+  pub Sorted-from_AllPairs : (R : X → X → Type 0) (xs : List X) → AllPairs R xs → Sorted R xs
+  Sorted-from_AllPairs R [] h = tt
+  Sorted-from_AllPairs R (x ∷ xs) h = (
+    λ y m. let r = Contains-from_Mem xs y m in subst (R x) r.2 (h 0 (suc r.0) y (omega arith) (omega (arith, r.1))),
+    Sorted-from_AllPairs R xs (λ i j d lt within. h (suc i) (suc j) d (omega arith) (omega arith)),
+  )
+
   pub Sorted-append : (R : X → X → Type 0) (xs ys : List X) → Sorted R xs → Sorted R ys → ((x y : X) → Mem x xs → Mem y ys → R x y) → Sorted R (xs ++ ys)
   Sorted-append R [] ys s t h = t
   Sorted-append R (x ∷ xs) ys s t h =
       (λ y m. elim (Mem-append_cases xs ys y m) [ inl a ↦ s.0 y a | inr b ↦ h x y (inl refl) b ], Sorted-append R xs ys s.1 t (λ a b m n. h a b (inr m) n))
+
+  pub Sorted-parts : (R : X → X → Type 0) (xs ys : List X) → Sorted R (xs ++ ys) → Sorted R xs × Sorted R ys
+  Sorted-parts R [] ys s = (tt, s)
+  Sorted-parts R (x ∷ xs) ys s = let r = Sorted-parts R xs ys s.1 in ((λ y m. s.0 y (Mem-append_left xs ys y m), r.0), r.1)
 
   -- what is in the first part stands in the relation to what is in the second
   pub Sorted-across : (R : X → X → Type 0) (xs ys : List X) (x y : X) → Sorted R (xs ++ ys) → Mem x xs → Mem y ys → R x y

@@ -1,2 +1,2 @@
-mod Takes
+mod BoundedReads
 mod UseLines

@@ -1,5 +1,5 @@
 use Rattle.std.proofs.Common.{arith}
-use Rattle.regtry.proofs.Takes.{all_read}
+use Rattle.regtry.proofs.BoundedReads.{all_read}
 use Rattle.regtry.proofs.answers.bytes_of.Goals as goal
 
 pub returns-in-Ok : goal.returns-in-Ok

@@ -4,7 +4,7 @@ use Rattle.regmodel.specs.Program.{Program}
 use Rattle.std.proofs.lemmas.Result.{err_from_is_err_and}
 use denote.Param.Object.{read_made}
 use Rattle.reglang.specs.Sources.{programs_of}
-use Rattle.regtry.proofs.Takes.{take_push}
+use Rattle.regmodel.proofs.Members.{take_push}
 use Rattle.regtry.proofs.answers.found.OwnLists.{own-1}
 use Rattle.regtry.proofs.answers.found.Goals as goal
 
