@@ -1,7 +1,7 @@
 -- Members of lists, and lists in which each element stands in a relation to each later one, by recursion.
 use Rattle.std.proofs.Common.{◌≡◌, ℕ, zero, suc, ◌+◌, ◌<◌, ◌≤◌, Bool, true, false, cond, List, [], ◌∷◌, ◌++◌, ◌⊎◌, inl, inr, length, get_or, refl, ap, sym, ◌∙◌, subst, arith, map, take, All, AllPairs, Contains, Some, filter}
 use Rattle.std.proofs.lemmas.Bool.{cases_eq}
-use Rattle.std.proofs.lemmas.List.{take_more}
+use Rattle.std.proofs.lemmas.List.{map_push, take_more}
 use Rattle.std.proofs.lemmas.Option.{get_or_from_slice_get, slice_get_within}
 use Rattle.std.specs.List.{flat_map, range_with_len, slice_get}
 
@@ -132,6 +132,11 @@ module _ {X Y : Type 0} where
   Sorted-map R Q f [] h s = tt
   Sorted-map R Q f (x ∷ xs) h s =
       (λ y m. let r = Mem-from_map f xs y m in subst (Q (f x)) r.2 (h x r.0 (s.0 r.0 r.1)), Sorted-map R Q f xs h s.1)
+
+  -- what stands for the first elements of a list, with one more
+  pub map-take_push : (f : X → Y) (xs new : List X) (x : X) (ys : List Y) (i : ℕ) (y : Y) → new ≡ xs ++ x ∷ [] → map f xs ≡ take i ys → f x ≡ y → slice_get ys i ≡ Some y → map f new ≡ take (i + 1) ys
+  map-take_push f xs new x ys i y pushed so_far same at =
+      ap (map f) pushed ∙ (map_push f xs x ∙ (ap (λ zs. zs ++ f x ∷ []) so_far ∙ (ap (λ z. take i ys ++ z ∷ []) same ∙ sym (take_push ys i y at))))
 
   pub Mem-flat_map : (f : X → List Y) (xs : List X) (x : X) (y : Y) → Mem x xs → Mem y (f x) → Mem y (flat_map f xs)
   Mem-flat_map f [] x y m h = absurd m

@@ -2,6 +2,7 @@ pub mod Act
 pub mod AllSchedules
 pub mod Asleep
 pub mod AsleepExamples
+pub mod Balance
 pub mod Bounds
 pub mod Classes
 pub mod Conflict
@@ -11,6 +12,8 @@ pub mod Examples
 pub mod Lawful
 pub mod Letters
 pub mod Limits
+pub mod Meeting
+pub mod MeetingExamples
 pub mod OfProg
 pub mod Outcomes
 pub mod PlainReport

@@ -4,6 +4,7 @@
 pub mod accesses;
 pub mod bounds;
 pub mod clauses;
+mod judging;
 pub mod laws;
 pub mod letters;
 mod limits;

@@ -45,7 +45,7 @@ impl Model for Outcome {
 }
 
 impl Outcome {
-    ghost use Rattle.std.specs.Prelude.{◌≡◌};
+    ghost use Rattle.std.specs.Prelude.{◌≡◌, ◌≤◌, length};
 
     /// The outcome of these ends.
     pub fn new(ends: ArrayVec<ProcEnd, 8>) -> Outcome
@@ -57,6 +57,14 @@ impl Outcome {
     /// How each process stands.
     pub fn ends(&self) -> &[ProcEnd]
         ensures { result.now ≡ self.now }
+    {
+        self.ends.as_slice()
+    }
+
+    /// How each process stands; at most 8.
+    pub(crate) fn few_ends(&self) -> &[ProcEnd]
+        ensures value { result.now ≡ self.now }
+        ensures few { length result.now ≤ 8 }
     {
         self.ends.as_slice()
     }

@@ -1,8 +1,9 @@
 //! Does what was asked, and gives the status.
 
-ghost use Rattle.std.specs.Prelude.{◌≡◌, ◌≤◌, IfErr, IfOk, IfSome, IsNone, if◌then◌else◌, map, option_and_then, true};
+ghost use Rattle.std.specs.Prelude.{◌≡◌, ◌≤◌, IfErr, IfOk, IfSome, IsNone, if◌then◌else◌, map, option_and_then};
+ghost use Rattle.regmodel.specs.Meeting.{meets_all};
 ghost use Rattle.regmodel.specs.PlainReport.{IsPlainReport};
-ghost use Rattle.reglang.specs.Sources.{programs_of};
+ghost use Rattle.reglang.specs.Sources.{contents_of, programs_of};
 ghost use Rattle.explorer.specs.Appending.{Writes, fault_of};
 ghost use Rattle.regtry.specs.Findings.{IsAnswered, IsFoundBy, IsRefusedBy, IsRunFault, finding_text, has_failing};
 ghost use Rattle.regtry.specs.Statuses.{status_of};
@@ -14,26 +15,13 @@ use crate::standings::{Standing, standing_after};
 use explorer::{Report, WriteFault, run_one, write_report, write_standing};
 use machine::Machine;
 use reglang::{Source, read_source};
-use regmodel::{Judge, Outcome, Settings};
+use regmodel::Settings;
 use std::alloc::Global;
 use std::io;
 use std::io::{ErrorKind, Read, Write};
 
 /// The most bytes of a source.
 const MOST_BYTES: u64 = 1048576;
-
-/// Accepts every outcome.
-struct AcceptAll;
-
-impl Judge for AcceptAll {
-    ghost use Rattle.std.specs.Prelude.{true};
-
-    ghost accepts = { λ judge ends. true };
-
-    fn holds(&self, _outcome: &Outcome) -> bool {
-        true
-    }
-}
 
 /// What was found of a source.
 #[derive(Debug, Drop)]
@@ -158,10 +146,10 @@ fn report_of(
     machines: Vec<Box<dyn Machine + Send>>,
 ) -> Result<Report, u8>
     requires { map program machines.items ≡ programs_of source.now }
-    ensures report { IfOk result (λ r. IsPlainReport (programs_of source.now) settings.length settings.crashes (λ ends. true) r) }
+    ensures report { IfOk result (λ r. IsPlainReport (programs_of source.now) settings.length settings.crashes (meets_all (contents_of source.now).clauses) r) }
     ensures code { IfErr result (IsRunFault (programs_of source.now) settings) }
 {
-    match run_one(alloc, source, settings, machines, &AcceptAll) {
+    match run_one(alloc, source, settings, machines, source.clauses()) {
         Ok(report) => Ok(report),
         Err(fault) => Err(fault.code),
     }

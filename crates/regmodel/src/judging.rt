@@ -1,0 +1,165 @@
+//! Judging outcomes by clauses.
+
+ghost use Rattle.std.specs.Prelude.{◌≡◌, ◌≤◌, ◌+◌, ◌*◌, ◌==◌, ◌&&◌, not, length, count_by, nat_le};
+ghost use Rattle.std.specs.List.{list_all, list_any};
+ghost use Rattle.regmodel.specs.Meeting.{are_different, has_if_done, is_faulty, is_running, meets, meets_all, name_of, names, see_themselves, started};
+
+use crate::clauses::{Clause, Clauses};
+use crate::outcomes::{End, Judge, Outcome, ProcEnd};
+
+/// The name of a process: the first number of a process that is done and has one.
+fn name_of(end: &ProcEnd) -> Option<u32>
+    ensures { result ≡ name_of end.now }
+{
+    match &end.fate {
+        End::Done(numbers) => numbers.as_slice().first().copied(),
+        _ => None,
+    }
+}
+
+/// Whether a process has this name.
+fn has_name(ends: &[ProcEnd], name: u32) -> bool
+    ensures { result ≡ list_any (λ m. m == name) (names ends.now) }
+{
+    ends.iter().filter_map(name_of).any(|m| m == name)
+}
+
+/// Whether the names are pairwise different.
+fn are_different(ends: &[ProcEnd]) -> bool
+    ensures { result ≡ are_different (names ends.now) }
+{
+    let Some((end, more)) = ends.split_first() else {
+        return true;
+    };
+    if let Some(name) = name_of(end)
+        && has_name(more, name)
+    {
+        return false;
+    }
+    are_different(more)
+}
+
+/// How many processes have this name.
+fn count_of(ends: &[ProcEnd], name: u32) -> usize
+    ensures { result ≡ count_by (λ m. m == name) (names ends.now) }
+{
+    ends.iter()
+        .filter_map(name_of)
+        .filter(|m| *m == name)
+        .count()
+}
+
+/// Whether each name is at least the first number and at most the second.
+fn are_within(ends: &[ProcEnd], low: u32, high: u32) -> bool
+    ensures { result ≡ list_all (λ m. nat_le low m && nat_le m high) (names ends.now) }
+{
+    ends.iter()
+        .filter_map(name_of)
+        .all(|m| low <= m && m <= high)
+}
+
+/// How many processes took a step.
+fn started(ends: &[ProcEnd]) -> usize
+    ensures value { result ≡ started ends.now }
+    ensures few { result ≤ length ends.now }
+{
+    ends.iter().filter(|end| end.started).count()
+}
+
+/// Whether a number is among these.
+fn is_among(numbers: &[u32], m: u32) -> bool
+    ensures { result ≡ list_any (λ n. n == m) numbers.now }
+{
+    numbers.iter().any(|n| *n == m)
+}
+
+/// Whether a process that is done has this number among its own.
+fn has_if_done(fate: &End, m: u32) -> bool
+    ensures { result ≡ has_if_done m fate.now }
+{
+    match fate {
+        End::Done(numbers) => is_among(numbers.as_slice(), m),
+        _ => true,
+    }
+}
+
+/// Whether each process that took a step and is done has its number and 1 among its numbers; the first of these is process p.
+fn see_themselves(p: usize, ends: &[ProcEnd]) -> bool
+    requires { p + length ends.now ≤ 8 }
+    ensures { result ≡ see_themselves p ends.now }
+{
+    let Some((end, more)) = ends.split_first() else {
+        return true;
+    };
+    if end.started && !has_if_done(&end.fate, p as u32 + 1) {
+        return false;
+    }
+    see_themselves(p + 1, more)
+}
+
+/// Whether each name m is at least 1, and m + 1 at most twice the number of processes that took a step.
+fn are_adaptive(ends: &[ProcEnd]) -> bool
+    requires { length ends.now ≤ 8 }
+    ensures { result ≡ list_all (λ m. nat_le 1 m && nat_le (m + 1) (2 * started ends.now)) (names ends.now) }
+{
+    let most = 2 * started(ends) as u64;
+    ends.iter()
+        .filter_map(name_of)
+        .all(|m| 1 <= m && u64::from(m) + 1 <= most)
+}
+
+/// Whether each name m is at least 1, and 2m at most k(k + 1), where k processes took a step.
+fn are_in_triangle(ends: &[ProcEnd]) -> bool
+    requires { length ends.now ≤ 8 }
+    ensures { result ≡ list_all (λ m. nat_le 1 m && nat_le (2 * m) (started ends.now * (started ends.now + 1))) (names ends.now) }
+{
+    let k = started(ends) as u64;
+    let most = k * (k + 1);
+    ends.iter()
+        .filter_map(name_of)
+        .all(|m| 1 <= m && 2 * u64::from(m) <= most)
+}
+
+/// Whether a process still wants an access.
+fn some_running(ends: &[ProcEnd]) -> bool
+    ensures { result ≡ list_any is_running ends.now }
+{
+    ends.iter().any(|end| matches!(end.fate, End::Running))
+}
+
+/// Whether a process is at fault.
+fn some_faulty(ends: &[ProcEnd]) -> bool
+    ensures { result ≡ list_any is_faulty ends.now }
+{
+    ends.iter().any(|end| matches!(end.fate, End::Fault(_)))
+}
+
+/// Whether an outcome meets a clause.
+fn meets(clause: &Clause, outcome: &Outcome) -> bool
+    ensures { result ≡ meets clause.now outcome.now }
+{
+    let ends = outcome.few_ends();
+    match *clause {
+        Clause::Distinct => are_different(ends),
+        Clause::AtMost(name, count) => count_of(ends, name) <= count as usize,
+        Clause::Within(low, high) => are_within(ends, low, high),
+        Clause::Adaptive => are_adaptive(ends),
+        Clause::Triangle => are_in_triangle(ends),
+        Clause::SelfSeen => see_themselves(0, ends),
+        Clause::Ended => !some_running(ends),
+        Clause::NoFault => !some_faulty(ends),
+    }
+}
+
+impl Judge for Clauses {
+    ghost use Rattle.regmodel.specs.Meeting.{meets_all};
+
+    ghost accepts = { λ clauses ends. meets_all clauses ends };
+
+    fn holds(&self, outcome: &Outcome) -> bool {
+        self.list().iter().all(|clause| meets(clause, outcome))
+    }
+}
+
+#[cfg(test)]
+mod tests;
