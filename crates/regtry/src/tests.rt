@@ -9,5 +9,6 @@ mod reports;
 mod sources;
 mod texts;
 mod transcripts;
+mod tutorial;
 mod words;
 mod writes;

@@ -77,7 +77,7 @@ check ended
 ];
 
 /// The status of each command line, and what it prints.
-const RUNS: [(u8, &str); 5] = [
+const RUNS: [(u8, &str); 6] = [
     (
         0,
         "$ ./regtry explore examples/splitter.reg --length 8 --crashes 0 --workers 1 --cut 0 --room 0
@@ -150,6 +150,13 @@ outcomes 1
 outcome running
 least R0 R0 R0 R0 R0 R0 R0 R0 R0
 fails running
+",
+    ),
+    (
+        0,
+        "$ ./regtry replay examples/splitter.reg 'R0 R0 R0 R1 R0 R1'
+outcome done 3; done 2
+registers 2 1
 ",
     ),
 ];
