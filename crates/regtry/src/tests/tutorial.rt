@@ -183,7 +183,7 @@ fails done 1; running
 ];
 
 #[test]
-fn the_tutorial_prints_what_it_says(rt: HostRuntime) -> Result<(), Fail> {
+fn each_command_prints_what_is_shown(rt: HostRuntime) -> Result<(), Fail> {
     for (file, runs) in [
         (FIRST, RUNS_FIRST.as_slice()),
         (READ_MENDED, RUNS_READ_MENDED.as_slice()),

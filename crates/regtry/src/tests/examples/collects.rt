@@ -226,7 +226,7 @@ fails done 1; done 1
 ];
 
 #[test]
-fn the_reports_are_those_of_a_plain_search(rt: HostRuntime) -> Result<(), Fail> {
+fn each_command_prints_what_is_shown(rt: HostRuntime) -> Result<(), Fail> {
     for (status, shown) in RUNS {
         assert_prints(&rt, &rt, FILES.as_slice(), status, shown)?;
     }
