@@ -53,6 +53,7 @@ process
     set v0 v2
     set v1 v3
   done
+  # It never comes here; if it did, the check would refuse the outcome.
   emit 1
 end
 ",
@@ -119,8 +120,8 @@ end
     ),
     (
         "examples/consensus.reg",
-        "# Two processes try to agree by registers alone, on the lesser of their proposals 1 and 2. No program can: this one
-# fails at length 4 without crashes. The second process looks before the first has written, and keeps its own proposal.
+        "# Two processes try to agree, by registers and without waiting, on the lesser of the proposals 1 and 2. No program can:
+# this one fails at length 4 without crashes. Process 1 looks before process 0 has written, and keeps its own proposal.
 registers 2
 # Each emits 1 where it decides its own proposal, and 2 where the other's. They agree where these numbers differ.
 check distinct
