@@ -1,6 +1,7 @@
 //! Texts that end too early, and texts at their limits.
 
-use super::{TWO_WRITERS, answered};
+use super::asking::{Reply, WORDS, asked};
+use super::sources::TWO_WRITERS;
 use std::alloc::Global;
 use std::test::Fail;
 
@@ -24,15 +25,20 @@ const BEGINNINGS: [(usize, usize, &[u8]); 16] = [
     (53, 54, b"regtry: line 7 code 2\n"),
 ];
 
+/// What the program answers to the usual words on this text.
+fn answered(rt: &HostRuntime, text: &[u8]) -> Reply {
+    asked(rt, WORDS.as_slice(), Some(text))
+}
+
 #[test]
-fn refuses_beginnings(rt: HostRuntime) -> Result<(), Fail> {
+fn texts_that_end_too_early_are_refused(rt: HostRuntime) -> Result<(), Fail> {
     for (first, last, line) in BEGINNINGS {
         for length in first..=last {
             let text = TWO_WRITERS.get(..length).ok_or("short")?;
-            let (status, out, err) = answered(rt.alloc(), Some(text))?;
-            assert_eq!(rt; status, 2);
-            assert!(rt; out.is_empty());
-            assert_eq!(rt; err.as_slice(), line);
+            let reply = answered(&rt, text);
+            assert_eq!(rt; reply.status, 2);
+            assert!(rt; reply.out.is_empty());
+            assert_eq!(rt; reply.err.as_slice(), line);
         }
     }
     for (length, begin) in [
@@ -42,14 +48,14 @@ fn refuses_beginnings(rt: HostRuntime) -> Result<(), Fail> {
         (56, b"processes 2\n".as_slice()),
     ] {
         let text = TWO_WRITERS.get(..length).ok_or("short")?;
-        let (status, out, _) = answered(rt.alloc(), Some(text))?;
-        assert_eq!(rt; status, 0);
-        assert!(rt; out.as_slice().starts_with(begin));
+        let reply = answered(&rt, text);
+        assert_eq!(rt; reply.status, 0);
+        assert!(rt; reply.out.as_slice().starts_with(begin));
     }
     Ok(())
 }
 
-/// A beginning, a line that comes so often after it, and an end.
+/// A beginning, a line that comes `times` times after it, and an end.
 fn repeated(
     alloc: Global,
     begin: &[u8],
@@ -68,7 +74,7 @@ fn repeated(
 
 const BEGIN: &[u8] = b"registers 1\nprocess\n";
 
-/// A beginning, a line that comes so often after it and an end that make a source, and what is printed where it comes once more.
+/// A beginning, a line and how often it comes after it, and an end, that make a source; and what is printed where the line comes once more.
 const LIMITS: [(&[u8], &[u8], usize, &[u8], &[u8]); 5] = [
     (
         BEGIN,
@@ -108,22 +114,21 @@ const LIMITS: [(&[u8], &[u8], usize, &[u8], &[u8]); 5] = [
 ];
 
 #[test]
-fn keeps_the_limits(rt: HostRuntime) -> Result<(), Fail> {
+fn one_line_past_a_limit_is_refused(rt: HostRuntime) -> Result<(), Fail> {
     let alloc = rt.alloc();
     for (begin, line, times, end, refused) in LIMITS {
         let text = repeated(alloc, begin, line, times, end)?;
-        let (status, _, _) = answered(alloc, Some(text.as_slice()))?;
-        assert_eq!(rt; status, 0);
+        assert_eq!(rt; answered(&rt, text.as_slice()).status, 0);
         let text = repeated(alloc, begin, line, times + 1, end)?;
-        let (status, _, err) = answered(alloc, Some(text.as_slice()))?;
-        assert_eq!(rt; status, 2);
-        assert_eq!(rt; err.as_slice(), refused);
+        let reply = answered(&rt, text.as_slice());
+        assert_eq!(rt; reply.status, 2);
+        assert_eq!(rt; reply.err.as_slice(), refused);
     }
     Ok(())
 }
 
 #[test]
-fn reads_long_texts(rt: HostRuntime) -> Result<(), Fail> {
+fn long_texts_are_read_to_their_end(rt: HostRuntime) -> Result<(), Fail> {
     let alloc = rt.alloc();
     let digits = repeated(
         alloc,
@@ -132,13 +137,16 @@ fn reads_long_texts(rt: HostRuntime) -> Result<(), Fail> {
         1000,
         b"\nend\n",
     )?;
-    let (_, _, err) = answered(alloc, Some(digits.as_slice()))?;
-    assert_eq!(rt; err.as_slice(), b"regtry: line 3 code 6\n".as_slice());
+    let reply = answered(&rt, digits.as_slice());
+    assert_eq!(rt; reply.err.as_slice(), b"regtry: line 3 code 6\n".as_slice());
     let newlines = repeated(alloc, b"", b"\n", 1048576, b"")?;
-    let (_, _, err) = answered(alloc, Some(newlines.as_slice()))?;
-    assert_eq!(rt; err.as_slice(), b"regtry: line 1048576 code 7\n".as_slice());
+    let reply = answered(&rt, newlines.as_slice());
+    assert_eq!(rt;
+        reply.err.as_slice(),
+        b"regtry: line 1048576 code 7\n".as_slice()
+    );
     let longer = repeated(alloc, b"", b"\n", 1048577, b"")?;
-    let (_, _, err) = answered(alloc, Some(longer.as_slice()))?;
-    assert_eq!(rt; err.as_slice(), b"regtry: file\n".as_slice());
+    let reply = answered(&rt, longer.as_slice());
+    assert_eq!(rt; reply.err.as_slice(), b"regtry: file\n".as_slice());
     Ok(())
 }

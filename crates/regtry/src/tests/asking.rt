@@ -1,0 +1,71 @@
+//! How a test asks the program: by words and a file in memory.
+
+use crate::answers::answer;
+use crate::orders::command;
+use std::alloc::Global;
+use std::io::{Read, Write};
+
+/// The words of an exploration of length 2 without crashes. Place 4 is the length, 6 the crashes, 8 the workers, 10 the cut, 12 the room.
+pub const WORDS: [&str; 13] = [
+    "regtry",
+    "explore",
+    "FILE",
+    "--length",
+    "2",
+    "--crashes",
+    "0",
+    "--workers",
+    "2",
+    "--cut",
+    "1",
+    "--room",
+    "16",
+];
+
+/// What a run of the program left.
+#[derive(Drop)]
+pub struct Reply {
+    pub status: u8,
+    pub out: Vec<u8>,
+    pub err: Vec<u8>,
+}
+
+/// What the program answers to words, on a file or on one that could not be opened.
+pub fn asked<R: Read + Drop>(rt: &HostRuntime, words: &[&str], file: Option<R>) -> Reply {
+    let mut out = Vec::new(rt.alloc());
+    let mut err = Vec::new(rt.alloc());
+    let status = asked_to_write(rt, words, file, &mut out, &mut err);
+    Reply { status, out, err }
+}
+
+/// The status of words on a file, where standard output and standard error are these.
+pub fn asked_to_write<R: Read + Drop, W: Write, E: Write>(
+    rt: &HostRuntime,
+    words: &[&str],
+    file: Option<R>,
+    out: &mut W,
+    err: &mut E,
+) -> u8 {
+    match command(rt.alloc(), words, err) {
+        Ok(order) => answer(rt.alloc(), &order, file, out, err),
+        Err(status) => status,
+    }
+}
+
+/// The status of words that are refused, 0 of others, and what is printed of them.
+pub fn refused(alloc: Global, words: &[&str]) -> (u8, Vec<u8>) {
+    let mut err = Vec::new(alloc);
+    let status = match command(alloc, words, &mut err) {
+        Ok(_) => 0,
+        Err(status) => status,
+    };
+    (status, err)
+}
+
+/// The file that words name, where they are not refused.
+pub fn file_named_in<'a>(alloc: Global, words: &'a [&str]) -> Option<&'a str> {
+    match command(alloc, words, &mut Vec::new(alloc)) {
+        Ok(order) => Some(order.path()),
+        Err(_) => None,
+    }
+}
