@@ -17,3 +17,8 @@ IsExploration (Replay schedule) = ⊥
 abbrev pub is_native : Task → Bool
 is_native (Explore settings native) = native
 is_native (Replay schedule) = false
+
+-- how many workers do it
+abbrev pub workers_of : Task → ℕ
+workers_of (Explore settings native) = settings.workers
+workers_of (Replay schedule) = 1

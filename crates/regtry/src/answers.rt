@@ -1,6 +1,6 @@
 //! Does what was asked, and gives the status.
 
-ghost use Rattle.std.specs.Prelude.{◌≡◌, ◌≤◌, IfErr, IfOk, IfSome, IsNone, if◌then◌else◌, map, option_and_then};
+ghost use Rattle.std.specs.Prelude.{◌≡◌, ◌≤◌, All, IfErr, IfOk, IfSome, IsNone, if◌then◌else◌, length, map, option_and_then};
 ghost use Rattle.regmodel.specs.Meeting.{meets_all};
 ghost use Rattle.regmodel.specs.PlainReport.{IsPlainReport};
 ghost use Rattle.reglang.specs.Sources.{contents_of, programs_of};
@@ -12,13 +12,15 @@ use crate::machines::machine_of;
 use crate::orders::{Order, Task};
 use crate::refusals::{Refusal, refuse};
 use crate::standings::{Standing, standing_after};
-use explorer::{Report, WriteFault, run_one, write_report, write_standing};
+use explorer::{NoGate, Report, WriteFault, run, write_report, write_standing};
 use machine::Machine;
 use reglang::{Source, read_source};
 use regmodel::Settings;
 use std::alloc::Global;
 use std::io;
 use std::io::{ErrorKind, Read, Write};
+use std::sync::Wait;
+use std::thread::Threads;
 
 /// The most bytes of a source.
 const MOST_BYTES: u64 = 1048576;
@@ -59,7 +61,8 @@ impl Finding {
 /// Does what the order asks of the source in the file, and writes what it found. The status is 0 where that is done, but 1
 /// where an explored schedule fails; 2 where the file, the source or a letter is refused, and then `out` is as before; 3 where it
 /// could not be done. At 2 and 3 a line on `err` says why. `file` is None where it could not be opened.
-pub fn answer<R: Read + Drop, W: Write, E: Write>(
+pub fn answer<H: Threads + Wait + Sync, R: Read + Drop, W: Write, E: Write>(
+    rt: &H,
     alloc: Global,
     order: &Order<'_>,
     file: Option<R>,
@@ -71,14 +74,15 @@ pub fn answer<R: Read + Drop, W: Write, E: Write>(
     ensures answered { result ≤ 1 → IsAnswered order.now.task (option_and_then R.remaining file) (W.contents out.old) (W.contents out.new) result }
     ensures silent { result ≡ 2 → out.new ≡ out.old }
 {
-    match written(alloc, order.task(), file, out) {
+    match written(rt, alloc, order.task(), file, out) {
         Ok(fails) => u8::from(fails),
         Err(refusal) => refuse(refusal, err),
     }
 }
 
 /// Writes what is found of the source in the file. Whether a schedule fails.
-fn written<R: Read + Drop, W: Write>(
+fn written<H: Threads + Wait + Sync, R: Read + Drop, W: Write>(
+    rt: &H,
     alloc: Global,
     task: &Task,
     file: Option<R>,
@@ -92,7 +96,7 @@ fn written<R: Read + Drop, W: Write>(
         return Err(Refusal::File);
     };
     let text = bytes_of(alloc, file)?;
-    let finding = found(alloc, task, text.as_slice())?;
+    let finding = found(rt, alloc, task, text.as_slice())?;
     if finding.write(out).is_err() || out.flush().is_err() {
         return Err(Refusal::Write);
     }
@@ -112,8 +116,13 @@ fn bytes_of<R: Read + Drop>(alloc: Global, file: R) -> Result<Vec<u8>, Refusal>
     }
 }
 
-/// What is found of a text, by one machine a process.
-fn found(alloc: Global, task: &Task, text: &[u8]) -> Result<Finding, Refusal>
+/// What is found of a text, by one list of machines a worker, one machine a process.
+fn found<H: Threads + Wait + Sync>(
+    rt: &H,
+    alloc: Global,
+    task: &Task,
+    text: &[u8],
+) -> Result<Finding, Refusal>
     ensures found { IfOk result (IsFoundBy task.now text.now) }
     ensures refused { IfErr result (IsRefusedBy task.now text.now) }
 {
@@ -121,35 +130,48 @@ fn found(alloc: Global, task: &Task, text: &[u8]) -> Result<Finding, Refusal>
         Ok(source) => source,
         Err(fault) => return Err(Refusal::Source(fault)),
     };
-    let mut machines: Vec<Box<dyn Machine + Send>> = Vec::new(alloc);
-    for p in 0..source.processes() {
-        let machine = machine_of(alloc, &source, p, task.is_native())?;
-        machines.push(Box::new(alloc, machine)?)?;
+    let mut lists: Vec<Vec<Box<dyn Machine + Send>>> = Vec::new(alloc);
+    for _list in 0..task.workers() {
+        let mut machines: Vec<Box<dyn Machine + Send>> = Vec::new(alloc);
+        for p in 0..source.processes() {
+            let machine = machine_of(alloc, &source, p, task.is_native())?;
+            machines.push(Box::new(alloc, machine)?)?;
+        }
+        lists.push(machines)?;
     }
     match task {
-        Task::Explore { settings, .. } => match report_of(alloc, &source, *settings, machines) {
-            Ok(report) => Ok(Finding::Report(report)),
-            Err(code) => Err(Refusal::Run(code)),
-        },
-        Task::Replay { schedule } => match standing_after(&source, machines, schedule) {
-            Ok(standing) => Ok(Finding::Standing(standing)),
-            Err(letter) => Err(Refusal::Letter(letter.place)),
-        },
+        Task::Explore { settings, .. } => {
+            match report_of(rt, alloc, &source, *settings, lists) {
+                Ok(report) => Ok(Finding::Report(report)),
+                Err(code) => Err(Refusal::Run(code)),
+            }
+        }
+        Task::Replay { schedule } => {
+            let Some(machines) = lists.pop() else {
+                unreachable!()
+            };
+            match standing_after(&source, machines, schedule) {
+                Ok(standing) => Ok(Finding::Standing(standing)),
+                Err(letter) => Err(Refusal::Letter(letter.place)),
+            }
+        }
     }
 }
 
-/// The report of a source, by its machines; or the code of the fault where there is none.
-fn report_of(
+/// The report of a source, by a list of its machines for each worker; or the code of the fault where there is none.
+fn report_of<H: Threads + Wait + Sync>(
+    rt: &H,
     alloc: Global,
     source: &Source,
     settings: Settings,
-    machines: Vec<Box<dyn Machine + Send>>,
+    lists: Vec<Vec<Box<dyn Machine + Send>>>,
 ) -> Result<Report, u8>
-    requires { map program machines.items ≡ programs_of source.now }
+    requires lists { length lists.items ≡ settings.workers }
+    requires machines { All (λ list. map program list.items ≡ programs_of source.now) lists.items }
     ensures report { IfOk result (λ r. IsPlainReport (programs_of source.now) settings.length settings.crashes (meets_all (contents_of source.now).clauses) r) }
     ensures code { IfErr result (IsRunFault (programs_of source.now) settings) }
 {
-    match run_one(alloc, source, settings, machines, source.clauses()) {
+    match run(rt, alloc, source, settings, lists, source.clauses(), &NoGate) {
         Ok(report) => Ok(report),
         Err(fault) => Err(fault.code),
     }

@@ -14,10 +14,18 @@ use std::process::ExitCode;
 use std::{env, fs};
 
 fn main(rt: HostRuntime) -> ExitCode {
-    match words_of(&rt) {
-        Ok(words) => ExitCode::from(run(&rt, words.as_slice())),
-        Err(_) => ExitCode::from(refusals::refuse(Refusal::Memory, &mut rt.stderr())),
-    }
+    let mut err = rt.stderr();
+    let Ok(words) = words_of(&rt) else {
+        return ExitCode::from(refusals::refuse(Refusal::Memory, &mut err));
+    };
+    let status = match orders::command(rt.alloc(), words.as_slice(), &mut err) {
+        Ok(order) => {
+            let file = fs::open(&rt, order.path()).ok();
+            answers::answer(&rt, rt.alloc(), &order, file, &mut rt.stdout(), &mut err)
+        }
+        Err(status) => status,
+    };
+    ExitCode::from(status)
 }
 
 /// The words of the command line.
@@ -27,16 +35,4 @@ fn words_of(rt: &HostRuntime) -> Result<Vec<String>, std::io::Error> {
         words.push(word)?;
     }
     Ok(words)
-}
-
-/// Does what the words say, and gives the status.
-fn run(rt: &HostRuntime, words: &[String]) -> u8 {
-    let mut err = rt.stderr();
-    match orders::command(rt.alloc(), words, &mut err) {
-        Ok(order) => {
-            let file = fs::open(rt, order.path()).ok();
-            answers::answer(rt.alloc(), &order, file, &mut rt.stdout(), &mut err)
-        }
-        Err(status) => status,
-    }
 }

@@ -46,7 +46,17 @@ pub enum Task {
 }
 
 impl Task {
-    ghost use Rattle.regtry.specs.Orders.{is_native};
+    ghost use Rattle.regtry.specs.Orders.{is_native, workers_of};
+
+    /// How many workers do it: a replay has one.
+    pub fn workers(&self) -> u32
+        ensures { result ≡ workers_of self.now }
+    {
+        match self {
+            Task::Explore { settings, .. } => settings.workers(),
+            Task::Replay { .. } => 1,
+        }
+    }
 
     /// Whether use lines run as native machines. A replay has interpreters alone.
     pub fn is_native(&self) -> bool
@@ -145,13 +155,13 @@ fn explore<'a>(alloc: Global) -> Result<Command<'a>, AllocError> {
             alloc,
             "workers",
             "W",
-            "How many workers share the exploration: 1 to 16 (one explores so far)",
+            "How many workers share the exploration, each in a thread of its own: 1 to 16",
         ))?
         .arg(number(
             alloc,
             "cut",
             "D",
-            "Up to which length beginnings of schedules are split into pieces for the workers: 0 to 16 (no effect so far)",
+            "Up to which length beginnings of schedules are split into pieces for the workers: 0 to 16",
         ))?
         .arg(number(
             alloc,

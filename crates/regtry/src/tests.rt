@@ -3,7 +3,7 @@
 mod asking;
 mod examples;
 mod files;
-mod natives;
+mod native_machines;
 mod replays;
 mod reports;
 mod sources;

@@ -4,6 +4,8 @@ use crate::answers::answer;
 use crate::orders::command;
 use std::alloc::Global;
 use std::io::{Read, Write};
+use std::sync::Wait;
+use std::thread::Threads;
 
 /// The words of an exploration of length 2 without crashes. Place 4 is the length, 6 the crashes, 8 the workers, 10 the cut, 12 the room.
 pub const WORDS: [&str; 13] = [
@@ -31,7 +33,11 @@ pub struct Reply {
 }
 
 /// What the program answers to words, on a file or on one that could not be opened.
-pub fn asked<R: Read + Drop>(rt: &HostRuntime, words: &[&str], file: Option<R>) -> Reply {
+pub fn asked<H: Threads + Wait + Sync + AllocGlobal, R: Read + Drop>(
+    rt: &H,
+    words: &[&str],
+    file: Option<R>,
+) -> Reply {
     let mut out = Vec::new(rt.alloc());
     let mut err = Vec::new(rt.alloc());
     let status = asked_to_write(rt, words, file, &mut out, &mut err);
@@ -39,15 +45,15 @@ pub fn asked<R: Read + Drop>(rt: &HostRuntime, words: &[&str], file: Option<R>) 
 }
 
 /// The status of words on a file, where standard output and standard error are these.
-pub fn asked_to_write<R: Read + Drop, W: Write, E: Write>(
-    rt: &HostRuntime,
+pub fn asked_to_write<H: Threads + Wait + Sync + AllocGlobal, R: Read + Drop, W: Write, E: Write>(
+    rt: &H,
     words: &[&str],
     file: Option<R>,
     out: &mut W,
     err: &mut E,
 ) -> u8 {
     match command(rt.alloc(), words, err) {
-        Ok(order) => answer(rt.alloc(), &order, file, out, err),
+        Ok(order) => answer(rt, rt.alloc(), &order, file, out, err),
         Err(status) => status,
     }
 }

@@ -3,6 +3,8 @@
 use super::asking::{Reply, asked};
 use super::sources::{FAULTS, ONE_WRITER, SPLITTER, TWO_WRITERS, WRITER_AND_READER};
 use super::words::LONG;
+use std::sync::Wait;
+use std::thread::Threads;
 
 /// Replays of sources, and what they print on standard output.
 const REPLAYS: [(&[u8], &str, &[u8]); 5] = [
@@ -44,7 +46,11 @@ const IMPOSSIBLE: [(&[u8], &str, &[u8]); 6] = [
 ];
 
 /// What the program answers to a replay.
-fn replayed(rt: &HostRuntime, source: &[u8], schedule: &str) -> Reply {
+fn replayed<H: Threads + Wait + Sync + AllocGlobal>(
+    rt: &H,
+    source: &[u8],
+    schedule: &str,
+) -> Reply {
     let words = ["regtry", "replay", "FILE", schedule];
     asked(rt, words.as_slice(), Some(source))
 }

@@ -3,7 +3,9 @@
 use super::asking::{Reply, WORDS, asked};
 use super::sources::TWO_WRITERS;
 use std::alloc::Global;
+use std::sync::Wait;
 use std::test::Fail;
+use std::thread::Threads;
 
 /// The first and the last length of beginnings of the two writers that are refused alike, and what is printed of them.
 const BEGINNINGS: [(usize, usize, &[u8]); 16] = [
@@ -26,7 +28,7 @@ const BEGINNINGS: [(usize, usize, &[u8]); 16] = [
 ];
 
 /// What the program answers to the usual words on this text.
-fn answered(rt: &HostRuntime, text: &[u8]) -> Reply {
+fn answered<H: Threads + Wait + Sync + AllocGlobal>(rt: &H, text: &[u8]) -> Reply {
     asked(rt, WORDS.as_slice(), Some(text))
 }
 

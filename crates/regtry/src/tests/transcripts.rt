@@ -2,13 +2,14 @@
 
 use super::asking::asked;
 use std::process::Abort;
+use std::sync::Wait;
 use std::test::Fail;
+use std::thread::Threads;
 
 /// Asserts that a command line, shown after a dollar sign, prints the lines below it and ends with the status. The files are those
 /// that it may name, each with its text.
-pub fn assert_prints(
-    rt: &HostRuntime,
-    abort: &impl Abort,
+pub fn assert_prints<H: Abort + Threads + Wait + Sync + AllocGlobal>(
+    rt: &H,
     files: &[(&str, &str)],
     status: u8,
     shown: &str,
@@ -37,8 +38,8 @@ pub fn assert_prints(
         0 | 1 => (&reply.out, &reply.err),
         _ => (&reply.err, &reply.out),
     };
-    assert_eq!(abort; reply.status, status, "{line}");
-    assert_eq!(abort; wanted.as_slice(), printed.as_bytes(), "{line}");
-    assert!(abort; other.is_empty(), "{line}");
+    assert_eq!(rt; reply.status, status, "{line}");
+    assert_eq!(rt; wanted.as_slice(), printed.as_bytes(), "{line}");
+    assert!(rt; other.is_empty(), "{line}");
     Ok(())
 }

@@ -190,7 +190,7 @@ fn each_command_prints_what_is_shown(rt: HostRuntime) -> Result<(), Fail> {
         (ANNOUNCED, RUNS_ANNOUNCED.as_slice()),
     ] {
         for (status, shown) in runs {
-            assert_prints(&rt, &rt, [file].as_slice(), *status, shown)?;
+            assert_prints(&rt, [file].as_slice(), *status, shown)?;
         }
     }
     Ok(())

@@ -1,14 +1,15 @@
-use Rattle.std.proofs.Common.{◌≡◌, inl, refl, ap, ◌∙◌}
+use Rattle.std.proofs.Common.{◌≡◌, ◌++◌, ◌∷◌, [], All, Contains, List, inl, map, refl, sym, ap, ◌∙◌, subst, arith}
+use Rattle.std.proofs.lemmas.List.Elements.{All-contains, Contains-append_right}
 use Rattle.regmodel.specs.Program.{Program}
 use Rattle.std.proofs.lemmas.Result.{err_from_is_err_and}
 use denote.Param.Object.{read_made}
-use Rattle.reglang.specs.Sources.{programs_of}
+use Rattle.reglang.specs.Sources.{contents_of, programs_of}
 use Rattle.regmodel.proofs.Members.{map-take_push}
 use Rattle.regtry.proofs.answers.found.OwnLists.{own-1}
 use Rattle.regtry.proofs.answers.found.Goals as goal
 
 pub loop-p-preserved : goal.loop-p-preserved
-loop-p-preserved c =
+loop-p-preserved g c =
     let programs = programs_of c.in-Ok.source in
     let program = (own-1.entry (inl tt)).1.program c.in_ok-machine.machine in
     let boxed = c.into_dyn_box.result in
@@ -18,13 +19,25 @@ loop-p-preserved c =
     map-take_push (λ b. (own-1.entry b.vtable).1.program b.value) c.loop-p.machines.items _ boxed programs c.loop-p.p program c.in_ok-push.ensures.items c.loop-p.invariant same c.in_ok-machine.ensures.program
 
 pub returns-in_err-machine-clause-refused : goal.returns-in_err-machine-clause-refused
-returns-in_err-machine-clause-refused c =
+returns-in_err-machine-clause-refused g c =
     let p = err_from_is_err_and c.from_residual.result c.from_residual.ensures.1 in rw (p.1, p.2, c.in_err-machine.ensures.err) tt
 
 pub returns-in_err-new-clause-refused : goal.returns-in_err-new-clause-refused
-returns-in_err-new-clause-refused c =
+returns-in_err-new-clause-refused g c =
     let p = err_from_is_err_and c.from_residual-in_err-new.result c.from_residual-in_err-new.ensures.1 in rw (p.1, p.2) tt
 
 pub returns-in_err-push-clause-refused : goal.returns-in_err-push-clause-refused
-returns-in_err-push-clause-refused c =
+returns-in_err-push-clause-refused g c =
     let p = err_from_is_err_and c.from_residual-in_err-push.result c.from_residual-in_err-push.ensures.1 in rw (p.1, p.2) tt
+
+pub returns-in-Explore-clause-refused : goal.returns-in-Explore-clause-refused
+returns-in-Explore-clause-refused g c =
+    rw c.in-Explore.is (record { source = contents_of c.in-Ok.source; spelled = c.in-Ok.ensures.spelled; fault = c.in-Err-report_of.ensures.code })
+
+-- what all elements have, the last one has
+last_has : {X : Type 0} (P : X → Type 0) (x : X) (xs ys : List X) → ys ≡ xs ++ x ∷ [] → All P ys → P x
+last_has P x xs ys e h = All-contains P ys x h (subst (λ zs. Contains zs x) (sym e) (Contains-append_right xs (x ∷ []) x (0, omega arith, refl)))
+
+pub standing_after-requires : goal.standing_after-requires
+standing_after-requires g c =
+    last_has (λ list. map (λ b. (own-1.entry b.vtable).1.program b.value) list.items ≡ programs_of c.in-Ok.source) c.in-Some.machines c.pop.new.self.items c.loop-list.lists.items c.in-Some.ensures.items c.loop-list.invariant.machines

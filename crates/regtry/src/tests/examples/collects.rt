@@ -229,7 +229,7 @@ fails done 1; done 1
 #[test]
 fn each_command_prints_what_is_shown(rt: HostRuntime) -> Result<(), Fail> {
     for (status, shown) in RUNS {
-        assert_prints(&rt, &rt, FILES.as_slice(), status, shown)?;
+        assert_prints(&rt, FILES.as_slice(), status, shown)?;
     }
     Ok(())
 }

@@ -256,7 +256,7 @@ least none
 #[test]
 fn each_command_prints_what_is_shown(rt: HostRuntime) -> Result<(), Fail> {
     for (status, shown) in RUNS {
-        assert_prints(&rt, &rt, FILES.as_slice(), status, shown)?;
+        assert_prints(&rt, FILES.as_slice(), status, shown)?;
     }
     Ok(())
 }
