@@ -171,7 +171,15 @@ fn report_of<H: Threads + Wait + Sync>(
     ensures report { IfOk result (λ r. IsPlainReport (programs_of source.now) settings.length settings.crashes (meets_all (contents_of source.now).clauses) r) }
     ensures code { IfErr result (IsRunFault (programs_of source.now) settings) }
 {
-    match run(rt, alloc, source, settings, lists, source.clauses(), &NoGate) {
+    match run(
+        rt,
+        alloc,
+        source,
+        settings,
+        lists,
+        source.clauses(),
+        &NoGate,
+    ) {
         Ok(report) => Ok(report),
         Err(fault) => Err(fault.code),
     }

@@ -6,6 +6,7 @@ mod files;
 mod native_machines;
 mod replays;
 mod reports;
+mod several_workers;
 mod sources;
 mod texts;
 mod transcripts;

@@ -6,7 +6,13 @@ use super::sources::{
 };
 
 /// Sources, the length and the crashes, and the report.
-const REPORTS: [(&[u8], &str, &str, &[u8]); 20] = [
+const REPORTS: [(&[u8], &str, &str, &[u8]); 21] = [
+    (
+        b"registers 1\nprocess\nhalt\nend\ncheck selfseen\n",
+        "0",
+        "0",
+        b"processes 1\nlength 0\ncrashes 0\ntried 1\noutcomes 1\noutcome done idle\nleast none\n",
+    ),
     (
         HALTS,
         "0",
@@ -130,7 +136,13 @@ const REPORTS: [(&[u8], &str, &str, &[u8]); 20] = [
 ];
 
 /// Sources of which a schedule fails, the length and the crashes, and the report.
-const FAILING: [(&[u8], &str, &str, &[u8]); 3] = [
+const FAILING: [(&[u8], &str, &str, &[u8]); 4] = [
+    (
+        b"registers 1\nprocess\nrepeat 8\nemit 1\ndone\nend\ncheck adaptive\n",
+        "0",
+        "0",
+        b"processes 1\nlength 0\ncrashes 0\ntried 1\noutcomes 1\noutcome done 1 1 1 1 1 1 1 1 idle\nleast .\nfails done 1 1 1 1 1 1 1 1 idle\n",
+    ),
     (
         b"registers 1\nprocess\nwrite 0 5\nend\nprocess\nread v0 0\nemit v0\nend\ncheck selfseen\n",
         "2",
