@@ -1,7 +1,7 @@
 -- Where a program in progress stands: a path of frames down its blocks.
 use Rattle.std.specs.Prelude.{ℕ, zero, suc, List, [], ◌∷◌}
 use Rattle.regmodel.specs.Values.{Env}
-use Rattle.regmodel.specs.Act.{Flow, Faults, exec, take_read, take_write, then_do, times}
+use Rattle.regmodel.specs.Act.{Flow, Faults, exec, answer_read, answer_write, then_do, times}
 use Rattle.regmodel.specs.Program.{Block, Stop, Assign, Read, Write, If, Repeat, Emit, Halt}
 use Rattle.machine.specs.declared.run.Arm.{Arm}
 use Rattle.machine.specs.declared.run.Arm.TheVariants.{First, Second}
@@ -60,8 +60,8 @@ turn_flow left n _ go env s = Faults 0
 
 -- from a part of a block's first statement
 abbrev pub part_flow : Part → ℕ → Block → (Block → Env → List ℕ → Flow) → Env → List ℕ → Flow
-part_flow (Reading r place) n b go env s = access_flow n b (take_read env (as_place place) r s)
-part_flow (Writing r v) n b go env s = access_flow n b (take_write env r v s)
+part_flow (Reading r place) n b go env s = access_flow n b (answer_read env (as_place place) r s)
+part_flow (Writing r v) n b go env s = access_flow n b (answer_write env r v s)
 part_flow (Within arm) n b go env s = arm_flow arm n b go env s
 part_flow (Turn left) n b go env s = turn_flow left n b go env s
 

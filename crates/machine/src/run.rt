@@ -4,7 +4,7 @@ ghost use Rattle.std.specs.Prelude.{◌≡◌, ℕ, ◌+◌, ◌<◌, ◌≤◌,
 ghost use Rattle.regmodel.specs.declared.programs.Expr.{Expr};
 ghost use Rattle.regmodel.specs.Program.{Block, Stop, Assign, Read, Write, Repeat, Emit, with_stmt, block_of};
 ghost use Rattle.regmodel.specs.Act.{exec};
-ghost use Rattle.regmodel.specs.Values.{operand_value, and_then, below};
+ghost use Rattle.regmodel.specs.Values.{operand_value, and_then, below_or_fault};
 ghost use Rattle.regmodel.specs.Limits.{open_blocks};
 ghost use Rattle.machine.specs.declared.run.Frame.{Frame};
 ghost use Rattle.machine.specs.Stores.{env_of};
@@ -71,7 +71,7 @@ fn assign(target: Target, value: Expr, store: &mut Store) -> Result<StmtExit, u8
 /// The number of a register; fault 2 where there is no such register.
 fn register(operand: Operand, registers: u32, store: &Store) -> Result<u8, u8>
     requires { registers ≤ 64 }
-    ensures { result ≡ and_then (operand_value (env_of store.now) operand) (below registers) }
+    ensures { result ≡ and_then (operand_value (env_of store.now) operand) (below_or_fault registers) }
 {
     let number = store.operand(operand)?;
     if number < registers {
@@ -120,7 +120,7 @@ fn emit(value: Expr, store: &mut Store) -> Result<StmtExit, u8>
 }
 
 /// The arm that is taken at this value.
-fn taken(value: u32) -> Arm
+fn arm_at(value: u32) -> Arm
     ensures { result ≡ arm_at value }
 {
     if value == 0 { Arm::Second } else { Arm::First }
@@ -168,7 +168,7 @@ fn run_stmt(
         Stmt::Read(to, from) => read(*to, *from, registers, store),
         Stmt::Write(to, value) => write(*to, *value, registers, store),
         Stmt::If(test, first, second) => {
-            let arm = taken(store.expr(*test)?);
+            let arm = arm_at(store.expr(*test)?);
             let block = block_of_arm(arm, first.as_slice(), second.as_slice());
             let exit = run_block(block, 0, registers, depth + 1, store, frames);
             stmt_exit(exit, Part::Within(arm))

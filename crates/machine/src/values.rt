@@ -1,7 +1,7 @@
 //! What expressions are worth, and where values are kept.
 
 ghost use Rattle.std.specs.Prelude.{◌≡◌, slice_index};
-ghost use Rattle.regmodel.specs.Values.{within, below, operand_value, expr_value, apply_op, place_of, store};
+ghost use Rattle.regmodel.specs.Values.{within, below_or_fault, operand_value, expr_value, apply_op, target_place, store};
 ghost use Rattle.machine.specs.Stores.{env_of, as_place, as_place_or_fault};
 
 use regmodel::{Expr, Numbers, Op, Operand, Target};
@@ -64,7 +64,7 @@ impl Store {
 
     /// The number of the cell that a variable names; fault 2 where there is no such cell.
     fn named_cell(&self, i: u8) -> Result<u8, u8>
-        ensures { result ≡ below 32 (slice_index self.now.vars i) }
+        ensures { result ≡ below_or_fault 32 (slice_index self.now.vars i) }
     {
         let number = self.var(i);
         if number < CELLS {
@@ -102,7 +102,7 @@ impl Store {
 
     /// Where a target is stored; fault 2 where it names a cell that is not there.
     pub fn place(&self, t: Target) -> Result<Place, u8>
-        ensures { as_place_or_fault result ≡ place_of (env_of self.now) t }
+        ensures { as_place_or_fault result ≡ target_place (env_of self.now) t }
     {
         match t {
             Target::Var(i) => Ok(Place::Var(i)),

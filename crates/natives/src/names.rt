@@ -9,7 +9,7 @@ ghost use Rattle.reglang.specs.Uses.{use_fits};
 ghost use Rattle.natives.specs.declared.names.Reading.{Reading};
 ghost use Rattle.natives.specs.declared.names.Stage.TheVariants.{Reads};
 ghost use Rattle.natives.specs.Bits.{bit};
-ghost use Rattle.natives.specs.Names.{IsRead, past, at_slot, cells_of, from_reading, from_after, holds, number_from};
+ghost use Rattle.natives.specs.Names.{IsRead, after_slot, at_slot, cells_of, from_reading, from_after, holds, number_from};
 
 use crate::MakeFault;
 use crate::numbers::{done, done_with};
@@ -33,10 +33,10 @@ struct Reading {
 
 impl Reading {
     /// Past the slot, which held this much.
-    fn past(self, held: u32, proposal: u32, own: u8) -> Reading
+    fn after_slot(self, held: u32, proposal: u32, own: u8) -> Reading
         requires few { self.at ≤ 8 }
         requires small { self.rank ≤ self.at + 1 }
-        ensures { result ≡ past own proposal held self }
+        ensures { result ≡ after_slot own proposal held self }
     {
         let higher = self.at < own && held != 0;
         Reading {
@@ -191,7 +191,7 @@ impl NameSlots {
         ensures goes_on { (s : List ℕ) → ⟦<NameSlots as Machine>⟧.rest self.new s ≡ from_reading self.old.base self.old.slots self.old.slot self.old.registers self.old.later self.old.proposal self.old.seen reading (held ∷ s) }
     {
         self.seen[usize::from(reading.at)] = held;
-        self.go_on(reading.past(held, self.proposal, self.slot));
+        self.go_on(reading.after_slot(held, self.proposal, self.slot));
     }
 }
 

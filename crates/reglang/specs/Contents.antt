@@ -47,7 +47,7 @@ clause_fits (clause.Within low high) = nat_le low 1000000000 && nat_le high 1000
 clause_fits _ = true
 
 -- a source within the limits
-pub record AreWithin (source : Contents) : Type 0 where
+pub record IsSourceWithin (source : Contents) : Type 0 where
   pub some_register : 0 < source.registers
   pub few_registers : source.registers ≤ 64
   pub some_process : 0 < length source.processes

@@ -15,8 +15,8 @@ use Rattle.reglang.specs.declared.open_process.Open.TheVariants as opened
 use Rattle.reglang.specs.declared.open_process.OpenProcess.{OpenProcess}
 use Rattle.reglang.specs.declared.draft.Draft.{Draft}
 use Rattle.reglang.specs.declared.draft.Draft.TheVariants as draft
-use Rattle.reglang.specs.declared.refusals.Refusal.{Refusal}
-use Rattle.reglang.specs.declared.refusals.Refusal.TheVariants as refusal
+use Rattle.reglang.specs.declared.refusals.LineRefusal.{LineRefusal}
+use Rattle.reglang.specs.declared.refusals.LineRefusal.TheVariants as refusal
 use Rattle.reglang.specs.declared.forms.Line.{Line}
 use Rattle.reglang.specs.declared.forms.Line.TheVariants as line
 use Rattle.reglang.specs.declared.reader.ReadFault.{ReadFault}
@@ -128,17 +128,17 @@ take_line (Between before) line = take_between before line
 take_line (Inside before frames block n) line = take_inside before frames block n line
 take_line (Used before kind) line = take_used before kind line
 
-abbrev pub take_read : Reading → Result (Option Line) ℕ → Result Reading ℕ
-take_read reading (Ok (Some line)) = take_line reading line
-take_read reading (Ok None) = Ok reading
-take_read reading (Err code) = Err code
+abbrev pub take_if_said : Reading → Result (Option Line) ℕ → Result Reading ℕ
+take_if_said reading (Ok (Some line)) = take_line reading line
+take_if_said reading (Ok None) = Ok reading
+take_if_said reading (Err code) = Err code
 
 -- what was read, at the end of a text; or the code of its fault
-abbrev pub finished : Reading → Result Contents ℕ
-finished Empty = Err 7
-finished (Between before) = if nat_lt 0 (length before.processes) then Ok before else Err 6
-finished (Inside before frames block n) = Err 5
-finished (Used before kind) = Err 5
+abbrev pub contents_at_end : Reading → Result Contents ℕ
+contents_at_end Empty = Err 7
+contents_at_end (Between before) = if nat_lt 0 (length before.processes) then Ok before else Err 6
+contents_at_end (Inside before frames block n) = Err 5
+contents_at_end (Used before kind) = Err 5
 
 abbrev pub faulty_at : {A : Type 0} → ℕ → Result A ℕ → Result A ReadFault
 faulty_at number (Ok x) = Ok x
@@ -150,8 +150,8 @@ goes_on (Err fault) f = Err fault
 
 -- what a text makes of what was read, where so many lines came before
 abbrev pub read_from : Reading → ℕ → List (List ℕ) → Result Contents ReadFault
-read_from reading n [] = faulty_at (max 1 n) (finished reading)
-read_from reading n (line ∷ lines) = goes_on (faulty_at (suc n) (take_read reading (read_line line))) (λ next. read_from next (suc n) lines)
+read_from reading n [] = faulty_at (max 1 n) (contents_at_end reading)
+read_from reading n (line ∷ lines) = goes_on (faulty_at (suc n) (take_if_said reading (read_line line))) (λ next. read_from next (suc n) lines)
 
 -- ---- what is known of what was read
 
@@ -231,15 +231,15 @@ reading_of (draft.Between parts) = Between (contents_before parts)
 reading_of (draft.Inside process) = inside_of process
 reading_of (draft.Used parts kind) = Used (contents_before parts) kind
 
-abbrev pub IsRefusalOf : Result Reading ℕ → Refusal → Type 0
+abbrev pub IsRefusalOf : Result Reading ℕ → LineRefusal → Type 0
 IsRefusalOf expected (refusal.Fault code) = expected ≡ Err code
 IsRefusalOf expected refusal.Memory = Unit {0}
 
 -- the fault of a line that was refused; 9 stands for memory
-abbrev pub IsFaultOf : ℕ → Refusal → ReadFault → Type 0
+abbrev pub IsFaultOf : ℕ → LineRefusal → ReadFault → Type 0
 IsFaultOf number (refusal.Fault code) fault = fault ≡ record { line = number; code = code }
 IsFaultOf number refusal.Memory fault = fault ≡ record { line = number; code = 9 }
 
 -- the answer is what is expected, unless memory was refused
-abbrev pub Answers : Result Reading ℕ → Result Draft Refusal → Type 0
+abbrev pub Answers : Result Reading ℕ → Result Draft LineRefusal → Type 0
 Answers expected result = MatchResult result (λ draft. expected ≡ Ok (reading_of draft)) (IsRefusalOf expected)

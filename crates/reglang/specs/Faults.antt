@@ -3,7 +3,7 @@ use Rattle.std.specs.Prelude.{ℕ, suc, Bool, true, false, not, ◌&&◌, if◌t
 use Rattle.regmodel.specs.Limits.{target_fits, operand_fits, expr_fits}
 use Rattle.reglang.specs.Lines.{lines}
 use Rattle.reglang.specs.Forms.{read_line}
-use Rattle.reglang.specs.Grammar.{said}
+use Rattle.reglang.specs.Grammar.{lines_said}
 use Rattle.reglang.specs.Uses.{is_between, use_fits}
 use Rattle.reglang.specs.declared.forms.Line.{Line}
 use Rattle.reglang.specs.declared.forms.Line.TheVariants as line
@@ -24,7 +24,7 @@ pub data Place : Type 0 where
   Used : Place
 
 -- how many registers there are, where it was told; the processes and the checks so far; and the place
-pub record Standing : Type 0 where
+pub record Context : Type 0 where
   pub registers : Option ℕ
   pub processes : ℕ
   pub checks : ℕ
@@ -69,22 +69,22 @@ checks_after (line.Check clause) n = suc n
 checks_after _ n = n
 
 -- after one line more
-abbrev pub stands_after : Line → Standing → Standing
-stands_after line standing = record {
-  registers = registers_after line standing.registers;
-  processes = processes_after line standing.processes;
-  checks = checks_after line standing.checks;
-  place = place_after line standing.place;
+abbrev pub context_after_line : Line → Context → Context
+context_after_line line context = record {
+  registers = registers_after line context.registers;
+  processes = processes_after line context.processes;
+  checks = checks_after line context.checks;
+  place = place_after line context.place;
 }
 
 -- before any line
-abbrev pub at_start : Standing
+abbrev pub at_start : Context
 at_start = record { registers = None; processes = 0; checks = 0; place = Outside }
 
 -- after lines that were taken from there on
-abbrev pub stands_after_all : List Line → Standing → Standing
-stands_after_all [] standing = standing
-stands_after_all (line ∷ lines) standing = stands_after_all lines (stands_after line standing)
+abbrev pub context_after_lines : List Line → Context → Context
+context_after_lines [] context = context
+context_after_lines (line ∷ lines) context = context_after_lines lines (context_after_line line context)
 
 -- ---- the conditions of the codes
 
@@ -130,8 +130,8 @@ misplaced_at Outside came line = is_no_outer came line
 misplaced_at (Inside opened n) came line = is_no_inner opened n line
 misplaced_at Used came line = is_no_end line
 
-abbrev pub is_misplaced : Standing → Line → Bool
-is_misplaced standing line = misplaced_at standing.place (is_some standing.registers) line
+abbrev pub is_misplaced : Context → Line → Bool
+is_misplaced context line = misplaced_at context.place (is_some context.registers) line
 
 -- code 6: how many statements there are so far, and which blocks are open
 abbrev pub statements_at : Place → ℕ
@@ -159,24 +159,24 @@ abbrev pub has_turns : Place → Bool
 has_turns place = nat_lt (repeats_in (opened_at place)) 3
 
 -- whether a line is within the limits where it stands
-abbrev pub is_within : Standing → Line → Bool
-is_within standing (line.Registers n) = is_between 1 64 n
-is_within standing line.Process = nat_lt standing.processes 8
-is_within standing (line.Check clause) = nat_lt standing.checks 16
-is_within standing (line.Use kind) = use_fits kind (unwrap_or standing.registers 0)
-is_within standing (line.Set to value) = has_room standing.place && (target_fits to && expr_fits value)
-is_within standing (line.Read to from) = has_room standing.place && (target_fits to && operand_fits from)
-is_within standing (line.Write to value) = has_room standing.place && (operand_fits to && expr_fits value)
-is_within standing (line.If test) = has_room standing.place && expr_fits test && has_depth standing.place
-is_within standing (line.Repeat count) = has_room standing.place && (expr_fits count && has_turns standing.place) && has_depth standing.place
-is_within standing (line.Emit value) = has_room standing.place && expr_fits value
-is_within standing line.Halt = has_room standing.place
-is_within standing _ = true
+abbrev pub is_within : Context → Line → Bool
+is_within context (line.Registers n) = is_between 1 64 n
+is_within context line.Process = nat_lt context.processes 8
+is_within context (line.Check clause) = nat_lt context.checks 16
+is_within context (line.Use kind) = use_fits kind (unwrap_or context.registers 0)
+is_within context (line.Set to value) = has_room context.place && (target_fits to && expr_fits value)
+is_within context (line.Read to from) = has_room context.place && (target_fits to && operand_fits from)
+is_within context (line.Write to value) = has_room context.place && (operand_fits to && expr_fits value)
+is_within context (line.If test) = has_room context.place && expr_fits test && has_depth context.place
+is_within context (line.Repeat count) = has_room context.place && (expr_fits count && has_turns context.place) && has_depth context.place
+is_within context (line.Emit value) = has_room context.place && expr_fits value
+is_within context line.Halt = has_room context.place
+is_within context _ = true
 
 -- code 7: no `registers` line came, and this is none
-abbrev pub is_too_early : Standing → Line → Bool
-is_too_early standing (line.Registers n) = false
-is_too_early standing _ = is_none standing.registers
+abbrev pub is_too_early : Context → Line → Bool
+is_too_early context (line.Registers n) = false
+is_too_early context _ = is_none context.registers
 
 -- code 8: a check without a clause
 abbrev pub is_no_clause : Line → Bool
@@ -184,35 +184,35 @@ is_no_clause (line.Check None) = true
 is_no_clause _ = false
 
 -- the code of a line's fault where it stands
-abbrev pub line_fault : Standing → Line → Option ℕ
-line_fault standing line =
-    if is_misplaced standing line then Some 5 else
-    (if not (is_within standing line) then Some 6 else
-    (if is_too_early standing line then Some 7 else
+abbrev pub line_fault : Context → Line → Option ℕ
+line_fault context line =
+    if is_misplaced context line then Some 5 else
+    (if not (is_within context line) then Some 6 else
+    (if is_too_early context line then Some 7 else
     (if is_no_clause line then Some 8 else None)))
 
 -- the code of the fault of a line that says this, where it stands
-abbrev pub fault_of : Standing → Result (Option Line) ℕ → Option ℕ
-fault_of standing (Ok (Some line)) = line_fault standing line
-fault_of standing (Ok None) = None
-fault_of standing (Err code) = Some code
+abbrev pub fault_of_line : Context → Result (Option Line) ℕ → Option ℕ
+fault_of_line context (Ok (Some line)) = line_fault context line
+fault_of_line context (Ok None) = None
+fault_of_line context (Err code) = Some code
 
 abbrev pub is_inside : Place → Bool
 is_inside Outside = false
 is_inside _ = true
 
 -- the code of the fault of the end of a text
-abbrev pub end_fault : Standing → Option ℕ
-end_fault standing =
-    if is_none standing.registers then Some 7 else
-    (if is_inside standing.place then Some 5 else
-    (if nat_lt 0 standing.processes then None else Some 6))
+abbrev pub end_fault : Context → Option ℕ
+end_fault context =
+    if is_none context.registers then Some 7 else
+    (if is_inside context.place then Some 5 else
+    (if nat_lt 0 context.processes then None else Some 6))
 
 -- ---- the first of them
 
 -- where a line stands that comes after these lines
-abbrev pub standing_after : List (List ℕ) → Standing
-standing_after before = stands_after_all (said before) at_start
+abbrev pub context_after : List (List ℕ) → Context
+context_after before = context_after_lines (lines_said before) at_start
 
 abbrev pub at_line : ℕ → Option ℕ → Option ReadFault
 at_line number code = option_map (λ c. record { line = number; code = c }) code
@@ -223,9 +223,9 @@ or_later None later = later
 
 -- the fault of the first of these lines that has one, where they come after others; else that of the end, on the last line
 abbrev pub fault_from : List (List ℕ) → List (List ℕ) → Option ReadFault
-fault_from before [] = at_line (max 1 (length before)) (end_fault (standing_after before))
+fault_from before [] = at_line (max 1 (length before)) (end_fault (context_after before))
 fault_from before (line ∷ lines) =
-    or_later (at_line (suc (length before)) (fault_of (standing_after before) (read_line line))) (fault_from (before ++ line ∷ []) lines)
+    or_later (at_line (suc (length before)) (fault_of_line (context_after before) (read_line line))) (fault_from (before ++ line ∷ []) lines)
 
 abbrev pub first_fault : List ℕ → Option ReadFault
 first_fault text = fault_from [] (lines text)

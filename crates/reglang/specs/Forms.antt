@@ -168,8 +168,8 @@ or_fault code (Some line) = Ok (Some line)
 or_fault code None = Err code
 
 -- the fault of the words of a line that is no check: 2 an unknown word, 3 no number word, 4 no form of its first word
-abbrev pub formed : Keyword → List Word → Result (Option Line) ℕ
-formed key more =
+abbrev pub keyword_line : Keyword → List Word → Result (Option Line) ℕ
+keyword_line key more =
     if not (list_all is_known more) then Err 2 else
     (if list_any is_no_number more then Err 3 else or_fault 4 (form_of key more))
 
@@ -178,7 +178,7 @@ abbrev pub line_of : List Word → Result (Option Line) ℕ
 line_of [] = Ok None
 line_of (word.Comment ∷ more) = Ok None
 line_of (word.Keyword keyword.Check ∷ more) = Ok (Some (Check (clause_of more)))
-line_of (word.Keyword key ∷ more) = formed key more
+line_of (word.Keyword key ∷ more) = keyword_line key more
 line_of _ = Err 2
 
 -- what a line says; fault 1 where a byte is not in 32 to 126

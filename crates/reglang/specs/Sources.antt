@@ -11,5 +11,5 @@ abbrev pub registers_of : Source → ℕ
 registers_of source = source.registers
 
 -- the programs of its processes, from process 0
-abbrev pub programs_of : Source → List Program
-programs_of source = programs_in (contents_of source)
+abbrev pub source_programs : Source → List Program
+source_programs source = programs_in (contents_of source)

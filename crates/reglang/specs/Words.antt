@@ -32,18 +32,18 @@ up_to_limit n = if nat_le n 1000000000 then n else 1000000001
 abbrev pub number_of : List ℕ → Option ℕ
 number_of word = if is_number word then Some (up_to_limit (digits_value 10 word)) else None
 
-abbrev pub below : ℕ → Option ℕ → Option ℕ
-below limit None = None
-below limit (Some n) = if nat_lt n limit then Some n else None
+abbrev pub only_below : ℕ → Option ℕ → Option ℕ
+only_below limit None = None
+only_below limit (Some n) = if nat_lt n limit then Some n else None
 
 -- the number of a variable: `v` and a number word below 16
 abbrev pub variable_of : List ℕ → Option ℕ
 variable_of [] = None
-variable_of (b ∷ bs) = if b == 118 then below 16 (number_of bs) else None
+variable_of (b ∷ bs) = if b == 118 then only_below 16 (number_of bs) else None
 
-abbrev pub begins_with : (ℕ → Bool) → List ℕ → Bool
-begins_with p [] = false
-begins_with p (b ∷ bs) = p b
+abbrev pub first_byte_is : (ℕ → Bool) → List ℕ → Bool
+first_byte_is p [] = false
+first_byte_is p (b ∷ bs) = p b
 
 -- a word from its last byte on: what stands before a `]` there
 abbrev pub before_bracket : List ℕ → Option (List ℕ)
@@ -66,7 +66,7 @@ cell_or None word = word
 -- the cell that is named between brackets: by a number word below 32, or by a variable
 abbrev pub cell_word : Option (List ℕ) → Word
 cell_word None = Other
-cell_word (Some index) = cell_or (below 32 (number_of index)) (cell_or_other (variable_of index))
+cell_word (Some index) = cell_or (only_below 32 (number_of index)) (cell_or_other (variable_of index))
 
 abbrev pub variable_or : Option ℕ → Word → Word
 variable_or (Some i) word = Var i
@@ -79,8 +79,8 @@ number_word None = NoNumber
 -- a word that is none of those spelled out
 abbrev pub value_word : List ℕ → Word
 value_word word =
-    if begins_with is_digit word then number_word (number_of word) else
-    (if begins_with (λ b. b == 35) word then Comment else
+    if first_byte_is is_digit word then number_word (number_of word) else
+    (if first_byte_is (λ b. b == 35) word then Comment else
     variable_or (variable_of word) (cell_word (in_brackets word)))
 
 -- the first words of lines, as they are spelled

@@ -183,8 +183,8 @@ fn number_of(word: &[u8]) -> Option<u32>
 }
 
 /// The number if it is below the limit.
-fn below(limit: u8, number: Option<u32>) -> Option<u8>
-    ensures { result ≡ spec.below limit number }
+fn only_below(limit: u8, number: Option<u32>) -> Option<u8>
+    ensures { result ≡ spec.only_below limit number }
 {
     match number {
         Some(n) if n < u32::from(limit) => Some(n as u8),
@@ -197,7 +197,7 @@ fn variable_of(word: &[u8]) -> Option<u8>
     ensures { result ≡ spec.variable_of word.now }
 {
     match word {
-        [b'v', index @ ..] => below(16, number_of(index)),
+        [b'v', index @ ..] => only_below(16, number_of(index)),
         _ => None,
     }
 }
@@ -224,7 +224,7 @@ fn cell_word(word: &[u8]) -> Word
     let Some(index) = in_brackets(word) else {
         return Word::Other;
     };
-    if let Some(i) = below(32, number_of(index)) {
+    if let Some(i) = only_below(32, number_of(index)) {
         return Word::Cell(i);
     }
     match variable_of(index) {

@@ -24,8 +24,8 @@ abbrev pub within : ℕ → Result ℕ ℕ
 within n = if nat_le n 1000000000 then Ok n else Err 1
 
 -- a number below a limit, or fault 2
-abbrev pub below : ℕ → ℕ → Result ℕ ℕ
-below limit n = if nat_lt n limit then Ok n else Err 2
+abbrev pub below_or_fault : ℕ → ℕ → Result ℕ ℕ
+below_or_fault limit n = if nat_lt n limit then Ok n else Err 2
 
 -- goes on with a value, or keeps the fault
 abbrev pub and_then : Result ℕ ℕ → (ℕ → Result ℕ ℕ) → Result ℕ ℕ
@@ -36,7 +36,7 @@ abbrev pub operand_value : Env → Operand → Result ℕ ℕ
 operand_value env (operand.Number n) = Ok n
 operand_value env (operand.Var i) = Ok (slice_index env.vars i)
 operand_value env (operand.Cell i) = Ok (slice_index env.cells i)
-operand_value env (operand.CellOf i) = and_then (below 32 (slice_index env.vars i)) (λ j. Ok (slice_index env.cells j))
+operand_value env (operand.CellOf i) = and_then (below_or_fault 32 (slice_index env.vars i)) (λ j. Ok (slice_index env.cells j))
 
 -- the comparisons give 1 or 0; a value above the limit or below 0 is fault 1
 abbrev pub apply_op : Op → ℕ → ℕ → Result ℕ ℕ
@@ -56,10 +56,10 @@ pub data Place : Type 0 where
   InCell : (index : ℕ) → Place
 
 -- the place of a target, or fault 2
-abbrev pub place_of : Env → Target → Result Place ℕ
-place_of env (target.Var i) = Ok (InVar i)
-place_of env (target.Cell i) = Ok (InCell i)
-place_of env (target.CellOf i) = if nat_lt (slice_index env.vars i) 32 then Ok (InCell (slice_index env.vars i)) else Err 2
+abbrev pub target_place : Env → Target → Result Place ℕ
+target_place env (target.Var i) = Ok (InVar i)
+target_place env (target.Cell i) = Ok (InCell i)
+target_place env (target.CellOf i) = if nat_lt (slice_index env.vars i) 32 then Ok (InCell (slice_index env.vars i)) else Err 2
 
 -- the environment with a value at a place
 abbrev pub store : Env → Place → ℕ → Env

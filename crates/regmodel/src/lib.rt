@@ -2,21 +2,20 @@
 #![tactic(auto)]
 
 pub mod accesses;
-pub mod bounds;
 pub mod clauses;
+mod fitting;
 mod judging;
 pub mod laws;
 pub mod letters;
-mod limits;
 pub mod memory;
 pub mod outcomes;
 pub mod programs;
 pub mod reductions;
 pub mod schedule_texts;
 pub mod schedules;
+pub mod settings;
 
 pub use accesses::{Access, Numbers, Pending};
-pub use bounds::{SettingFault, Settings};
 pub use clauses::{Clause, Clauses};
 pub use letters::Letter;
 pub use memory::OutOfMemory;
@@ -24,6 +23,7 @@ pub use outcomes::{End, Judge, Outcome, ProcEnd};
 pub use programs::{Expr, Op, Operand, Prog, Stmt, Target};
 pub use schedule_texts::{read_schedule, write_schedule};
 pub use schedules::Prefix;
+pub use settings::{SettingFault, Settings};
 
 #[cfg(test)]
 mod tests;

@@ -4,7 +4,7 @@ ghost use Rattle.std.specs.Prelude.{◌≡◌, ◌<◌, ◌≤◌, ◌↔◌, Is
 ghost use Rattle.regmodel.specs.Program.{block_of};
 ghost use Rattle.regmodel.specs.Limits.{operands_fit, statements, open_blocks, open_repeats, IsWithin};
 
-use crate::limits;
+use crate::fitting;
 
 /// Where a value is stored.
 #[derive(Clone, Copy, PartialEq, Eq, Debug)]
@@ -137,13 +137,13 @@ impl Prog {
             return None;
         }
         let block = body.as_slice();
-        if !limits::operands_fit(block) {
+        if !fitting::operands_fit(block) {
             return None;
         }
-        if !limits::nests_within(block, 16, 3) {
+        if !fitting::nests_within(block, 16, 3) {
             return None;
         }
-        if limits::room_after(block, 200).is_none() {
+        if fitting::room_after(block, 200).is_none() {
             return None;
         }
         Some(Prog { registers, body })

@@ -1,10 +1,10 @@
 //! Does what was asked, and gives the status.
 
 ghost use Rattle.std.specs.Prelude.{◌≡◌, ◌≤◌, IfErr, IfOk, IfSome, IsNone, if◌then◌else◌, map, option_and_then};
-ghost use Rattle.regmodel.specs.Meeting.{meets_all};
+ghost use Rattle.regmodel.specs.Judging.{meets_all};
 ghost use Rattle.regmodel.specs.PlainReport.{IsPlainReport};
-ghost use Rattle.reglang.specs.Sources.{contents_of, programs_of};
-ghost use Rattle.explorer.specs.Appending.{Writes, fault_of};
+ghost use Rattle.reglang.specs.Sources.{contents_of, source_programs};
+ghost use Rattle.explorer.specs.Appending.{Writes, write_fault_of};
 ghost use Rattle.regtry.specs.Findings.{IsAnswered, IsFoundBy, IsRefusedBy, IsRunFault, finding_text, has_failing};
 ghost use Rattle.regtry.specs.Statuses.{status_of};
 
@@ -45,7 +45,7 @@ impl Finding {
 
     /// Writes the text of what was found.
     fn write<W: Write>(&self, out: &mut W) -> Result<(), WriteFault>
-        ensures { Writes (W.contents out.old) (W.contents out.new) (finding_text self.now) (fault_of result) }
+        ensures { Writes (W.contents out.old) (W.contents out.new) (finding_text self.now) (write_fault_of result) }
     {
         match self {
             Finding::Report(report) => write_report(report, out),
@@ -145,9 +145,9 @@ fn report_of(
     settings: Settings,
     machines: Vec<Box<dyn Machine + Send>>,
 ) -> Result<Report, u8>
-    requires { map program machines.items ≡ programs_of source.now }
-    ensures report { IfOk result (λ r. IsPlainReport (programs_of source.now) settings.length settings.crashes (meets_all (contents_of source.now).clauses) r) }
-    ensures code { IfErr result (IsRunFault (programs_of source.now) settings) }
+    requires { map program machines.items ≡ source_programs source.now }
+    ensures report { IfOk result (λ r. IsPlainReport (source_programs source.now) settings.length settings.crashes (meets_all (contents_of source.now).clauses) r) }
+    ensures code { IfErr result (IsRunFault (source_programs source.now) settings) }
 {
     match run_one(alloc, source, settings, machines, source.clauses()) {
         Ok(report) => Ok(report),

@@ -2,14 +2,14 @@ use Rattle.std.proofs.Common.{◌≡◌, inl, refl, ap, ◌∙◌}
 use Rattle.regmodel.specs.Program.{Program}
 use Rattle.std.proofs.lemmas.Result.{err_from_is_err_and}
 use denote.Param.Object.{read_made}
-use Rattle.reglang.specs.Sources.{programs_of}
+use Rattle.reglang.specs.Sources.{source_programs}
 use Rattle.regmodel.proofs.Members.{map-take_push}
 use Rattle.regtry.proofs.answers.found.OwnLists.{own-1}
 use Rattle.regtry.proofs.answers.found.Goals as goal
 
 pub loop-p-preserved : goal.loop-p-preserved
 loop-p-preserved c =
-    let programs = programs_of c.in-Ok.source in
+    let programs = source_programs c.in-Ok.source in
     let program = (own-1.entry (inl tt)).1.program c.in_ok-machine.machine in
     let boxed = c.into_dyn_box.result in
     let same : (own-1.entry boxed.vtable).1.program boxed.value ≡ program =

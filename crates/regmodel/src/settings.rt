@@ -1,7 +1,7 @@
 //! How far an exploration goes.
 
 ghost use Rattle.std.specs.Prelude.{◌≡◌, ◌↔◌, IsOk, IfOk, IfErr};
-ghost use Rattle.regmodel.specs.Bounds.{AreWithin, bound_fault};
+ghost use Rattle.regmodel.specs.Settings.{AreSettingsWithin, setting_fault};
 
 use std::marker::Model;
 use thiserror::Error;
@@ -17,13 +17,13 @@ pub struct Settings {
 }
 
 impl Model for Settings {
-    ghost use Rattle.regmodel.specs.Bounds.{Bounds, AreWithin};
+    ghost use Rattle.regmodel.specs.Settings.{Bounds, AreSettingsWithin};
 
     ghost Value = { Bounds };
 
     ghost view = { λ s. record { length = s.length; crashes = s.crashes; workers = s.workers; cut = s.cut; room = s.room } };
 
-    ghost invariant = { λ s. AreWithin (record { length = s.length; crashes = s.crashes; workers = s.workers; cut = s.cut; room = s.room }) };
+    ghost invariant = { λ s. AreSettingsWithin (record { length = s.length; crashes = s.crashes; workers = s.workers; cut = s.cut; room = s.room }) };
 
     ghost inverse = { λ b. record { length = b.length; crashes = b.crashes; workers = b.workers; cut = b.cut; room = b.room } };
 }
@@ -46,8 +46,8 @@ impl Settings {
         room: u32,
     ) -> Result<Settings, SettingFault>
         ensures value { IfOk result (λ s. s ≡ record { length = length; crashes = crashes; workers = workers; cut = cut; room = room }) }
-        ensures fits { IsOk result ↔ AreWithin (record { length = length; crashes = crashes; workers = workers; cut = cut; room = room }) }
-        ensures lowest { IfErr result (λ e. e.code ≡ bound_fault (record { length = length; crashes = crashes; workers = workers; cut = cut; room = room })) }
+        ensures fits { IsOk result ↔ AreSettingsWithin (record { length = length; crashes = crashes; workers = workers; cut = cut; room = room }) }
+        ensures lowest { IfErr result (λ e. e.code ≡ setting_fault (record { length = length; crashes = crashes; workers = workers; cut = cut; room = room })) }
     {
         if length > 64 {
             return Err(SettingFault { code: 1 });
@@ -76,7 +76,7 @@ impl Settings {
     /// How many letters a schedule has at most, 0 to 64.
     pub fn length(&self) -> u32
         ensures value { result ≡ self.now.length }
-        ensures within { AreWithin self.now }
+        ensures within { AreSettingsWithin self.now }
     {
         self.length
     }
@@ -84,7 +84,7 @@ impl Settings {
     /// How many processes may crash, 0 to 8.
     pub fn crashes(&self) -> u32
         ensures value { result ≡ self.now.crashes }
-        ensures within { AreWithin self.now }
+        ensures within { AreSettingsWithin self.now }
     {
         self.crashes
     }
@@ -92,7 +92,7 @@ impl Settings {
     /// How many workers explore, 1 to 16.
     pub fn workers(&self) -> u32
         ensures value { result ≡ self.now.workers }
-        ensures within { AreWithin self.now }
+        ensures within { AreSettingsWithin self.now }
     {
         self.workers
     }
@@ -100,7 +100,7 @@ impl Settings {
     /// Below which length a piece is split, 0 to 16.
     pub fn cut(&self) -> u32
         ensures value { result ≡ self.now.cut }
-        ensures within { AreWithin self.now }
+        ensures within { AreSettingsWithin self.now }
     {
         self.cut
     }
@@ -108,7 +108,7 @@ impl Settings {
     /// How many pieces a worker may hand on, 0 to 65536.
     pub fn room(&self) -> u32
         ensures value { result ≡ self.now.room }
-        ensures within { AreWithin self.now }
+        ensures within { AreSettingsWithin self.now }
     {
         self.room
     }
