@@ -6,19 +6,22 @@ ghost use Rattle.regmodel.specs.Lawful.{IsLawful};
 ghost use Rattle.reglang.specs.declared.uses.Use.TheVariants as kind;
 ghost use Rattle.reglang.specs.Expansions.{expansion};
 ghost use Rattle.reglang.specs.Uses.{use_fits};
+ghost use Rattle.natives.specs.declared.TheConstants.{PAST_LIMIT};
+ghost use Rattle.regmodel.specs.declared.limits.TheConstants.{MOST_REGISTERS, MOST_SLOTS};
 ghost use Rattle.natives.specs.declared.names.Reading.{Reading};
 ghost use Rattle.natives.specs.declared.names.Stage.TheVariants.{Reads};
 ghost use Rattle.natives.specs.Bits.{bit};
 ghost use Rattle.natives.specs.Names.{IsRead, after_slot, at_slot, cells_of, from_reading, from_after, holds, number_from};
 
-use crate::MakeFault;
 use crate::numbers::{done, done_with};
+use crate::{MakeFault, PAST_LIMIT};
 use machine::Machine;
 use reglang::Use;
+use regmodel::limits::MOST_TURNS;
 use regmodel::{Access, Pending};
 
 /// How many rounds there are after the first.
-const LATER: u8 = 98;
+const LATER: u8 = MOST_TURNS as u8 - 1;
 
 /// A slot that is read, and what the slots before it gave.
 #[derive(Clone, Copy)]
@@ -34,7 +37,7 @@ struct Reading {
 impl Reading {
     /// Past the slot, which held this much.
     fn after_slot(self, held: u32, proposal: u32, own: u8) -> Reading
-        requires few { self.at ≤ 8 }
+        requires few { self.at ≤ MOST_SLOTS }
         requires small { self.rank ≤ self.at + 1 }
         ensures { result ≡ after_slot own proposal held self }
     {
@@ -72,8 +75,8 @@ pub struct NameSlots {
     proposal: u32,
     seen: [u32; 8],
     stage: Stage,
-    ghost few: { registers ≤ 64 },
-    ghost few_slots: { slots ≤ 8 },
+    ghost few: { registers ≤ MOST_REGISTERS },
+    ghost few_slots: { slots ≤ MOST_SLOTS },
     ghost room: { base + slots ≤ registers },
     ghost own_in: { slot < slots },
     ghost eight: { length seen ≡ 8 },
@@ -87,11 +90,11 @@ impl NameSlots {
     pub fn make(base: u32, slots: u32, slot: u32, registers: u32) -> Result<NameSlots, MakeFault>
         ensures same { IfOk result (λ m. ⟦<NameSlots as Machine>⟧.program m ≡ expansion (kind.Name base slots slot) registers) }
         ensures starts { IfOk result (λ m. (s : List ℕ) → IsLawful (act_of (expansion (kind.Name base slots slot) registers)) s → ⟦<NameSlots as Machine>⟧.rest m s ≡ act_of (expansion (kind.Name base slots slot) registers) s) }
-        ensures limits { (result ≡ Err (record { code = 1 })) ↔ (use_fits (kind.Name base slots slot) registers ≡ false) }
+        ensures limits { (result ≡ Err (record { code = PAST_LIMIT })) ↔ (use_fits (kind.Name base slots slot) registers ≡ false) }
         ensures made { IsOk result ↔ IsTrue (use_fits (kind.Name base slots slot) registers) }
     {
         if !Use::Name(base, slots, slot).fits(registers) {
-            return Err(MakeFault { code: 1 });
+            return Err(MakeFault { code: PAST_LIMIT });
         }
         let mut names = NameSlots {
             base: base as u8,

@@ -2,6 +2,8 @@
 use Rattle.std.specs.Prelude.{◌≡◌, ℕ, suc, ◌+◌, ◌<◌, ◌≤◌, Bool, true, false, ◌&&◌, if◌then◌else◌, List, [], ◌∷◌, ◌++◌, length, map, reverse, max, All, Option, Some, None, Result, Ok, Err, MatchResult, nat_lt}
 use Rattle.regmodel.specs.declared.clauses.Clause.{Clause}
 use Rattle.regmodel.specs.declared.programs.Expr.{Expr}
+use Rattle.regmodel.specs.declared.limits.TheConstants.{MOST_CHECKS, MOST_OPEN_BLOCKS, MOST_OPEN_REPEATS, MOST_PROCESSES, MOST_REGISTERS, MOST_STATEMENTS}
+use Rattle.reglang.specs.declared.refusals.TheConstants.{MISPLACED, NO_CLAUSE, NO_MEMORY, NO_REGISTERS, PAST_LIMIT}
 use Rattle.regmodel.specs.Limits.{target_fits, operand_fits, expr_fits, operands_fit, statements, open_blocks, open_repeats}
 use Rattle.regmodel.specs.Program as program
 use Rattle.regmodel.specs.Program.{Block, Stop, block_of}
@@ -59,48 +61,48 @@ pub data Reading : Type 0 where
 
 -- one statement more
 abbrev pub add : Contents → List Frame → Block → ℕ → Bool → Block → Result Reading ℕ
-add before frames block n fits statement = if nat_lt n 200 && fits then Ok (Inside before frames (block ⊕ statement) (suc n)) else Err 6
+add before frames block n fits statement = if nat_lt n MOST_STATEMENTS && fits then Ok (Inside before frames (block ⊕ statement) (suc n)) else Err PAST_LIMIT
 
 -- one open block more
 abbrev pub enter : Contents → Frame → List Frame → ℕ → Bool → Result Reading ℕ
-enter before frame frames n fits = if nat_lt n 200 && fits && nat_lt (length frames) 16 then Ok (Inside before (frame ∷ frames) Stop (suc n)) else Err 6
+enter before frame frames n fits = if nat_lt n MOST_STATEMENTS && fits && nat_lt (length frames) MOST_OPEN_BLOCKS then Ok (Inside before (frame ∷ frames) Stop (suc n)) else Err PAST_LIMIT
 
 abbrev pub enter_else : Contents → List Frame → Block → ℕ → Result Reading ℕ
 enter_else before (First test outer ∷ frames) block n = Ok (Inside before (Second test block outer ∷ frames) Stop n)
-enter_else before frames block n = Err 5
+enter_else before frames block n = Err MISPLACED
 
 abbrev pub leave_if : Contents → List Frame → Block → ℕ → Result Reading ℕ
 leave_if before (First test outer ∷ frames) block n = Ok (Inside before frames (outer ⊕ program.If test block Stop Stop) n)
 leave_if before (Second test first outer ∷ frames) block n = Ok (Inside before frames (outer ⊕ program.If test first block Stop) n)
-leave_if before frames block n = Err 5
+leave_if before frames block n = Err MISPLACED
 
 abbrev pub leave_repeat : Contents → List Frame → Block → ℕ → Result Reading ℕ
 leave_repeat before (Turn count outer ∷ frames) block n = Ok (Inside before frames (outer ⊕ program.Repeat count block Stop) n)
-leave_repeat before frames block n = Err 5
+leave_repeat before frames block n = Err MISPLACED
 
 abbrev pub leave : Contents → List Frame → Block → Result Reading ℕ
 leave before [] block = Ok (Between (record before { processes = before.processes ++ Text block ∷ [] }))
-leave before (frame ∷ frames) block = Err 5
+leave before (frame ∷ frames) block = Err MISPLACED
 
 -- a use line, which stands alone
 abbrev pub stand_for : Contents → ℕ → Use → Result Reading ℕ
-stand_for before n kind = if nat_lt 0 n then Err 5 else (if use_fits kind before.registers then Ok (Used before kind) else Err 6)
+stand_for before n kind = if nat_lt 0 n then Err MISPLACED else (if use_fits kind before.registers then Ok (Used before kind) else Err PAST_LIMIT)
 
 abbrev pub add_clause : Contents → Option Clause → Result Reading ℕ
-add_clause before (Some clause) = if nat_lt (length before.clauses) 16 then Ok (Between (record before { clauses = before.clauses ++ clause ∷ [] })) else Err 6
-add_clause before None = if nat_lt (length before.clauses) 16 then Err 8 else Err 6
+add_clause before (Some clause) = if nat_lt (length before.clauses) MOST_CHECKS then Ok (Between (record before { clauses = before.clauses ++ clause ∷ [] })) else Err PAST_LIMIT
+add_clause before None = if nat_lt (length before.clauses) MOST_CHECKS then Err NO_CLAUSE else Err PAST_LIMIT
 
 -- the first line, one between processes, one of a process, and one after a use line; or the code of its fault
 abbrev pub begin : Line → Result Reading ℕ
-begin (line.Registers n) = if is_between 1 64 n then Ok (Between (record { registers = n; processes = []; clauses = [] })) else Err 6
-begin line.Process = Err 7
-begin (line.Check clause) = Err 7
-begin _ = Err 5
+begin (line.Registers n) = if is_between 1 MOST_REGISTERS n then Ok (Between (record { registers = n; processes = []; clauses = [] })) else Err PAST_LIMIT
+begin line.Process = Err NO_REGISTERS
+begin (line.Check clause) = Err NO_REGISTERS
+begin _ = Err MISPLACED
 
 abbrev pub take_between : Contents → Line → Result Reading ℕ
-take_between before line.Process = if nat_lt (length before.processes) 8 then Ok (Inside before [] Stop 0) else Err 6
+take_between before line.Process = if nat_lt (length before.processes) MOST_PROCESSES then Ok (Inside before [] Stop 0) else Err PAST_LIMIT
 take_between before (line.Check clause) = add_clause before clause
-take_between before _ = Err 5
+take_between before _ = Err MISPLACED
 
 abbrev pub take_inside : Contents → List Frame → Block → ℕ → Line → Result Reading ℕ
 take_inside before frames block n (line.Set to value) = add before frames block n (target_fits to && expr_fits value) (program.Assign to value Stop)
@@ -109,17 +111,17 @@ take_inside before frames block n (line.Write to value) = add before frames bloc
 take_inside before frames block n (line.Emit value) = add before frames block n (expr_fits value) (program.Emit value Stop)
 take_inside before frames block n line.Halt = add before frames block n true (program.Halt Stop)
 take_inside before frames block n (line.If test) = enter before (First test block) frames n (expr_fits test)
-take_inside before frames block n (line.Repeat count) = enter before (Turn count block) frames n (expr_fits count && nat_lt (turns frames) 3)
+take_inside before frames block n (line.Repeat count) = enter before (Turn count block) frames n (expr_fits count && nat_lt (turns frames) MOST_OPEN_REPEATS)
 take_inside before frames block n line.Else = enter_else before frames block n
 take_inside before frames block n line.Fi = leave_if before frames block n
 take_inside before frames block n line.Done = leave_repeat before frames block n
 take_inside before frames block n line.End = leave before frames block
 take_inside before frames block n (line.Use kind) = stand_for before n kind
-take_inside before frames block n _ = Err 5
+take_inside before frames block n _ = Err MISPLACED
 
 abbrev pub take_used : Contents → Use → Line → Result Reading ℕ
 take_used before kind line.End = Ok (Between (record before { processes = before.processes ++ Kind kind ∷ [] }))
-take_used before kind _ = Err 5
+take_used before kind _ = Err MISPLACED
 
 -- what one line more makes of what was read, or the code of its fault
 abbrev pub take_line : Reading → Line → Result Reading ℕ
@@ -135,10 +137,10 @@ take_if_said reading (Err code) = Err code
 
 -- what was read, at the end of a text; or the code of its fault
 abbrev pub contents_at_end : Reading → Result Contents ℕ
-contents_at_end Empty = Err 7
-contents_at_end (Between before) = if nat_lt 0 (length before.processes) then Ok before else Err 6
-contents_at_end (Inside before frames block n) = Err 5
-contents_at_end (Used before kind) = Err 5
+contents_at_end Empty = Err NO_REGISTERS
+contents_at_end (Between before) = if nat_lt 0 (length before.processes) then Ok before else Err PAST_LIMIT
+contents_at_end (Inside before frames block n) = Err MISPLACED
+contents_at_end (Used before kind) = Err MISPLACED
 
 abbrev pub faulty_at : {A : Type 0} → ℕ → Result A ℕ → Result A ReadFault
 faulty_at number (Ok x) = Ok x
@@ -158,8 +160,8 @@ read_from reading n (line ∷ lines) = goes_on (faulty_at (suc n) (take_if_said 
 -- a block within the limits, where so many blocks and so many repeats are open around it
 pub record BlockFits (blocks repeats : ℕ) (block : Block) : Type 0 where
   pub operands : operands_fit block ≡ true
-  pub depth : open_blocks block + blocks ≤ 16
-  pub turning : open_repeats block + repeats ≤ 3
+  pub depth : open_blocks block + blocks ≤ MOST_OPEN_BLOCKS
+  pub turning : open_repeats block + repeats ≤ MOST_OPEN_REPEATS
 
 -- open blocks, and the statements of the innermost
 abbrev pub FramesFit : List Frame → Block → Type 0
@@ -178,23 +180,23 @@ statements_around (Turn count outer ∷ frames) = suc (statements outer + statem
 -- whole processes and checks within the limits
 pub record ContentsFit (before : Contents) : Type 0 where
   pub some_register : 0 < before.registers
-  pub few_registers : before.registers ≤ 64
-  pub few_processes : length before.processes ≤ 8
+  pub few_registers : before.registers ≤ MOST_REGISTERS
+  pub few_processes : length before.processes ≤ MOST_PROCESSES
   pub processes : All (IsBodyWithin before.registers) before.processes
-  pub few_clauses : length before.clauses ≤ 16
+  pub few_clauses : length before.clauses ≤ MOST_CHECKS
   pub clauses_fit : All (λ clause. clause_fits clause ≡ true) before.clauses
 
 -- a process so far within the limits
 pub record InsideFits (before : Contents) (frames : List Frame) (block : Block) (n : ℕ) : Type 0 where
   pub contents : ContentsFit before
-  pub room : length before.processes < 8
+  pub room : length before.processes < MOST_PROCESSES
   pub nested : FramesFit frames block
   pub count : n ≡ statements block + statements_around frames
-  pub few : n ≤ 200
+  pub few : n ≤ MOST_STATEMENTS
 
 pub record UsedFits (before : Contents) (kind : Use) : Type 0 where
   pub contents : ContentsFit before
-  pub room : length before.processes < 8
+  pub room : length before.processes < MOST_PROCESSES
   pub fits : use_fits kind before.registers ≡ true
 
 abbrev pub ReadingFits : Reading → Type 0
@@ -235,10 +237,10 @@ abbrev pub IsRefusalOf : Result Reading ℕ → LineRefusal → Type 0
 IsRefusalOf expected (refusal.Fault code) = expected ≡ Err code
 IsRefusalOf expected refusal.Memory = Unit {0}
 
--- the fault of a line that was refused; 9 stands for memory
+-- the fault of a line that was refused; its own stands for memory
 abbrev pub IsFaultOf : ℕ → LineRefusal → ReadFault → Type 0
 IsFaultOf number (refusal.Fault code) fault = fault ≡ record { line = number; code = code }
-IsFaultOf number refusal.Memory fault = fault ≡ record { line = number; code = 9 }
+IsFaultOf number refusal.Memory fault = fault ≡ record { line = number; code = NO_MEMORY }
 
 -- the answer is what is expected, unless memory was refused
 abbrev pub Answers : Result Reading ℕ → Result Draft LineRefusal → Type 0

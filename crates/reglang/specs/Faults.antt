@@ -1,5 +1,7 @@
 -- The first fault of a text.
 use Rattle.std.specs.Prelude.{ℕ, suc, Bool, true, false, not, ◌&&◌, if◌then◌else◌, List, [], ◌∷◌, ◌++◌, length, max, Option, Some, None, is_some, is_none, unwrap_or, option_map, Result, Ok, Err, nat_lt}
+use Rattle.regmodel.specs.declared.limits.TheConstants.{MOST_CHECKS, MOST_OPEN_BLOCKS, MOST_OPEN_REPEATS, MOST_PROCESSES, MOST_REGISTERS, MOST_STATEMENTS}
+use Rattle.reglang.specs.declared.refusals.TheConstants.{MISPLACED, NO_CLAUSE, NO_REGISTERS, PAST_LIMIT}
 use Rattle.regmodel.specs.Limits.{target_fits, operand_fits, expr_fits}
 use Rattle.reglang.specs.Lines.{lines}
 use Rattle.reglang.specs.Forms.{read_line}
@@ -101,7 +103,7 @@ abbrev pub is_repeat : List Opened → Bool
 is_repeat (Repeat ∷ outer) = true
 is_repeat _ = false
 
--- code 5: the line cannot stand outside processes, where `registers` came or not
+-- misplaced: the line cannot stand outside processes, where `registers` came or not
 abbrev pub is_no_outer : Bool → Line → Bool
 is_no_outer came (line.Registers n) = came
 is_no_outer came line.Process = false
@@ -133,7 +135,7 @@ misplaced_at Used came line = is_no_end line
 abbrev pub is_misplaced : Context → Line → Bool
 is_misplaced context line = misplaced_at context.place (is_some context.registers) line
 
--- code 6: how many statements there are so far, and which blocks are open
+-- past a limit: how many statements there are so far, and which blocks are open
 abbrev pub statements_at : Place → ℕ
 statements_at (Inside opened n) = n
 statements_at _ = 0
@@ -150,19 +152,19 @@ repeats_in (Else ∷ outer) = repeats_in outer
 
 -- whether there is room for one more statement, for one more block, and for one more repeat
 abbrev pub has_room : Place → Bool
-has_room place = nat_lt (statements_at place) 200
+has_room place = nat_lt (statements_at place) MOST_STATEMENTS
 
 abbrev pub has_depth : Place → Bool
-has_depth place = nat_lt (length (opened_at place)) 16
+has_depth place = nat_lt (length (opened_at place)) MOST_OPEN_BLOCKS
 
 abbrev pub has_turns : Place → Bool
-has_turns place = nat_lt (repeats_in (opened_at place)) 3
+has_turns place = nat_lt (repeats_in (opened_at place)) MOST_OPEN_REPEATS
 
 -- whether a line is within the limits where it stands
 abbrev pub is_within : Context → Line → Bool
-is_within context (line.Registers n) = is_between 1 64 n
-is_within context line.Process = nat_lt context.processes 8
-is_within context (line.Check clause) = nat_lt context.checks 16
+is_within context (line.Registers n) = is_between 1 MOST_REGISTERS n
+is_within context line.Process = nat_lt context.processes MOST_PROCESSES
+is_within context (line.Check clause) = nat_lt context.checks MOST_CHECKS
 is_within context (line.Use kind) = use_fits kind (unwrap_or context.registers 0)
 is_within context (line.Set to value) = has_room context.place && (target_fits to && expr_fits value)
 is_within context (line.Read to from) = has_room context.place && (target_fits to && operand_fits from)
@@ -173,12 +175,12 @@ is_within context (line.Emit value) = has_room context.place && expr_fits value
 is_within context line.Halt = has_room context.place
 is_within context _ = true
 
--- code 7: no `registers` line came, and this is none
+-- too early: no `registers` line came, and this is none
 abbrev pub is_too_early : Context → Line → Bool
 is_too_early context (line.Registers n) = false
 is_too_early context _ = is_none context.registers
 
--- code 8: a check without a clause
+-- no clause: a check without a clause
 abbrev pub is_no_clause : Line → Bool
 is_no_clause (line.Check None) = true
 is_no_clause _ = false
@@ -186,10 +188,10 @@ is_no_clause _ = false
 -- the code of a line's fault where it stands
 abbrev pub line_fault : Context → Line → Option ℕ
 line_fault context line =
-    if is_misplaced context line then Some 5 else
-    (if not (is_within context line) then Some 6 else
-    (if is_too_early context line then Some 7 else
-    (if is_no_clause line then Some 8 else None)))
+    if is_misplaced context line then Some MISPLACED else
+    (if not (is_within context line) then Some PAST_LIMIT else
+    (if is_too_early context line then Some NO_REGISTERS else
+    (if is_no_clause line then Some NO_CLAUSE else None)))
 
 -- the code of the fault of a line that says this, where it stands
 abbrev pub fault_of_line : Context → Result (Option Line) ℕ → Option ℕ
@@ -204,9 +206,9 @@ is_inside _ = true
 -- the code of the fault of the end of a text
 abbrev pub end_fault : Context → Option ℕ
 end_fault context =
-    if is_none context.registers then Some 7 else
-    (if is_inside context.place then Some 5 else
-    (if nat_lt 0 context.processes then None else Some 6))
+    if is_none context.registers then Some NO_REGISTERS else
+    (if is_inside context.place then Some MISPLACED else
+    (if nat_lt 0 context.processes then None else Some PAST_LIMIT))
 
 -- ---- the first of them
 

@@ -1,6 +1,8 @@
 -- What a line says, or the code of its fault.
 use Rattle.std.specs.Prelude.{ℕ, Bool, true, false, not, if◌then◌else◌, List, [], ◌∷◌, map, Option, Some, None, Result, Ok, Err, nat_le}
 use Rattle.std.specs.List.{list_all, list_any}
+use Rattle.regmodel.specs.declared.limits.TheConstants.{GREATEST_VALUE, MOST_PROCESSES}
+use Rattle.reglang.specs.declared.refusals.TheConstants.{NO_FORM, NO_NUMBER, NOT_PRINTABLE, UNKNOWN_WORD}
 use Rattle.regmodel.specs.declared.programs.Target.{Target}
 use Rattle.regmodel.specs.declared.programs.Target.TheVariants as target
 use Rattle.regmodel.specs.declared.programs.Operand.{Operand}
@@ -124,11 +126,11 @@ number_to limit (word.Number n) = if nat_le n limit then Some n else None
 number_to limit _ = None
 
 abbrev pub at_most_clause : List Word → Option Clause
-at_most_clause (name ∷ count ∷ []) = Some (λ v c. clause.AtMost v c) ⊛ number_to 1000000000 name ⊛ number_to 8 count
+at_most_clause (name ∷ count ∷ []) = Some (λ v c. clause.AtMost v c) ⊛ number_to GREATEST_VALUE name ⊛ number_to MOST_PROCESSES count
 at_most_clause _ = None
 
 abbrev pub within_clause : List Word → Option Clause
-within_clause (low ∷ high ∷ []) = Some (λ l h. clause.Within l h) ⊛ number_to 1000000000 low ⊛ number_to 1000000000 high
+within_clause (low ∷ high ∷ []) = Some (λ l h. clause.Within l h) ⊛ number_to GREATEST_VALUE low ⊛ number_to GREATEST_VALUE high
 within_clause _ = None
 
 -- a property with its numbers, each up to its limit
@@ -167,11 +169,11 @@ abbrev pub or_fault : ℕ → Option Line → Result (Option Line) ℕ
 or_fault code (Some line) = Ok (Some line)
 or_fault code None = Err code
 
--- the fault of the words of a line that is no check: 2 an unknown word, 3 no number word, 4 no form of its first word
+-- what a keyword and the words after it say, where it is no check; or the code of an unknown word, of no number word, of no form
 abbrev pub keyword_line : Keyword → List Word → Result (Option Line) ℕ
 keyword_line key more =
-    if not (list_all is_known more) then Err 2 else
-    (if list_any is_no_number more then Err 3 else or_fault 4 (form_of key more))
+    if not (list_all is_known more) then Err UNKNOWN_WORD else
+    (if list_any is_no_number more then Err NO_NUMBER else or_fault NO_FORM (form_of key more))
 
 -- what words say: nothing where there are none, or the first begins a comment
 abbrev pub line_of : List Word → Result (Option Line) ℕ
@@ -179,8 +181,8 @@ line_of [] = Ok None
 line_of (word.Comment ∷ more) = Ok None
 line_of (word.Keyword keyword.Check ∷ more) = Ok (Some (Check (clause_of more)))
 line_of (word.Keyword key ∷ more) = keyword_line key more
-line_of _ = Err 2
+line_of _ = Err UNKNOWN_WORD
 
--- what a line says; fault 1 where a byte is not in 32 to 126
+-- what a line says, or the code of its fault: a byte that is not in 32 to 126, or one of its words
 abbrev pub read_line : List ℕ → Result (Option Line) ℕ
-read_line line = if is_printable line then line_of (map word_of (words line)) else Err 1
+read_line line = if is_printable line then line_of (map word_of (words line)) else Err NOT_PRINTABLE

@@ -1,10 +1,11 @@
 -- What a word may stand for.
-use Rattle.std.specs.Prelude.{ℕ, ◌==◌, Bool, false, ◌&&◌, if◌then◌else◌, List, [], ◌∷◌, reverse, Option, Some, None, nat_lt, nat_le, codes}
+use Rattle.std.specs.Prelude.{ℕ, ◌+◌, ◌==◌, Bool, false, ◌&&◌, if◌then◌else◌, List, [], ◌∷◌, reverse, Option, Some, None, nat_lt, nat_le, codes}
 use Rattle.std.specs.List.{list_all}
 use Rattle.std.specs.Str.{bytes_eq}
 use Rattle.std.specs.Str.Parse.{digits_value}
 use Rattle.regmodel.specs.declared.programs.Op.{Op}
 use Rattle.regmodel.specs.declared.programs.Op.TheVariants as op
+use Rattle.regmodel.specs.declared.limits.TheConstants.{CELLS, GREATEST_VALUE, VARIABLES}
 use Rattle.reglang.specs.Lines.{is_empty}
 use Rattle.reglang.specs.declared.words.Keyword.{Keyword}
 use Rattle.reglang.specs.declared.words.Keyword.TheVariants as keyword
@@ -26,7 +27,7 @@ is_number (b ∷ bs) = if b == 48 then is_empty bs else list_all is_digit (b ∷
 
 -- 1000000001 stands for each number past 1000000000
 abbrev pub up_to_limit : ℕ → ℕ
-up_to_limit n = if nat_le n 1000000000 then n else 1000000001
+up_to_limit n = if nat_le n GREATEST_VALUE then n else GREATEST_VALUE + 1
 
 -- the value of a number word
 abbrev pub number_of : List ℕ → Option ℕ
@@ -39,7 +40,7 @@ only_below limit (Some n) = if nat_lt n limit then Some n else None
 -- the number of a variable: `v` and a number word below 16
 abbrev pub variable_of : List ℕ → Option ℕ
 variable_of [] = None
-variable_of (b ∷ bs) = if b == 118 then only_below 16 (number_of bs) else None
+variable_of (b ∷ bs) = if b == 118 then only_below VARIABLES (number_of bs) else None
 
 abbrev pub first_byte_is : (ℕ → Bool) → List ℕ → Bool
 first_byte_is p [] = false
@@ -66,7 +67,7 @@ cell_or None word = word
 -- the cell that is named between brackets: by a number word below 32, or by a variable
 abbrev pub cell_word : Option (List ℕ) → Word
 cell_word None = Other
-cell_word (Some index) = cell_or (only_below 32 (number_of index)) (cell_or_other (variable_of index))
+cell_word (Some index) = cell_or (only_below CELLS (number_of index)) (cell_or_other (variable_of index))
 
 abbrev pub variable_or : Option ℕ → Word → Word
 variable_or (Some i) word = Var i

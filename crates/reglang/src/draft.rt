@@ -11,6 +11,7 @@ use crate::parts::Parts;
 use crate::refusals::{LineRefusal, MISPLACED, NO_REGISTERS, PAST_LIMIT};
 use crate::source::Source;
 use crate::uses::Use;
+use regmodel::limits::MOST_REGISTERS;
 use std::alloc::Global;
 
 /// What was read so far.
@@ -59,7 +60,7 @@ fn begin(alloc: Global, line: Line) -> Result<Draft, LineRefusal>
 {
     match line {
         Line::Registers(n) => {
-            if n == 0 || n > 64 {
+            if n == 0 || n > MOST_REGISTERS {
                 return Err(LineRefusal::Fault(PAST_LIMIT));
             }
             Ok(Draft::Between(Parts::new(alloc, n)))

@@ -2,6 +2,7 @@
 
 ghost use Rattle.std.specs.Prelude.{◌≡◌, ◌<◌, ◌&&◌, [], ◌∷◌, suc, length, nat_lt, count_by, IfErr, IfOk};
 ghost use Rattle.regmodel.specs.Program.{Stop, block_of, with_stmt};
+ghost use Rattle.regmodel.specs.declared.limits.TheConstants.{MOST_OPEN_BLOCKS, MOST_STATEMENTS};
 ghost use Rattle.reglang.specs.Drafts as spec;
 ghost use Rattle.reglang.specs.Drafts.{Answers, Inside, ReadingFits, ◌⊕◌, contents_before, frame_of, frames_of, inside_of, is_turn, reading_of, take_line};
 ghost use Rattle.reglang.specs.declared.forms.Line.TheVariants as line;
@@ -12,17 +13,9 @@ use crate::parts::Parts;
 use crate::refusals::{LineRefusal, MISPLACED, PAST_LIMIT};
 use crate::source::Process;
 use crate::uses::Use;
+use regmodel::limits::{MOST_OPEN_BLOCKS, MOST_OPEN_REPEATS, MOST_STATEMENTS};
 use regmodel::{Expr, Prog, Stmt};
 use std::alloc::Global;
-
-/// The most statements of a process.
-const MOST_STATEMENTS: u32 = 200;
-
-/// The most blocks that are open at a time.
-const MOST_OPEN: usize = 16;
-
-/// The most repeats among them.
-const MOST_REPEATS: usize = 3;
 
 /// A block that is open, with the statements before it in the block around it.
 #[derive(Debug, Drop)]
@@ -107,9 +100,9 @@ impl OpenProcess {
 
     /// Whether there is room for one more statement, and for one more block.
     fn may_enter(&self) -> bool
-        ensures { result ≡ nat_lt self.now.statements 200 && nat_lt (length self.now.blocks.items) 16 }
+        ensures { result ≡ nat_lt self.now.statements MOST_STATEMENTS && nat_lt (length self.now.blocks.items) MOST_OPEN_BLOCKS }
     {
-        self.statements < MOST_STATEMENTS && self.blocks.len() < MOST_OPEN
+        self.statements < MOST_STATEMENTS && self.blocks.len() < MOST_OPEN_BLOCKS as usize
     }
 
     /// Begins an `if`.
@@ -135,7 +128,7 @@ impl OpenProcess {
         if !self.may_enter() || !count.fits() {
             return Err(LineRefusal::Fault(PAST_LIMIT));
         }
-        if open_repeats(self.blocks.as_slice()) >= MOST_REPEATS {
+        if open_repeats(self.blocks.as_slice()) >= MOST_OPEN_REPEATS as usize {
             return Err(LineRefusal::Fault(PAST_LIMIT));
         }
         let OpenProcess {
@@ -263,7 +256,7 @@ fn enter(
     opened: Open,
     statements: u32,
 ) -> Result<Draft, LineRefusal>
-    requires { statements < 200 }
+    requires { statements < MOST_STATEMENTS }
     ensures ok { IfOk result (λ draft. reading_of draft ≡ Inside (contents_before before) (frame_of opened ∷ frames_of blocks.items) Stop (suc statements)) }
     ensures err { IfErr result (λ refusal. refusal ≡ LineRefusal.Memory) }
 {

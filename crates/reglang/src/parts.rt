@@ -10,11 +10,9 @@ use crate::refusals::{LineRefusal, MISPLACED, NO_CLAUSE, PAST_LIMIT};
 use crate::source::{Process, Source};
 use crate::uses::Use;
 use arrayvec::ArrayVec;
+use regmodel::limits::MOST_PROCESSES;
 use regmodel::{Clause, Clauses};
 use std::alloc::Global;
-
-/// The most processes of a source.
-const MOST_PROCESSES: usize = 8;
 
 /// The registers, and the whole processes and checks so far.
 #[derive(Debug, Drop)]

@@ -1,6 +1,7 @@
 //! Sources: 1 to 8 processes over the same registers, and the properties asked of their outcomes.
 
 ghost use Rattle.std.specs.Prelude.{◌≡◌, ◌<◌, ◌≤◌, All, length, true};
+ghost use Rattle.regmodel.specs.declared.limits.TheConstants.{MOST_CHECKS, MOST_PROCESSES, MOST_REGISTERS};
 ghost use Rattle.reglang.specs.Contents.{clause_fits, is_over};
 
 use crate::copies::copy_block;
@@ -48,10 +49,10 @@ pub struct Source {
     processes: Vec<Process>,
     clauses: Clauses,
     ghost some_register: { 0 < registers },
-    ghost few_registers: { registers ≤ 64 },
+    ghost few_registers: { registers ≤ MOST_REGISTERS },
     ghost some_process: { 0 < length processes.items },
-    ghost few_processes: { length processes.items ≤ 8 },
-    ghost few_clauses: { length clauses ≤ 16 },
+    ghost few_processes: { length processes.items ≤ MOST_PROCESSES },
+    ghost few_clauses: { length clauses ≤ MOST_CHECKS },
     ghost clauses_fit: { All (λ clause. clause_fits clause ≡ true) clauses },
     ghost fit: { All (λ p. is_over registers p ≡ true) processes.items },
 }
@@ -67,10 +68,10 @@ impl Source {
     /// The source of these processes and clauses.
     pub(crate) fn new(registers: u32, processes: Vec<Process>, clauses: Clauses) -> Source
         requires some_register { 0 < registers }
-        requires few_registers { registers ≤ 64 }
+        requires few_registers { registers ≤ MOST_REGISTERS }
         requires some { 0 < length processes.items }
-        requires few { length processes.items ≤ 8 }
-        requires few_clauses { length clauses ≤ 16 }
+        requires few { length processes.items ≤ MOST_PROCESSES }
+        requires few_clauses { length clauses ≤ MOST_CHECKS }
         requires clauses_fit { All (λ clause. clause_fits clause ≡ true) clauses }
         requires fit { All (λ p. is_over registers p ≡ true) processes.items }
         ensures { contents_of result ≡ record { registers = registers; processes = map body_of processes.items; clauses = clauses } }
@@ -87,7 +88,7 @@ impl Source {
         ensures value { result ≡ registers_of self.now }
         ensures programs { All (λ p. IsWithin p × (p.registers ≡ result)) (source_programs self.now) }
         ensures some { 0 < length (source_programs self.now) }
-        ensures few { length (source_programs self.now) ≤ 8 }
+        ensures few { length (source_programs self.now) ≤ MOST_PROCESSES }
     {
         self.registers
     }
@@ -96,7 +97,7 @@ impl Source {
     pub fn processes(&self) -> usize
         ensures value { length (source_programs self.now) ≡ result }
         ensures some { 0 < result }
-        ensures few { result ≤ 8 }
+        ensures few { result ≤ MOST_PROCESSES }
     {
         self.processes.len()
     }

@@ -4,6 +4,8 @@ use Rattle.regmodel.specs.declared.accesses.Access.{Access}
 use Rattle.regmodel.specs.declared.accesses.Access.TheVariants as access
 use Rattle.regmodel.specs.declared.accesses.Pending.{Pending}
 use Rattle.regmodel.specs.declared.accesses.Pending.TheVariants as pending
+use Rattle.regmodel.specs.declared.limits.TheConstants.{MOST_NUMBERS, MOST_TURNS}
+use Rattle.regmodel.specs.declared.faults.TheConstants.{TOO_MANY_NUMBERS, TOO_MANY_TURNS}
 use Rattle.regmodel.specs.Values.{Env, Place, start_env, below_or_fault, and_then, operand_value, expr_value, target_place, store}
 use Rattle.regmodel.specs.Program.{Block, Program, Stop, Assign, Read, Write, If, Repeat, Emit, Halt}
 
@@ -46,13 +48,13 @@ abbrev pub times : ℕ → (Env → List ℕ → Flow) → Env → List ℕ → 
 times zero block env replies = GoesOn env replies
 times (suc n) block env replies = then_do (block env replies) (times n block)
 
--- a block as often as its count, or fault 3 above 99
+-- a block as often as its count, or a fault above the most turns
 abbrev pub times_or_fault : ℕ → (Env → List ℕ → Flow) → Env → List ℕ → Flow
-times_or_fault n block env replies = if nat_lt 99 n then Faults 3 else times n block env replies
+times_or_fault n block env replies = if nat_lt MOST_TURNS n then Faults TOO_MANY_TURNS else times n block env replies
 
--- a number appended to the result, or fault 4 where 8 stand
+-- a number appended to the result, or a fault where there are as many as may be
 abbrev pub emit : Env → ℕ → List ℕ → Flow
-emit env v replies = if nat_lt (length env.emitted) 8 then GoesOn (record env { emitted = env.emitted ++ v ∷ [] }) replies else Faults 4
+emit env v replies = if nat_lt (length env.emitted) MOST_NUMBERS then GoesOn (record env { emitted = env.emitted ++ v ∷ [] }) replies else Faults TOO_MANY_NUMBERS
 
 -- a block over so many registers, from an environment, on a list of replies
 abbrev pub exec : Block → ℕ → Env → List ℕ → Flow

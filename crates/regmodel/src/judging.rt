@@ -2,6 +2,7 @@
 
 ghost use Rattle.std.specs.Prelude.{◌≡◌, ◌≤◌, ◌+◌, ◌*◌, ◌==◌, ◌&&◌, not, length, count_by, nat_le};
 ghost use Rattle.std.specs.List.{list_all, list_any};
+ghost use Rattle.regmodel.specs.declared.limits.TheConstants.{MOST_PROCESSES};
 ghost use Rattle.regmodel.specs.Judging.{are_different, has_if_done, is_faulty, is_running, meets, meets_all, name_of, names, see_themselves, count_started};
 
 use crate::clauses::{Clause, Clauses};
@@ -85,7 +86,7 @@ fn has_if_done(fate: &End, m: u32) -> bool
 
 /// Whether each process that took a step and is done has its number and 1 among its numbers; the first of these is process p.
 fn see_themselves(p: usize, ends: &[ProcEnd]) -> bool
-    requires { p + length ends.now ≤ 8 }
+    requires { p + length ends.now ≤ MOST_PROCESSES }
     ensures { result ≡ see_themselves p ends.now }
 {
     let Some((end, more)) = ends.split_first() else {
@@ -99,7 +100,7 @@ fn see_themselves(p: usize, ends: &[ProcEnd]) -> bool
 
 /// Whether each name m is at least 1, and m + 1 at most twice the number of processes that took a step.
 fn are_adaptive(ends: &[ProcEnd]) -> bool
-    requires { length ends.now ≤ 8 }
+    requires { length ends.now ≤ MOST_PROCESSES }
     ensures { result ≡ list_all (λ m. nat_le 1 m && nat_le (m + 1) (2 * count_started ends.now)) (names ends.now) }
 {
     let most = 2 * count_started(ends) as u64;
@@ -110,7 +111,7 @@ fn are_adaptive(ends: &[ProcEnd]) -> bool
 
 /// Whether each name m is at least 1, and 2m at most k(k + 1), where k processes took a step.
 fn are_in_triangle(ends: &[ProcEnd]) -> bool
-    requires { length ends.now ≤ 8 }
+    requires { length ends.now ≤ MOST_PROCESSES }
     ensures { result ≡ list_all (λ m. nat_le 1 m && nat_le (2 * m) (count_started ends.now * (count_started ends.now + 1))) (names ends.now) }
 {
     let k = count_started(ends) as u64;

@@ -3,10 +3,12 @@
 
 pub mod accesses;
 pub mod clauses;
+pub mod faults;
 mod fitting;
 mod judging;
 pub mod laws;
 pub mod letters;
+pub mod limits;
 pub mod memory;
 pub mod outcomes;
 pub mod programs;

@@ -46,6 +46,7 @@ impl Model for Outcome {
 
 impl Outcome {
     ghost use Rattle.std.specs.Prelude.{◌≡◌, ◌≤◌, length};
+    ghost use Rattle.regmodel.specs.declared.limits.TheConstants.{MOST_PROCESSES};
 
     /// The outcome of these ends.
     pub fn new(ends: ArrayVec<ProcEnd, 8>) -> Outcome
@@ -64,7 +65,7 @@ impl Outcome {
     /// How each process stands; at most 8.
     pub(crate) fn few_ends(&self) -> &[ProcEnd]
         ensures value { result.now ≡ self.now }
-        ensures few { length result.now ≤ 8 }
+        ensures few { length result.now ≤ MOST_PROCESSES }
     {
         self.ends.as_slice()
     }

@@ -3,6 +3,7 @@
 ghost use Rattle.std.specs.Prelude.{◌≡◌, ◌↔◌, IsOk, IfOk, IfErr};
 ghost use Rattle.regmodel.specs.Settings.{AreSettingsWithin, setting_fault};
 
+use crate::limits::{GREATEST_CUT, GREATEST_ROOM, MOST_CRASHES, MOST_LETTERS, MOST_WORKERS};
 use std::marker::Model;
 use thiserror::Error;
 
@@ -28,6 +29,21 @@ impl Model for Settings {
     ghost inverse = { λ b. record { length = b.length; crashes = b.crashes; workers = b.workers; cut = b.cut; room = b.room } };
 }
 
+/// The code of a length past its limit.
+pub const LENGTH_PAST_LIMIT: u8 = 1;
+
+/// The code of a number of crashes past its limit.
+pub const CRASHES_PAST_LIMIT: u8 = 2;
+
+/// The code of no workers, or too many.
+pub const WORKERS_PAST_LIMIT: u8 = 3;
+
+/// The code of a cut past its limit.
+pub const CUT_PAST_LIMIT: u8 = 4;
+
+/// The code of a room past its limit.
+pub const ROOM_PAST_LIMIT: u8 = 5;
+
 /// A setting past its limit, the lowest that applies: 1 length, 2 crashes, 3 workers, 4 cut, 5 room.
 #[derive(Clone, Copy, PartialEq, Eq, Debug, Error)]
 #[error("setting {code} is past its limit")]
@@ -49,20 +65,30 @@ impl Settings {
         ensures fits { IsOk result ↔ AreSettingsWithin (record { length = length; crashes = crashes; workers = workers; cut = cut; room = room }) }
         ensures lowest { IfErr result (λ e. e.code ≡ setting_fault (record { length = length; crashes = crashes; workers = workers; cut = cut; room = room })) }
     {
-        if length > 64 {
-            return Err(SettingFault { code: 1 });
+        if length > MOST_LETTERS {
+            return Err(SettingFault {
+                code: LENGTH_PAST_LIMIT,
+            });
         }
-        if crashes > 8 {
-            return Err(SettingFault { code: 2 });
+        if crashes > MOST_CRASHES {
+            return Err(SettingFault {
+                code: CRASHES_PAST_LIMIT,
+            });
         }
-        if workers == 0 || workers > 16 {
-            return Err(SettingFault { code: 3 });
+        if workers == 0 || workers > MOST_WORKERS {
+            return Err(SettingFault {
+                code: WORKERS_PAST_LIMIT,
+            });
         }
-        if cut > 16 {
-            return Err(SettingFault { code: 4 });
+        if cut > GREATEST_CUT {
+            return Err(SettingFault {
+                code: CUT_PAST_LIMIT,
+            });
         }
-        if room > 65536 {
-            return Err(SettingFault { code: 5 });
+        if room > GREATEST_ROOM {
+            return Err(SettingFault {
+                code: ROOM_PAST_LIMIT,
+            });
         }
         Ok(Settings {
             length,

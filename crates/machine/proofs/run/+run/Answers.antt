@@ -73,8 +73,8 @@ run_stmt-returns-in_ok-expr-in-If-clause-asks t c = λ rest.
     let seen = if_block _ _ _ _ rest w.is in
     rw c.stmt_exit.ensures (exit_asks c.run_block-exit.result (Within arm) n fs block whole rest env (arm_part (Within arm) arm n whole w.test block (block_of w.first.items) (block_of w.second.items) rest (resume n fs) env [] _ refl seen told refl) c.run_block-exit.ensures.asks)
 
-pub run_stmt-returns-else-turns-gt99-clause-flow : goal.run_stmt-returns-else-turns-gt99-clause-flow
-run_stmt-returns-else-turns-gt99-clause-flow t c = λ rest s.
+pub run_stmt-returns-else-turns-gt-MOST_TURNS-clause-flow : goal.run_stmt-returns-else-turns-gt-MOST_TURNS-clause-flow
+run_stmt-returns-else-turns-gt-MOST_TURNS-clause-flow t c = λ rest s.
     let w = c.in-Repeat in
     let n = c.args.registers in
     let old = env_of c.args.store.now in
@@ -86,8 +86,8 @@ run_stmt-returns-else-turns-gt99-clause-flow t c = λ rest s.
     ∙ c.run_turns.ensures.flow w.count rest s
     ∙ ap (λ x. stmt_flow c.run_turns.result n fs x rest (env_of c.run_turns.new.store) s) (sym seen)
 
-pub run_stmt-returns-else-turns-gt99-clause-asks : goal.run_stmt-returns-else-turns-gt99-clause-asks
-run_stmt-returns-else-turns-gt99-clause-asks t c = λ rest.
+pub run_stmt-returns-else-turns-gt-MOST_TURNS-clause-asks : goal.run_stmt-returns-else-turns-gt-MOST_TURNS-clause-asks
+run_stmt-returns-else-turns-gt-MOST_TURNS-clause-asks t c = λ rest.
     let w = c.in-Repeat in
     rw (repeat_block _ _ _ _ rest w.is c.as_slice-in-Repeat.ensures.value) (c.run_turns.ensures.asks w.count rest)
 
