@@ -47,7 +47,7 @@ pub fn expand(alloc: Global, kind: &Use, registers: u32) -> Result<Prog, ExpandF
         return Err(ExpandFault { code: PAST_LIMIT });
     }
     match block(alloc, kind) {
-        Ok(body) => Ok(Prog::new(registers, body).unwrap()),
+        Ok(body) => Ok(Prog::of(registers, body)),
         Err(_) => Err(ExpandFault { code: NO_MEMORY }),
     }
 }

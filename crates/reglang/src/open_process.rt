@@ -223,7 +223,7 @@ impl OpenProcess {
         if !self.blocks.is_empty() {
             return Err(LineRefusal::Fault(MISPLACED));
         }
-        let prog = Prog::new(self.before.registers(), self.block).unwrap();
+        let prog = Prog::of(self.before.registers(), self.block);
         self.before.add_process(Process::Text(prog))
     }
 

@@ -32,7 +32,7 @@ impl Process {
         match self {
             Process::Text(prog) => {
                 let body = copy_block(alloc, prog.body())?;
-                Ok(Prog::new(prog.registers(), body).unwrap())
+                Ok(Prog::of(prog.registers(), body))
             }
             Process::Use(kind) => match expand(alloc, kind, registers) {
                 Ok(prog) => Ok(prog),

@@ -1,21 +1,21 @@
 //! The model: programs over shared registers, schedules of their steps, and what comes out.
 #![tactic(auto)]
 
-pub mod accesses;
-pub mod clauses;
+mod accesses;
+mod clauses;
 pub mod faults;
 mod fitting;
 mod judging;
 pub mod laws;
-pub mod letters;
+mod letters;
 pub mod limits;
-pub mod memory;
-pub mod outcomes;
-pub mod programs;
+mod memory;
+mod outcomes;
+mod programs;
 pub mod reductions;
-pub mod schedule_texts;
-pub mod schedules;
-pub mod settings;
+mod schedule_texts;
+mod schedules;
+mod settings;
 
 pub use accesses::{Access, Numbers, Pending};
 pub use clauses::{Clause, Clauses};

@@ -62,6 +62,13 @@ impl Outcome {
         self.ends.as_slice()
     }
 
+    /// The same outcome. It takes no memory, which a clone might be refused.
+    pub fn copy(&self) -> Outcome
+        ensures { result ≡ self.now }
+    {
+        self.clone().unwrap()
+    }
+
     /// How each process stands; at most 8.
     pub(crate) fn few_ends(&self) -> &[ProcEnd]
         ensures value { result.now ≡ self.now }

@@ -151,7 +151,15 @@ impl Prog {
         if fitting::room_after(block, MOST_STATEMENTS).is_none() {
             return None;
         }
-        Some(Prog { registers, body })
+        Some(Prog::of(registers, body))
+    }
+
+    /// The program of these statements over so many registers, which are within the limits.
+    pub fn of(registers: u32, body: Vec<Stmt>) -> Prog
+        requires { IsWithin (record { registers = registers; body = block_of body.items }) }
+        ensures { program_of result ≡ record { registers = registers; body = block_of body.items } }
+    {
+        Prog { registers, body }
     }
 
     /// How many registers there are.
