@@ -1,5 +1,6 @@
 -- What a program does on a whole list of replies.
 use Rattle.std.specs.Prelude.{ℕ, zero, suc, List, [], ◌∷◌, ◌++◌, Result, Ok, Err, nat_lt, if◌then◌else◌, length}
+use Rattle.regmodel.specs.Reply.{Replies}
 use Rattle.regmodel.specs.declared.accesses.Access.{Access}
 use Rattle.regmodel.specs.declared.accesses.Access.TheVariants as access
 use Rattle.regmodel.specs.declared.accesses.Pending.{Pending}
@@ -11,7 +12,7 @@ use Rattle.regmodel.specs.Program.{Block, Program, Stop, Assign, Read, Write, If
 
 -- what a block leads to: it goes on with what is left of the replies, wants an access, is done with numbers, or is at fault
 pub data Flow : Type 0 where
-  GoesOn : (env : Env) (replies : List ℕ) → Flow
+  GoesOn : (env : Env) (replies : Replies) → Flow
   Wants : (access : Access) → Flow
   Ends : (numbers : List ℕ) → Flow
   Faults : (code : ℕ) → Flow
@@ -22,19 +23,19 @@ with_value (Ok x) go = go x
 with_value (Err code) go = Faults code
 
 -- one after another
-abbrev pub then_do : Flow → (Env → List ℕ → Flow) → Flow
+abbrev pub then_do : Flow → (Env → Replies → Flow) → Flow
 then_do (GoesOn env replies) go = go env replies
 then_do (Wants a) go = Wants a
 then_do (Ends numbers) go = Ends numbers
 then_do (Faults code) go = Faults code
 
 -- a read stores the next reply, or wants its access where none is left
-abbrev pub answer_read : Env → Place → ℕ → List ℕ → Flow
+abbrev pub answer_read : Env → Place → ℕ → Replies → Flow
 answer_read env place r [] = Wants (access.Read r)
 answer_read env place r (reply ∷ replies) = GoesOn (store env place reply) replies
 
 -- a write uses up the next reply, or wants its access
-abbrev pub answer_write : Env → ℕ → ℕ → List ℕ → Flow
+abbrev pub answer_write : Env → ℕ → ℕ → Replies → Flow
 answer_write env r v [] = Wants (access.Write r v)
 answer_write env r v (reply ∷ replies) = GoesOn env replies
 
@@ -44,20 +45,20 @@ choose zero first second = second
 choose (suc n) first second = first
 
 -- a block so many times
-abbrev pub times : ℕ → (Env → List ℕ → Flow) → Env → List ℕ → Flow
+abbrev pub times : ℕ → (Env → Replies → Flow) → Env → Replies → Flow
 times zero block env replies = GoesOn env replies
 times (suc n) block env replies = then_do (block env replies) (times n block)
 
 -- a block as often as its count, or a fault above the most turns
-abbrev pub times_or_fault : ℕ → (Env → List ℕ → Flow) → Env → List ℕ → Flow
+abbrev pub times_or_fault : ℕ → (Env → Replies → Flow) → Env → Replies → Flow
 times_or_fault n block env replies = if nat_lt MOST_TURNS n then Faults TOO_MANY_TURNS else times n block env replies
 
 -- a number appended to the result, or a fault where there are as many as may be
-abbrev pub emit : Env → ℕ → List ℕ → Flow
+abbrev pub emit : Env → ℕ → Replies → Flow
 emit env v replies = if nat_lt (length env.emitted) MOST_NUMBERS then GoesOn (record env { emitted = env.emitted ++ v ∷ [] }) replies else Faults TOO_MANY_NUMBERS
 
 -- a block over so many registers, from an environment, on a list of replies
-abbrev pub exec : Block → ℕ → Env → List ℕ → Flow
+abbrev pub exec : Block → ℕ → Env → Replies → Flow
 exec Stop registers env replies = GoesOn env replies
 exec (Assign t e rest) registers env replies =
     with_value (expr_value env e) (λ v. with_value (target_place env t) (λ place. exec rest registers (store env place v) replies))
@@ -84,5 +85,5 @@ flow_pending (Ends numbers) = pending.Done (record { items = numbers })
 flow_pending (Faults code) = pending.Fault code
 
 -- what a program does from its start on these replies
-abbrev pub act_of : Program → List ℕ → Pending
+abbrev pub act_of : Program → Replies → Pending
 act_of program replies = flow_pending (exec program.body program.registers start_env replies)

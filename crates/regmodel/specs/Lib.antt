@@ -22,6 +22,7 @@ pub mod Program
 pub mod Reduced
 pub mod ReducedExamples
 pub mod Replies
+pub mod Reply
 pub mod ReportText
 pub mod ScheduleText
 pub mod Schedules
