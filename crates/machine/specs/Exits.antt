@@ -1,4 +1,4 @@
--- What is left to do after a statement or a block was run.
+-- Inside the crate: what is left to do after a statement or a block was run.
 use Rattle.std.specs.Prelude.{◌≡◌, ℕ, List, [], Result, Ok, Err}
 use Rattle.regmodel.specs.Reply.{Replies}
 use Rattle.regmodel.specs.Values.{Env}

@@ -1,4 +1,4 @@
--- Where a program in progress stands: a path of frames down its blocks.
+-- Inside the crate: where a program in progress stands: a path of frames down its blocks.
 use Rattle.std.specs.Prelude.{ℕ, zero, suc, List, [], ◌∷◌}
 use Rattle.regmodel.specs.Reply.{Replies}
 use Rattle.regmodel.specs.Values.{Env}

@@ -1,4 +1,4 @@
--- What an interpreter does on further replies.
+-- Inside the crate: what an interpreter does on further replies.
 use Rattle.std.specs.Prelude.{ℕ, List, Result, Ok, Err}
 use Rattle.regmodel.specs.Reply.{Replies}
 use Rattle.regmodel.specs.Values.{Env}

@@ -49,6 +49,8 @@ pub trait Machine: Drop + Send {
         ensures ended { (s : Replies) → rest self.new s ≡ Done (record { items = [] }) };
 }
 
+// Each call of a boxed machine stands in a function of its own, by whose name a proof knows what it promises.
+
 /// What is pending in a boxed machine.
 pub fn pending_of_box(machine: &Box<dyn Machine + Send>) -> Pending
     ensures { result ≡ rest machine.now [] }

@@ -1,4 +1,4 @@
--- The turns of a round in a choice of names.
+-- The turns of a round of a renaming.
 use Rattle.std.proofs.Common.{◌≡◌, ◌≢◌, ℕ, zero, suc, ◌+◌, ◌-◌, ◌*◌, ◌<◌, ◌≤◌, Bool, true, false, cond, List, [], ◌∷◌, inl, inr, length, refl, ap, sym, ◌∙◌, arith, replicate, get_or, set, add-one, drop, take, drop-cons, not, ◌||◌}
 use Rattle.std.specs.Prelude.{nat_lt, nat_le, ◌==◌, if◌then◌else◌, slice_index, slice_set}
 use Rattle.std.proofs.lemmas.List.{get_or-set_same, length-set, length-append, take-append-le, set-append_left, get_or_append_left, set-get_or}
@@ -12,7 +12,7 @@ use Rattle.std.proofs.lemmas.Bool.{cases_eq}
 use Rattle.natives.specs.Names.{holds, number_from, cells_of, rounds_from, turns_from, from_round, from_after, from_slot, at_slot, name_after}
 use Rattle.natives.proofs.Steps.{le_yes, lt_yes, lt_no, eq_yes, eq_no}
 
--- a choice of names within its limits
+-- a renaming within its limits
 pub record IsChoice (base slots own registers : ℕ) : Type 0 where
   pub own_in : own < slots
   pub few_slots : slots ≤ 8

@@ -1,4 +1,4 @@
-//! Choices of names: a process proposes a name in its slot until no other slot holds it.
+//! Renamings: a process proposes a name in its slot until no other slot holds it.
 
 ghost use Rattle.std.specs.Prelude.{◌≡◌, ◌≢◌, ℕ, zero, suc, ◌+◌, ◌-◌, ◌*◌, ◌<◌, ◌≤◌, ◌↔◌, List, ◌∷◌, false, Err, IfOk, IsOk, IsTrue, length, slice_index, take};
 ghost use Rattle.regmodel.specs.Act.{act_of};
@@ -63,7 +63,7 @@ enum Stage {
     Over,
 }
 
-/// A choice of names in progress: a register a slot, for the proposal of its process. It keeps what it last read in each
+/// A renaming in progress: a register a slot, for the proposal of its process. It keeps what it last read in each
 /// slot, 0 for its own.
 #[derive(Drop)]
 pub struct NameSlots {
@@ -85,7 +85,7 @@ pub struct NameSlots {
 }
 
 impl NameSlots {
-    /// The choice of a use line, at its start: BASE, SLOTS, SLOT, and how many registers there are. Fault 1 where a limit of
+    /// The renaming of a use line, at its start: BASE, SLOTS, SLOT, and how many registers there are. Fault 1 where a limit of
     /// the line is passed, which [`Use::fits`] tells; no other fault comes. It takes no memory.
     pub fn make(base: u32, slots: u32, slot: u32, registers: u32) -> Result<NameSlots, MakeFault>
         ensures same { IfOk result (λ m. ⟦<NameSlots as Machine>⟧.program m ≡ expansion (kind.Name base slots slot) registers) }

@@ -11,7 +11,8 @@ use Rattle.regmodel.specs.declared.programs.Op.{Op}
 use Rattle.regmodel.specs.declared.programs.Op.TheVariants as op
 use Rattle.reglang.specs.Lines.{is_empty}
 use Rattle.reglang.specs.Words.{is_digit, is_number, up_to_limit, number_of, only_below, variable_of, before_bracket, in_brackets, cell_or, cell_or_other, cell_word, variable_or, number_word, value_word, keywords, operators, kinds, properties, spelled_in, word_of}
-use Rattle.reglang.specs.Writing.{keyword_text, operator_text, kind_text, property_text, word_text}
+use Rattle.reglang.specs.Spelling.{keyword_text, operator_text, kind_text, property_text}
+use Rattle.reglang.specs.Writing.{word_text}
 use Rattle.reglang.specs.declared.words.Keyword.{Keyword}
 use Rattle.reglang.specs.declared.words.Keyword.TheVariants as keyword
 use Rattle.reglang.specs.declared.words.Kind.{Kind}

@@ -62,6 +62,7 @@ abbrev pub is_over : ℕ → Process → Bool
 is_over registers (process.Text prog) = prog.registers == registers
 is_over registers (process.Use kind) = use_fits kind registers
 
+-- what a process runs, however it lies in memory
 abbrev pub body_of : Process → Body
 body_of (process.Text prog) = Text (block_of prog.body.items)
 body_of (process.Use kind) = Kind kind

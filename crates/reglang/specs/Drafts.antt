@@ -1,4 +1,4 @@
--- Reading by whole values: what was read so far, and what one line more makes of it.
+-- Inside the crate: reading by whole values: what was read so far, and what one line more makes of it.
 use Rattle.std.specs.Prelude.{◌≡◌, ℕ, suc, ◌+◌, ◌<◌, ◌≤◌, Bool, true, false, ◌&&◌, if◌then◌else◌, List, [], ◌∷◌, ◌++◌, length, map, reverse, max, All, Option, Some, None, Result, Ok, Err, MatchResult, nat_lt}
 use Rattle.regmodel.specs.declared.clauses.Clause.{Clause}
 use Rattle.regmodel.specs.declared.programs.Expr.{Expr}
@@ -42,6 +42,7 @@ pub data Frame : Type 0 where
   Second : (test : Expr) (first outer : Block) → Frame
   Turn : (count : Expr) (outer : Block) → Frame
 
+-- which kind of block it is
 abbrev pub opened_of : Frame → Opened
 opened_of (First test outer) = If
 opened_of (Second test first outer) = Else
@@ -67,19 +68,23 @@ add before frames block n fits statement = if nat_lt n MOST_STATEMENTS && fits t
 abbrev pub enter : Contents → Frame → List Frame → ℕ → Bool → Result Reading ℕ
 enter before frame frames n fits = if nat_lt n MOST_STATEMENTS && fits && nat_lt (length frames) MOST_OPEN_BLOCKS then Ok (Inside before (frame ∷ frames) Stop (suc n)) else Err PAST_LIMIT
 
+-- the `else` of the innermost block, an `if` without one
 abbrev pub enter_else : Contents → List Frame → Block → ℕ → Result Reading ℕ
 enter_else before (First test outer ∷ frames) block n = Ok (Inside before (Second test block outer ∷ frames) Stop n)
 enter_else before frames block n = Err MISPLACED
 
+-- the `fi` of the innermost block, an `if`, which is now a statement of the block around it
 abbrev pub leave_if : Contents → List Frame → Block → ℕ → Result Reading ℕ
 leave_if before (First test outer ∷ frames) block n = Ok (Inside before frames (outer ⊕ program.If test block Stop Stop) n)
 leave_if before (Second test first outer ∷ frames) block n = Ok (Inside before frames (outer ⊕ program.If test first block Stop) n)
 leave_if before frames block n = Err MISPLACED
 
+-- the `done` of the innermost block, a `repeat`
 abbrev pub leave_repeat : Contents → List Frame → Block → ℕ → Result Reading ℕ
 leave_repeat before (Turn count outer ∷ frames) block n = Ok (Inside before frames (outer ⊕ program.Repeat count block Stop) n)
 leave_repeat before frames block n = Err MISPLACED
 
+-- the `end` of a process without open blocks
 abbrev pub leave : Contents → List Frame → Block → Result Reading ℕ
 leave before [] block = Ok (Between (record before { processes = before.processes ++ Text block ∷ [] }))
 leave before (frame ∷ frames) block = Err MISPLACED
@@ -88,6 +93,7 @@ leave before (frame ∷ frames) block = Err MISPLACED
 abbrev pub stand_for : Contents → ℕ → Use → Result Reading ℕ
 stand_for before n kind = if nat_lt 0 n then Err MISPLACED else (if use_fits kind before.registers then Ok (Used before kind) else Err PAST_LIMIT)
 
+-- one clause more
 abbrev pub add_clause : Contents → Option Clause → Result Reading ℕ
 add_clause before (Some clause) = if nat_lt (length before.clauses) MOST_CHECKS then Ok (Between (record before { clauses = before.clauses ++ clause ∷ [] })) else Err PAST_LIMIT
 add_clause before None = if nat_lt (length before.clauses) MOST_CHECKS then Err NO_CLAUSE else Err PAST_LIMIT
@@ -99,11 +105,13 @@ begin line.Process = Err NO_REGISTERS
 begin (line.Check clause) = Err NO_REGISTERS
 begin _ = Err MISPLACED
 
+-- a line between processes
 abbrev pub take_between : Contents → Line → Result Reading ℕ
 take_between before line.Process = if nat_lt (length before.processes) MOST_PROCESSES then Ok (Inside before [] Stop 0) else Err PAST_LIMIT
 take_between before (line.Check clause) = add_clause before clause
 take_between before _ = Err MISPLACED
 
+-- a line of a process
 abbrev pub take_inside : Contents → List Frame → Block → ℕ → Line → Result Reading ℕ
 take_inside before frames block n (line.Set to value) = add before frames block n (target_fits to && expr_fits value) (program.Assign to value Stop)
 take_inside before frames block n (line.Read to from) = add before frames block n (target_fits to && operand_fits from) (program.Read to from Stop)
@@ -119,6 +127,7 @@ take_inside before frames block n line.End = leave before frames block
 take_inside before frames block n (line.Use kind) = stand_for before n kind
 take_inside before frames block n _ = Err MISPLACED
 
+-- a line after a use line
 abbrev pub take_used : Contents → Use → Line → Result Reading ℕ
 take_used before kind line.End = Ok (Between (record before { processes = before.processes ++ Kind kind ∷ [] }))
 take_used before kind _ = Err MISPLACED
@@ -130,6 +139,7 @@ take_line (Between before) line = take_between before line
 take_line (Inside before frames block n) line = take_inside before frames block n line
 take_line (Used before kind) line = take_used before kind line
 
+-- takes what a line of the text says, if it says something; or keeps the code of its fault
 abbrev pub take_if_said : Reading → Result (Option Line) ℕ → Result Reading ℕ
 take_if_said reading (Ok (Some line)) = take_line reading line
 take_if_said reading (Ok None) = Ok reading
@@ -142,10 +152,12 @@ contents_at_end (Between before) = if nat_lt 0 (length before.processes) then Ok
 contents_at_end (Inside before frames block n) = Err MISPLACED
 contents_at_end (Used before kind) = Err MISPLACED
 
+-- a result whose fault is on this line
 abbrev pub faulty_at : {A : Type 0} → ℕ → Result A ℕ → Result A ReadFault
 faulty_at number (Ok x) = Ok x
 faulty_at number (Err code) = Err (record { line = number; code = code })
 
+-- goes on with a value, or keeps the fault
 abbrev pub goes_on : {A B : Type 0} → Result A ReadFault → (A → Result B ReadFault) → Result B ReadFault
 goes_on (Ok x) f = f x
 goes_on (Err fault) f = Err fault
@@ -194,11 +206,13 @@ pub record InsideFits (before : Contents) (frames : List Frame) (block : Block) 
   pub count : n ≡ statements block + statements_around frames
   pub few : n ≤ MOST_STATEMENTS
 
+-- a process that is a use line, within the limits
 pub record UsedFits (before : Contents) (kind : Use) : Type 0 where
   pub contents : ContentsFit before
   pub room : length before.processes < MOST_PROCESSES
   pub fits : use_fits kind before.registers ≡ true
 
+-- what was read so far is within the limits
 abbrev pub ReadingFits : Reading → Type 0
 ReadingFits Empty = Unit {0}
 ReadingFits (Between before) = ContentsFit before
@@ -207,14 +221,17 @@ ReadingFits (Used before kind) = UsedFits before kind
 
 -- ---- what the reader holds, however it lies in memory
 
+-- whole processes and checks
 abbrev pub contents_before : Parts → Contents
 contents_before parts = record { registers = parts.registers; processes = map body_of parts.processes.items; clauses = parts.clauses.items }
 
+-- one open block
 abbrev pub frame_of : Open → Frame
 frame_of (opened.First test outer) = First test (block_of outer.items)
 frame_of (opened.Second test first outer) = Second test (block_of first.items) (block_of outer.items)
 frame_of (opened.Turn count outer) = Turn count (block_of outer.items)
 
+-- open blocks, the innermost first; in memory it is the last
 abbrev pub frames_of : List Open → List Frame
 frames_of opens = map frame_of (reverse opens)
 
@@ -224,15 +241,18 @@ is_turn (opened.First test outer) = false
 is_turn (opened.Second test first outer) = false
 is_turn (opened.Turn count outer) = true
 
+-- an open process
 abbrev pub inside_of : OpenProcess → Reading
 inside_of process = Inside (contents_before process.before) (frames_of process.blocks.items) (block_of process.block.items) process.statements
 
+-- what was read so far
 abbrev pub reading_of : Draft → Reading
 reading_of draft.Empty = Empty
 reading_of (draft.Between parts) = Between (contents_before parts)
 reading_of (draft.Inside process) = inside_of process
 reading_of (draft.Used parts kind) = Used (contents_before parts) kind
 
+-- the refusal has the code that is expected, unless it is for memory
 abbrev pub IsRefusalOf : Result Reading ℕ → LineRefusal → Type 0
 IsRefusalOf expected (refusal.Fault code) = expected ≡ Err code
 IsRefusalOf expected refusal.Memory = Unit {0}

@@ -251,7 +251,7 @@ grid_program base side id registers = record { registers = registers; body = gri
 abbrev pub tree_program : ℕ → ℕ → ℕ → ℕ → ℕ → Program
 tree_program base depth id value registers = record { registers = registers; body = tree_body base depth id value }
 
--- a choice of names
+-- a renaming
 abbrev pub name_program : ℕ → ℕ → ℕ → ℕ → Program
 name_program base slots slot registers = record { registers = registers; body = name_body base slots slot }
 

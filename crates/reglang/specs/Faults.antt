@@ -42,6 +42,7 @@ abbrev pub without_innermost : List Opened → List Opened
 without_innermost [] = []
 without_innermost (block ∷ outer) = outer
 
+-- the place after a line that was taken at one
 abbrev pub place_after : Line → Place → Place
 place_after line.Process place = Inside [] 0
 place_after line.End place = Outside
@@ -58,14 +59,17 @@ place_after (line.Emit value) (Inside opened n) = Inside opened (suc n)
 place_after line.Halt (Inside opened n) = Inside opened (suc n)
 place_after _ place = place
 
+-- the number of registers after a line
 abbrev pub registers_after : Line → Option ℕ → Option ℕ
 registers_after (line.Registers n) registers = Some n
 registers_after _ registers = registers
 
+-- the number of processes after a line
 abbrev pub processes_after : Line → ℕ → ℕ
 processes_after line.Process n = suc n
 processes_after _ n = n
 
+-- the number of checks after a line
 abbrev pub checks_after : Line → ℕ → ℕ
 checks_after (line.Check clause) n = suc n
 checks_after _ n = n
@@ -90,15 +94,18 @@ context_after_lines (line ∷ lines) context = context_after_lines lines (contex
 
 -- ---- the conditions of the codes
 
+-- whether the innermost open block is an `if` without its `else` so far
 abbrev pub is_if : List Opened → Bool
 is_if (If ∷ outer) = true
 is_if _ = false
 
+-- whether it is an `if`, with its `else` or without
 abbrev pub is_if_or_else : List Opened → Bool
 is_if_or_else (If ∷ outer) = true
 is_if_or_else (Else ∷ outer) = true
 is_if_or_else _ = false
 
+-- whether it is a `repeat`
 abbrev pub is_repeat : List Opened → Bool
 is_repeat (Repeat ∷ outer) = true
 is_repeat _ = false
@@ -127,11 +134,13 @@ abbrev pub is_no_end : Line → Bool
 is_no_end line.End = false
 is_no_end _ = true
 
+-- whether a line cannot stand at a place
 abbrev pub misplaced_at : Place → Bool → Line → Bool
 misplaced_at Outside came line = is_no_outer came line
 misplaced_at (Inside opened n) came line = is_no_inner opened n line
 misplaced_at Used came line = is_no_end line
 
+-- whether a line cannot stand in its context
 abbrev pub is_misplaced : Context → Line → Bool
 is_misplaced context line = misplaced_at context.place (is_some context.registers) line
 
@@ -140,10 +149,12 @@ abbrev pub statements_at : Place → ℕ
 statements_at (Inside opened n) = n
 statements_at _ = 0
 
+-- the open blocks at a place
 abbrev pub opened_at : Place → List Opened
 opened_at (Inside opened n) = opened
 opened_at _ = []
 
+-- how many of these blocks are repeats
 abbrev pub repeats_in : List Opened → ℕ
 repeats_in [] = 0
 repeats_in (Repeat ∷ outer) = suc (repeats_in outer)
@@ -154,9 +165,11 @@ repeats_in (Else ∷ outer) = repeats_in outer
 abbrev pub has_room : Place → Bool
 has_room place = nat_lt (statements_at place) MOST_STATEMENTS
 
+-- whether there is room for one more open block
 abbrev pub has_depth : Place → Bool
 has_depth place = nat_lt (length (opened_at place)) MOST_OPEN_BLOCKS
 
+-- whether there is room for one more open repeat
 abbrev pub has_turns : Place → Bool
 has_turns place = nat_lt (repeats_in (opened_at place)) MOST_OPEN_REPEATS
 
@@ -199,6 +212,7 @@ fault_of_line context (Ok (Some line)) = line_fault context line
 fault_of_line context (Ok None) = None
 fault_of_line context (Err code) = Some code
 
+-- whether a process is open
 abbrev pub is_inside : Place → Bool
 is_inside Outside = false
 is_inside _ = true
@@ -216,9 +230,11 @@ end_fault context =
 abbrev pub context_after : List (List ℕ) → Context
 context_after before = context_after_lines (lines_said before) at_start
 
+-- a code, where there is one, on its line
 abbrev pub at_line : ℕ → Option ℕ → Option ReadFault
 at_line number code = option_map (λ c. record { line = number; code = c }) code
 
+-- the first fault, or else the second
 abbrev pub or_later : Option ReadFault → Option ReadFault → Option ReadFault
 or_later (Some fault) later = Some fault
 or_later None later = later
@@ -229,5 +245,6 @@ fault_from before [] = at_line (max 1 (length before)) (end_fault (context_after
 fault_from before (line ∷ lines) =
     or_later (at_line (suc (length before)) (fault_of_line (context_after before) (read_line line))) (fault_from (before ++ line ∷ []) lines)
 
+-- the first fault of a text, where it has one
 abbrev pub first_fault : List ℕ → Option ReadFault
 first_fault text = fault_from [] (lines text)

@@ -50,6 +50,7 @@ pub data Part : Type 0 where
   Process : (body : Body) → Part
   Check : (clause : Clause) → Part
 
+-- the lines of a process, or of a check
 abbrev pub PartSays : Part → List Line → Type 0
 PartSays (Process body) lines = Begins line.Process (Then (BodySays body) (λ last. last ≡ line.End ∷ [])) lines
 PartSays (Check clause) lines = lines ≡ line.Check (Some clause) ∷ []

@@ -1,5 +1,5 @@
 -- What a word may stand for.
-use Rattle.std.specs.Prelude.{ℕ, ◌+◌, ◌==◌, Bool, false, ◌&&◌, if◌then◌else◌, List, [], ◌∷◌, reverse, Option, Some, None, nat_lt, nat_le, codes}
+use Rattle.std.specs.Prelude.{ℕ, map, ◌+◌, ◌==◌, Bool, false, ◌&&◌, if◌then◌else◌, List, [], ◌∷◌, reverse, Option, Some, None, nat_lt, nat_le}
 use Rattle.std.specs.List.{list_all}
 use Rattle.std.specs.Str.{bytes_eq}
 use Rattle.std.specs.Str.Parse.{digits_value}
@@ -7,6 +7,7 @@ use Rattle.regmodel.specs.declared.programs.Op.{Op}
 use Rattle.regmodel.specs.declared.programs.Op.TheVariants as op
 use Rattle.regmodel.specs.declared.limits.TheConstants.{CELLS, GREATEST_VALUE, VARIABLES}
 use Rattle.reglang.specs.Lines.{is_empty}
+use Rattle.reglang.specs.Spelling.{keyword_text, kind_text, operator_text, property_text}
 use Rattle.reglang.specs.declared.words.Keyword.{Keyword}
 use Rattle.reglang.specs.declared.words.Keyword.TheVariants as keyword
 use Rattle.reglang.specs.declared.words.Kind.{Kind}
@@ -17,6 +18,7 @@ use Rattle.reglang.specs.declared.words.Word.{Word}
 use Rattle.reglang.specs.declared.words.Word.TheVariants.{Number, NoNumber, Var, Cell, CellOf, Comment, Other}
 use Rattle.reglang.specs.declared.words.Word.TheVariants as word
 
+-- whether a byte is a digit
 abbrev pub is_digit : ℕ → Bool
 is_digit b = nat_le 48 b && nat_le b 57
 
@@ -33,6 +35,7 @@ up_to_limit n = if nat_le n GREATEST_VALUE then n else GREATEST_VALUE + 1
 abbrev pub number_of : List ℕ → Option ℕ
 number_of word = if is_number word then Some (up_to_limit (digits_value 10 word)) else None
 
+-- the number, if it is below the limit
 abbrev pub only_below : ℕ → Option ℕ → Option ℕ
 only_below limit None = None
 only_below limit (Some n) = if nat_lt n limit then Some n else None
@@ -42,6 +45,7 @@ abbrev pub variable_of : List ℕ → Option ℕ
 variable_of [] = None
 variable_of (b ∷ bs) = if b == 118 then only_below VARIABLES (number_of bs) else None
 
+-- whether there is a first byte, and it is such a one
 abbrev pub first_byte_is : (ℕ → Bool) → List ℕ → Bool
 first_byte_is p [] = false
 first_byte_is p (b ∷ bs) = p b
@@ -56,10 +60,12 @@ abbrev pub in_brackets : List ℕ → Option (List ℕ)
 in_brackets [] = None
 in_brackets (b ∷ bs) = if b == 91 then before_bracket (reverse bs) else None
 
+-- the cell that a variable names, where there is one
 abbrev pub cell_or_other : Option ℕ → Word
 cell_or_other (Some i) = CellOf i
 cell_or_other None = Other
 
+-- the cell with this number, where there is one
 abbrev pub cell_or : Option ℕ → Word → Word
 cell_or (Some i) word = Cell i
 cell_or None word = word
@@ -69,10 +75,12 @@ abbrev pub cell_word : Option (List ℕ) → Word
 cell_word None = Other
 cell_word (Some index) = cell_or (only_below CELLS (number_of index)) (cell_or_other (variable_of index))
 
+-- the variable with this number, where there is one
 abbrev pub variable_or : Option ℕ → Word → Word
 variable_or (Some i) word = Var i
 variable_or None word = word
 
+-- a number, or a word that begins with a digit and is none
 abbrev pub number_word : Option ℕ → Word
 number_word (Some n) = Number n
 number_word None = NoNumber
@@ -87,51 +95,26 @@ value_word word =
 -- the first words of lines, as they are spelled
 abbrev pub keywords : List (List ℕ × Keyword)
 keywords =
-    (codes "registers", keyword.Registers) ∷
-    (codes "process", keyword.Process) ∷
-    (codes "end", keyword.End) ∷
-    (codes "set", keyword.Set) ∷
-    (codes "read", keyword.Read) ∷
-    (codes "write", keyword.Write) ∷
-    (codes "if", keyword.If) ∷
-    (codes "else", keyword.Else) ∷
-    (codes "fi", keyword.Fi) ∷
-    (codes "repeat", keyword.Repeat) ∷
-    (codes "done", keyword.Done) ∷
-    (codes "emit", keyword.Emit) ∷
-    (codes "halt", keyword.Halt) ∷
-    (codes "use", keyword.Use) ∷
-    (codes "check", keyword.Check) ∷
-    []
+    map (λ one. (keyword_text one, one)) (
+    keyword.Registers ∷ keyword.Process ∷ keyword.End ∷ keyword.Set ∷ keyword.Read ∷ keyword.Write ∷ keyword.If ∷ keyword.Else ∷ keyword.Fi ∷ keyword.Repeat ∷ keyword.Done ∷ keyword.Emit ∷ keyword.Halt ∷ keyword.Use ∷ keyword.Check ∷ [])
 
+-- the operators, as they are spelled
 abbrev pub operators : List (List ℕ × Op)
 operators =
-    (codes "+", op.Add) ∷
-    (codes "-", op.Sub) ∷
-    (codes "*", op.Mul) ∷
-    (codes "=", op.Equal) ∷
-    (codes "<", op.Less) ∷
-    []
+    map (λ one. (operator_text one, one)) (
+    op.Add ∷ op.Sub ∷ op.Mul ∷ op.Equal ∷ op.Less ∷ [])
 
+-- the kinds, as they are spelled
 abbrev pub kinds : List (List ℕ × Kind)
 kinds =
-    (codes "split", kind.Split) ∷
-    (codes "grid", kind.Grid) ∷
-    (codes "tree", kind.Tree) ∷
-    (codes "name", kind.Name) ∷
-    []
+    map (λ one. (kind_text one, one)) (
+    kind.Split ∷ kind.Grid ∷ kind.Tree ∷ kind.Name ∷ [])
 
+-- the properties of checks, as they are spelled
 abbrev pub properties : List (List ℕ × Property)
 properties =
-    (codes "distinct", property.Distinct) ∷
-    (codes "atmost", property.AtMost) ∷
-    (codes "within", property.Within) ∷
-    (codes "adaptive", property.Adaptive) ∷
-    (codes "triangle", property.Triangle) ∷
-    (codes "selfseen", property.SelfSeen) ∷
-    (codes "ended", property.Ended) ∷
-    (codes "nofault", property.NoFault) ∷
-    []
+    map (λ one. (property_text one, one)) (
+    property.Distinct ∷ property.AtMost ∷ property.Within ∷ property.Adaptive ∷ property.Triangle ∷ property.SelfSeen ∷ property.Ended ∷ property.NoFault ∷ [])
 
 -- what stands beside a word in a table of spellings
 abbrev pub spelled_in : {A : Type 0} → List (List ℕ × A) → List ℕ → Option A

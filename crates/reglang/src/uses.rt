@@ -18,7 +18,7 @@ pub enum Use {
     /// A binary tree of splitters: BASE; DEPTH, 1 to 4 levels; ID; VALUE, what the process leaves where it stops. It takes
     /// 4 * (2^DEPTH - 1) registers.
     Tree(u32, u32, u32, u32),
-    /// A choice of names: BASE; SLOTS, 1 to 8; SLOT, that of the process, below SLOTS. It takes SLOTS registers.
+    /// A renaming: BASE; SLOTS, 1 to 8; SLOT, that of the process, below SLOTS. It takes SLOTS registers.
     Name(u32, u32, u32),
 }
 

@@ -22,6 +22,7 @@ operand_fits (operand.Var i) = nat_lt i VARIABLES
 operand_fits (operand.Cell i) = nat_lt i CELLS
 operand_fits (operand.CellOf i) = nat_lt i VARIABLES
 
+-- each operand is within its limit
 abbrev pub expr_fits : Expr → Bool
 expr_fits (One a) = operand_fits a
 expr_fits (Two a op b) = operand_fits a && operand_fits b

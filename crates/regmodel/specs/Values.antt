@@ -34,6 +34,7 @@ abbrev pub and_then : Result ℕ ℕ → (ℕ → Result ℕ ℕ) → Result ℕ
 and_then (Ok n) f = f n
 and_then (Err code) f = Err code
 
+-- the value of an operand, or the fault of a cell that is not there
 abbrev pub operand_value : Env → Operand → Result ℕ ℕ
 operand_value env (operand.Number n) = Ok n
 operand_value env (operand.Var i) = Ok (slice_index env.vars i)
@@ -48,6 +49,7 @@ apply_op Mul a b = within (a * b)
 apply_op Equal a b = Ok (if a == b then 1 else 0)
 apply_op Less a b = Ok (if nat_lt a b then 1 else 0)
 
+-- the value of an expression, operands from left to right, or its first fault
 abbrev pub expr_value : Env → Expr → Result ℕ ℕ
 expr_value env (One a) = operand_value env a
 expr_value env (Two a op b) = and_then (operand_value env a) (λ x. and_then (operand_value env b) (λ y. apply_op op x y))

@@ -20,7 +20,7 @@ pub enum Clause {
     SelfSeen,
     /// No process is running.
     Ended,
-    /// No process is at fault.
+    /// No process is at fault. It is the default because `ArrayVec` asks for one.
     #[default]
     NoFault,
 }

@@ -13,7 +13,7 @@ pub enum End {
     Fault(u8),
     /// It has crashed, whatever it wanted.
     Crashed,
-    /// It still wants an access.
+    /// It still wants an access. It is the default because `ArrayVec` asks for one.
     #[default]
     Running,
 }

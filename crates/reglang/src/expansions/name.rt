@@ -1,4 +1,4 @@
-//! The expansion of a choice of names.
+//! The expansion of a renaming.
 
 ghost use Rattle.std.specs.Prelude.{◌≡◌, ◌≤◌, ◌<◌, IfOk};
 ghost use Rattle.regmodel.specs.declared.limits.TheConstants.{MOST_REGISTERS, MOST_SLOTS};
@@ -13,7 +13,7 @@ use regmodel::limits::MOST_TURNS;
 use regmodel::{OutOfMemory, Stmt, Target};
 use std::alloc::Global;
 
-/// The statements of a choice of names, whose slots begin at register `base`, for the process of this slot.
+/// The statements of a renaming, whose slots begin at register `base`, for the process of this slot.
 pub fn name_block(alloc: Global, base: u32, slots: u32, slot: u32) -> Result<Vec<Stmt>, OutOfMemory>
     requires base { base ≤ MOST_REGISTERS }
     requires slots { slots ≤ MOST_SLOTS }
