@@ -2,7 +2,7 @@
 #![tactic(auto)]
 
 ghost use Rattle.std.specs.Prelude.{◌≡◌, IfOk, map};
-ghost use Rattle.reglang.specs.Sources.{programs_of};
+ghost use Rattle.reglang.specs.Sources.{source_programs};
 ghost use Rattle.regmodel.specs.PlainReport.{IsPlainReport};
 
 mod judge;
@@ -36,7 +36,7 @@ fn report_of(
     settings: Settings,
     judge: &Without,
 ) -> Result<Report, anyhow::Error>
-    ensures { IfOk result (λ report. IsPlainReport (programs_of source.now) settings.length settings.crashes (⟦<Without as Judge>⟧.accepts judge.now) report) }
+    ensures { IfOk result (λ report. IsPlainReport (source_programs source.now) settings.length settings.crashes (⟦<Without as Judge>⟧.accepts judge.now) report) }
 {
     let mut machines: Vec<Box<dyn Machine + Send>> = Vec::new(alloc);
     for p in 0..source.processes() {

@@ -1,7 +1,7 @@
 //! What runs one process: the machine made by hand where there is one for its program, else an interpreter.
 
 ghost use Rattle.std.specs.Prelude.{◌≡◌, ◌<◌, IfOk, Some, length, slice_get};
-ghost use Rattle.reglang.specs.Sources.{programs_of};
+ghost use Rattle.reglang.specs.Sources.{source_programs};
 ghost use Rattle.calling.specs.declared.player.Player.TheVariants as player;
 
 use crate::looker::Looker;
@@ -53,8 +53,8 @@ impl Machine for Player {
 
 /// The machine of process p of a source.
 pub fn player_of(alloc: Global, source: &Source, p: usize) -> Result<Player, OutOfMemory>
-    requires { p < length (programs_of source.now) }
-    ensures { IfOk result (λ m. slice_get (programs_of source.now) p ≡ Some (⟦<Player as Machine>⟧.program m)) }
+    requires { p < length (source_programs source.now) }
+    ensures { IfOk result (λ m. slice_get (source_programs source.now) p ≡ Some (⟦<Player as Machine>⟧.program m)) }
 {
     let prog = source.prog(alloc, p)?;
     match Looker::of(&prog) {

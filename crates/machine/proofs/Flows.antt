@@ -7,7 +7,7 @@ use Rattle.regmodel.specs.declared.programs.Expr.{Expr}
 use Rattle.regmodel.specs.declared.programs.Stmt.{Stmt}
 use Rattle.regmodel.specs.declared.programs.Stmt.TheVariants as stmt
 use Rattle.regmodel.specs.Values.{Env, expr_value}
-use Rattle.regmodel.specs.Act.{Flow, Faults, exec, then_do, times, repeated, with_value, choose}
+use Rattle.regmodel.specs.Act.{Flow, Faults, exec, then_do, times, times_or_fault, with_value, choose}
 use Rattle.regmodel.specs.Limits.{open_blocks}
 use Rattle.regmodel.specs.Program as program
 use Rattle.regmodel.specs.Program.{Block, with_stmt, block_of}
@@ -68,7 +68,7 @@ not_above n h = grind (arith, nat_tests)
 -- a `repeat` whose count is known
 pub exec-repeat : (e : Expr) (body rest : Block) (n : ℕ) (env : Env) (s : List ℕ) (count : ℕ) → expr_value env e ≡ Ok count → count ≤ 99 → exec (program.Repeat e body rest) n env s ≡ times_then count n body rest env s
 exec-repeat e body rest n env s count h small =
-    ap (λ r. with_value r (λ m. then_do (repeated m (exec body n) env s) (exec rest n))) h
+    ap (λ r. with_value r (λ m. then_do (times_or_fault m (exec body n) env s) (exec rest n))) h
     ∙ ap (λ b. then_do (cond b (Faults 3) (times count (exec body n) env s)) (exec rest n)) (not_above count small)
 
 -- the frame at a depth leads to the statement at its place

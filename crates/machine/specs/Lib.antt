@@ -1,3 +1,4 @@
+pub mod Examples
 pub mod Exits
 pub mod Paths
 pub mod Rest

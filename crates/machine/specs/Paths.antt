@@ -1,7 +1,8 @@
--- Where a program in progress stands: a path of frames down its blocks.
+-- Inside the crate: where a program in progress stands: a path of frames down its blocks.
 use Rattle.std.specs.Prelude.{ℕ, zero, suc, List, [], ◌∷◌}
+use Rattle.regmodel.specs.Reply.{Replies}
 use Rattle.regmodel.specs.Values.{Env}
-use Rattle.regmodel.specs.Act.{Flow, Faults, exec, take_read, take_write, then_do, times}
+use Rattle.regmodel.specs.Act.{Flow, Faults, exec, answer_read, answer_write, then_do, times}
 use Rattle.regmodel.specs.Program.{Block, Stop, Assign, Read, Write, If, Repeat, Emit, Halt}
 use Rattle.machine.specs.declared.run.Arm.{Arm}
 use Rattle.machine.specs.declared.run.Arm.TheVariants.{First, Second}
@@ -48,24 +49,24 @@ access_flow n (Emit e rest) f = then_do f (exec rest n)
 access_flow n (Halt rest) f = then_do f (exec rest n)
 
 -- from within an arm, where go says what the arm's block does from within
-abbrev pub arm_flow : Arm → ℕ → Block → (Block → Env → List ℕ → Flow) → Env → List ℕ → Flow
+abbrev pub arm_flow : Arm → ℕ → Block → (Block → Env → Replies → Flow) → Env → Replies → Flow
 arm_flow arm n (If e first second rest) go env s = then_do (go (of_arm arm first second) env s) (exec rest n)
 arm_flow arm n _ go env s = Faults 0
 
 -- from within a turn, with so many turns left after it
-abbrev pub turn_flow : ℕ → ℕ → Block → (Block → Env → List ℕ → Flow) → Env → List ℕ → Flow
+abbrev pub turn_flow : ℕ → ℕ → Block → (Block → Env → Replies → Flow) → Env → Replies → Flow
 turn_flow left n (Repeat e body rest) go env s =
     then_do (then_do (go body env s) (times left (exec body n))) (exec rest n)
 turn_flow left n _ go env s = Faults 0
 
 -- from a part of a block's first statement
-abbrev pub part_flow : Part → ℕ → Block → (Block → Env → List ℕ → Flow) → Env → List ℕ → Flow
-part_flow (Reading r place) n b go env s = access_flow n b (take_read env (as_place place) r s)
-part_flow (Writing r v) n b go env s = access_flow n b (take_write env r v s)
+abbrev pub part_flow : Part → ℕ → Block → (Block → Env → Replies → Flow) → Env → Replies → Flow
+part_flow (Reading r place) n b go env s = access_flow n b (answer_read env (as_place place) r s)
+part_flow (Writing r v) n b go env s = access_flow n b (answer_write env r v s)
 part_flow (Within arm) n b go env s = arm_flow arm n b go env s
 part_flow (Turn left) n b go env s = turn_flow left n b go env s
 
 -- what a block does from the place to which the frames lead
-abbrev pub resume : ℕ → List Frame → Block → Env → List ℕ → Flow
+abbrev pub resume : ℕ → List Frame → Block → Env → Replies → Flow
 resume n [] b env s = Faults 0
 resume n (f ∷ fs) b env s = part_flow f.part n (skip f.at b) (resume n fs) env s

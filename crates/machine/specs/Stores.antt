@@ -1,4 +1,4 @@
--- What a store holds.
+-- Inside the crate: what a store holds.
 use Rattle.std.specs.Prelude.{ℕ, Result, Ok, Err}
 use Rattle.regmodel.specs.Values.{Env, Place, InVar, InCell}
 use Rattle.machine.specs.declared.values.Store.{Store}

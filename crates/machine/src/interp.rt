@@ -6,17 +6,19 @@ ghost use Rattle.regmodel.specs.Lawful.{IsLawful};
 ghost use Rattle.regmodel.specs.Values.{start_env};
 ghost use Rattle.regmodel.specs.Act.{act_of};
 ghost use Rattle.machine.specs.Stores.{env_of};
+ghost use Rattle.machine.specs.declared.interp.TheConstants.{FRAMES};
 ghost use Rattle.machine.specs.Rest.{from_place, rest_from, pending_of};
 
 use crate::Machine;
 use crate::resume::resume_block;
 use crate::run::{BlockExit, Frame, Part, run_block};
 use crate::values::Store;
+use regmodel::limits::MOST_OPEN_BLOCKS;
 use regmodel::{Numbers, OutOfMemory, Pending, Prog};
 use std::alloc::Global;
 
-/// A frame for the program's own block, and one for each of the 16 that may be open in it.
-const FRAMES: usize = 17;
+/// A frame for the program's own block, and one for each that may be open in it.
+const FRAMES: usize = MOST_OPEN_BLOCKS as usize + 1;
 
 /// A program in progress: its values, the place where it stands as a path of frames, and what is pending there. It keeps no
 /// replies.
@@ -26,7 +28,7 @@ pub struct Interp {
     store: Store,
     frames: Vec<Frame>,
     pending: Pending,
-    ghost room: { vec_len frames ≡ 17 },
+    ghost room: { vec_len frames ≡ FRAMES },
     ghost asks: { rest_from pending (from_place (program_of prog) frames.items (env_of store)) [] ≡ pending },
 }
 

@@ -7,6 +7,7 @@ ghost use Rattle.regmodel.specs.declared.accesses.Pending.TheVariants.{Done};
 ghost use Rattle.regmodel.specs.Program.{Program};
 ghost use Rattle.regmodel.specs.Act.{act_of};
 ghost use Rattle.regmodel.specs.Lawful.{IsReplyTo, IsLawful};
+ghost use Rattle.regmodel.specs.Reply.{Replies};
 
 mod interp;
 mod resume;
@@ -25,12 +26,12 @@ pub trait Machine: Drop + Send {
     ghost program: { Self → Program };
 
     /// What is pending after these further replies.
-    ghost rest: { Self → List ℕ → Pending };
+    ghost rest: { Self → Replies → Pending };
 
     /// Goes to the program's start.
     fn reset(&mut self)
         ensures same { program self.new ≡ program self.old }
-        ensures starts { (s : List ℕ) → IsLawful (act_of (program self.new)) s → rest self.new s ≡ act_of (program self.new) s };
+        ensures starts { (s : Replies) → IsLawful (act_of (program self.new)) s → rest self.new s ≡ act_of (program self.new) s };
 
     /// What is pending now.
     fn pending(&self) -> Pending
@@ -40,13 +41,15 @@ pub trait Machine: Drop + Send {
     fn feed(&mut self, reply: u32)
         requires { IsReplyTo (rest self.old []) reply }
         ensures same { program self.new ≡ program self.old }
-        ensures goes_on { (s : List ℕ) → rest self.new s ≡ rest self.old (reply ∷ s) };
+        ensures goes_on { (s : Replies) → rest self.new s ≡ rest self.old (reply ∷ s) };
 
     /// Gives up what it holds; it is done with no numbers until it is reset.
     fn end(&mut self)
         ensures same { program self.new ≡ program self.old }
-        ensures ended { (s : List ℕ) → rest self.new s ≡ Done (record { items = [] }) };
+        ensures ended { (s : Replies) → rest self.new s ≡ Done (record { items = [] }) };
 }
+
+// Each call of a boxed machine stands in a function of its own, by whose name a proof knows what it promises.
 
 /// What is pending in a boxed machine.
 pub fn pending_of_box(machine: &Box<dyn Machine + Send>) -> Pending
@@ -59,7 +62,7 @@ pub fn pending_of_box(machine: &Box<dyn Machine + Send>) -> Pending
 pub fn feed_box(machine: &mut Box<dyn Machine + Send>, reply: u32)
     requires { IsReplyTo (rest machine.old []) reply }
     ensures same { program machine.new ≡ program machine.old }
-    ensures goes_on { (s : List ℕ) → rest machine.new s ≡ rest machine.old (reply ∷ s) }
+    ensures goes_on { (s : Replies) → rest machine.new s ≡ rest machine.old (reply ∷ s) }
 {
     machine.feed(reply);
 }
@@ -67,7 +70,7 @@ pub fn feed_box(machine: &mut Box<dyn Machine + Send>, reply: u32)
 /// Resets a boxed machine.
 pub fn reset_box(machine: &mut Box<dyn Machine + Send>)
     ensures same { program machine.new ≡ program machine.old }
-    ensures starts { (s : List ℕ) → IsLawful (act_of (program machine.new)) s → rest machine.new s ≡ act_of (program machine.new) s }
+    ensures starts { (s : Replies) → IsLawful (act_of (program machine.new)) s → rest machine.new s ≡ act_of (program machine.new) s }
 {
     machine.reset();
 }
@@ -75,7 +78,7 @@ pub fn reset_box(machine: &mut Box<dyn Machine + Send>)
 /// Ends a boxed machine.
 pub fn end_box(machine: &mut Box<dyn Machine + Send>)
     ensures same { program machine.new ≡ program machine.old }
-    ensures ended { (s : List ℕ) → rest machine.new s ≡ Done (record { items = [] }) }
+    ensures ended { (s : Replies) → rest machine.new s ≡ Done (record { items = [] }) }
 {
     machine.end();
 }

@@ -3,6 +3,7 @@
 ghost use Rattle.std.specs.Prelude.{◌≡◌, ℕ, ◌+◌, ◌<◌, ◌≤◌, List, [], ◌∷◌, length, drop};
 ghost use Rattle.regmodel.specs.Program.{Block, Stop, with_stmt, block_of};
 ghost use Rattle.regmodel.specs.Limits.{open_blocks};
+ghost use Rattle.regmodel.specs.declared.limits.TheConstants.{MOST_REGISTERS};
 ghost use Rattle.machine.specs.Stores.{env_of};
 ghost use Rattle.machine.specs.Paths.{resume, part_flow};
 ghost use Rattle.machine.specs.Exits.{stmt_flow, StmtAsks, block_flow, BlockAsks, IsWanting};
@@ -23,7 +24,7 @@ fn resume_stmt(
     store: &mut Store,
     frames: &mut [Frame],
 ) -> Result<StmtExit, u8>
-    requires small { registers ≤ 64 }
+    requires small { registers ≤ MOST_REGISTERS }
     requires room { depth + open_blocks (with_stmt stmt.now Stop) < length frames.old }
     requires wanting { (rest : Block) × IsWanting (part_flow part registers (with_stmt stmt.now rest) (resume registers (drop (depth + 1) frames.old)) (env_of store.old) []) }
     ensures flow { (rest : Block) (s : List ℕ) → part_flow part registers (with_stmt stmt.now rest) (resume registers (drop (depth + 1) frames.old)) (env_of store.old) (reply ∷ s) ≡ stmt_flow result registers (drop (depth + 1) frames.new) (with_stmt stmt.now rest) rest (env_of store.new) s }
@@ -69,7 +70,7 @@ pub fn resume_block(
     store: &mut Store,
     frames: &mut [Frame],
 ) -> Result<BlockExit, u8>
-    requires small { registers ≤ 64 }
+    requires small { registers ≤ MOST_REGISTERS }
     requires room { depth + open_blocks (block_of block.now) < length frames.old }
     requires wanting { IsWanting (resume registers (drop depth frames.old) (block_of block.now) (env_of store.old) []) }
     ensures flow { (s : List ℕ) → resume registers (drop depth frames.old) (block_of block.now) (env_of store.old) (reply ∷ s) ≡ block_flow result registers (drop depth frames.new) (block_of block.now) (env_of store.new) s }

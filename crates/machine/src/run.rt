@@ -4,14 +4,17 @@ ghost use Rattle.std.specs.Prelude.{◌≡◌, ℕ, ◌+◌, ◌<◌, ◌≤◌,
 ghost use Rattle.regmodel.specs.declared.programs.Expr.{Expr};
 ghost use Rattle.regmodel.specs.Program.{Block, Stop, Assign, Read, Write, Repeat, Emit, with_stmt, block_of};
 ghost use Rattle.regmodel.specs.Act.{exec};
-ghost use Rattle.regmodel.specs.Values.{operand_value, and_then, below};
+ghost use Rattle.regmodel.specs.Values.{operand_value, and_then, below_or_fault};
 ghost use Rattle.regmodel.specs.Limits.{open_blocks};
+ghost use Rattle.regmodel.specs.declared.limits.TheConstants.{MOST_REGISTERS};
 ghost use Rattle.machine.specs.declared.run.Frame.{Frame};
 ghost use Rattle.machine.specs.Stores.{env_of};
 ghost use Rattle.machine.specs.Paths.{of_arm, arm_at};
 ghost use Rattle.machine.specs.Exits.{stmt_flow, StmtAsks, block_flow, BlockAsks, exit_through, times_then};
 
 use crate::values::{Place, Store};
+use regmodel::faults::{NO_PLACE, TOO_MANY_NUMBERS, TOO_MANY_TURNS};
+use regmodel::limits::MOST_TURNS;
 use regmodel::{Access, Expr, Operand, Stmt, Target};
 
 /// One of the two blocks of an `if`.
@@ -68,22 +71,22 @@ fn assign(target: Target, value: Expr, store: &mut Store) -> Result<StmtExit, u8
     Ok(StmtExit::GoesOn)
 }
 
-/// The number of a register; fault 2 where there is no such register.
+/// The number of a register; a fault where there is no such register.
 fn register(operand: Operand, registers: u32, store: &Store) -> Result<u8, u8>
-    requires { registers ≤ 64 }
-    ensures { result ≡ and_then (operand_value (env_of store.now) operand) (below registers) }
+    requires { registers ≤ MOST_REGISTERS }
+    ensures { result ≡ and_then (operand_value (env_of store.now) operand) (below_or_fault registers) }
 {
     let number = store.operand(operand)?;
     if number < registers {
         Ok(number as u8)
     } else {
-        Err(2)
+        Err(NO_PLACE)
     }
 }
 
 /// A read up to its access: first the register, then the place where the reply is to be stored.
 fn read(to: Target, from: Operand, registers: u32, store: &Store) -> Result<StmtExit, u8>
-    requires { registers ≤ 64 }
+    requires { registers ≤ MOST_REGISTERS }
     ensures flow { (fs : List Frame) (rest : Block) (s : List ℕ) → exec (Read to from rest) registers (env_of store.now) s ≡ stmt_flow result registers fs (Read to from rest) rest (env_of store.now) s }
     ensures asks { (fs : List Frame) (rest : Block) → StmtAsks result registers fs (Read to from rest) (env_of store.now) }
 {
@@ -94,7 +97,7 @@ fn read(to: Target, from: Operand, registers: u32, store: &Store) -> Result<Stmt
 
 /// A write up to its access: first the register, then the value.
 fn write(to: Operand, value: Expr, registers: u32, store: &Store) -> Result<StmtExit, u8>
-    requires { registers ≤ 64 }
+    requires { registers ≤ MOST_REGISTERS }
     ensures flow { (fs : List Frame) (rest : Block) (s : List ℕ) → exec (Write to value rest) registers (env_of store.now) s ≡ stmt_flow result registers fs (Write to value rest) rest (env_of store.now) s }
     ensures asks { (fs : List Frame) (rest : Block) → StmtAsks result registers fs (Write to value rest) (env_of store.now) }
 {
@@ -106,21 +109,21 @@ fn write(to: Operand, value: Expr, registers: u32, store: &Store) -> Result<Stmt
     ))
 }
 
-/// Appends a number to those of the process; fault 4 where 8 stand.
+/// Appends a number to those of the process; a fault where there are as many as may be.
 fn emit(value: Expr, store: &mut Store) -> Result<StmtExit, u8>
     ensures flow { (n : ℕ) (fs : List Frame) (rest : Block) (s : List ℕ) → exec (Emit value rest) n (env_of store.old) s ≡ stmt_flow result n fs (Emit value rest) rest (env_of store.new) s }
     ensures asks { (n : ℕ) (fs : List Frame) (rest : Block) → StmtAsks result n fs (Emit value rest) (env_of store.new) }
 {
     let number = store.expr(value)?;
     if store.emitted.is_full() {
-        return Err(4);
+        return Err(TOO_MANY_NUMBERS);
     }
     store.emitted.push(number);
     Ok(StmtExit::GoesOn)
 }
 
 /// The arm that is taken at this value.
-fn taken(value: u32) -> Arm
+fn arm_at(value: u32) -> Arm
     ensures { result ≡ arm_at value }
 {
     if value == 0 { Arm::Second } else { Arm::First }
@@ -147,7 +150,7 @@ pub fn stmt_exit(exit: Result<BlockExit, u8>, part: Part) -> Result<StmtExit, u8
     }
 }
 
-/// Runs one statement; fault 3 at a count above 99. Where it stops, it tells its part, and the path further down lies in
+/// Runs one statement; a fault at a count above the most turns. Where it stops, it tells its part, and the path further down lies in
 /// the frames above the depth.
 #[cycle(run)]
 #[tactic(auto, using(crate::proofs::Blocks::open_blocks_if, crate::proofs::Blocks::open_blocks_repeat))]
@@ -158,7 +161,7 @@ fn run_stmt(
     store: &mut Store,
     frames: &mut [Frame],
 ) -> Result<StmtExit, u8>
-    requires small { registers ≤ 64 }
+    requires small { registers ≤ MOST_REGISTERS }
     requires room { depth + open_blocks (with_stmt stmt.now Stop) < length frames.old }
     ensures flow { (rest : Block) (s : List ℕ) → exec (with_stmt stmt.now rest) registers (env_of store.old) s ≡ stmt_flow result registers (drop (depth + 1) frames.new) (with_stmt stmt.now rest) rest (env_of store.new) s }
     ensures asks { (rest : Block) → StmtAsks result registers (drop (depth + 1) frames.new) (with_stmt stmt.now rest) (env_of store.new) }
@@ -168,15 +171,15 @@ fn run_stmt(
         Stmt::Read(to, from) => read(*to, *from, registers, store),
         Stmt::Write(to, value) => write(*to, *value, registers, store),
         Stmt::If(test, first, second) => {
-            let arm = taken(store.expr(*test)?);
+            let arm = arm_at(store.expr(*test)?);
             let block = block_of_arm(arm, first.as_slice(), second.as_slice());
             let exit = run_block(block, 0, registers, depth + 1, store, frames);
             stmt_exit(exit, Part::Within(arm))
         }
         Stmt::Repeat(count, body) => {
             let turns = store.expr(*count)?;
-            if turns > 99 {
-                return Err(3);
+            if turns > MOST_TURNS {
+                return Err(TOO_MANY_TURNS);
             }
             run_turns(body.as_slice(), turns, registers, depth, store, frames)
         }
@@ -195,7 +198,7 @@ pub fn run_turns(
     store: &mut Store,
     frames: &mut [Frame],
 ) -> Result<StmtExit, u8>
-    requires small { registers ≤ 64 }
+    requires small { registers ≤ MOST_REGISTERS }
     requires room { depth + 1 + open_blocks (block_of body.now) < length frames.old }
     ensures flow { (e : Expr) (rest : Block) (s : List ℕ) → times_then turns registers (block_of body.now) rest (env_of store.old) s ≡ stmt_flow result registers (drop (depth + 1) frames.new) (Repeat e (block_of body.now) rest) rest (env_of store.new) s }
     ensures asks { (e : Expr) (rest : Block) → StmtAsks result registers (drop (depth + 1) frames.new) (Repeat e (block_of body.now) rest) (env_of store.new) }
@@ -224,7 +227,7 @@ pub fn run_block(
     store: &mut Store,
     frames: &mut [Frame],
 ) -> Result<BlockExit, u8>
-    requires small { registers ≤ 64 }
+    requires small { registers ≤ MOST_REGISTERS }
     requires room { depth + open_blocks (block_of block.now) < length frames.old }
     ensures flow { (s : List ℕ) → exec (block_of (drop start block.now)) registers (env_of store.old) s ≡ block_flow result registers (drop depth frames.new) (block_of block.now) (env_of store.new) s }
     ensures asks { BlockAsks result registers (drop depth frames.new) (block_of block.now) (env_of store.new) }

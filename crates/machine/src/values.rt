@@ -1,16 +1,13 @@
 //! What expressions are worth, and where values are kept.
 
 ghost use Rattle.std.specs.Prelude.{◌≡◌, slice_index};
-ghost use Rattle.regmodel.specs.Values.{within, below, operand_value, expr_value, apply_op, place_of, store};
+ghost use Rattle.regmodel.specs.Values.{within, below_or_fault, operand_value, expr_value, apply_op, target_place, store};
+ghost use Rattle.regmodel.specs.declared.limits.TheConstants.{CELLS};
 ghost use Rattle.machine.specs.Stores.{env_of, as_place, as_place_or_fault};
 
+use regmodel::faults::{NO_PLACE, NO_VALUE};
+use regmodel::limits::{CELLS, GREATEST_VALUE};
 use regmodel::{Expr, Numbers, Op, Operand, Target};
-
-/// The greatest value of a sum or a product.
-const GREATEST: u64 = 1000000000;
-
-/// How many cells there are.
-const CELLS: u32 = 32;
 
 /// The variables, the cells and the numbers emitted so far.
 #[derive(Drop)]
@@ -27,24 +24,28 @@ pub enum Place {
     Cell(u8),
 }
 
-/// The value of an operator; fault 1 above the greatest value or below 0.
+/// The value of an operator; a fault above the greatest value or below 0.
 fn apply(op: Op, a: u32, b: u32) -> Result<u32, u8>
     ensures { result ≡ apply_op op a b }
 {
     match op {
         Op::Add => bounded(a as u64 + b as u64),
-        Op::Sub => a.checked_sub(b).ok_or(1),
+        Op::Sub => a.checked_sub(b).ok_or(NO_VALUE),
         Op::Mul => bounded(a as u64 * b as u64),
         Op::Equal => Ok((a == b) as u32),
         Op::Less => Ok((a < b) as u32),
     }
 }
 
-/// A value within the limit; fault 1 above it.
+/// A value up to the greatest one; a fault above it.
 fn bounded(n: u64) -> Result<u32, u8>
     ensures { result ≡ within n }
 {
-    if n <= GREATEST { Ok(n as u32) } else { Err(1) }
+    if n <= u64::from(GREATEST_VALUE) {
+        Ok(n as u32)
+    } else {
+        Err(NO_VALUE)
+    }
 }
 
 impl Store {
@@ -62,19 +63,19 @@ impl Store {
         self.cells.get(i as usize).copied().unwrap_or(0)
     }
 
-    /// The number of the cell that a variable names; fault 2 where there is no such cell.
+    /// The number of the cell that a variable names; a fault where there is no such cell.
     fn named_cell(&self, i: u8) -> Result<u8, u8>
-        ensures { result ≡ below 32 (slice_index self.now.vars i) }
+        ensures { result ≡ below_or_fault CELLS (slice_index self.now.vars i) }
     {
         let number = self.var(i);
-        if number < CELLS {
+        if number < u32::from(CELLS) {
             Ok(number as u8)
         } else {
-            Err(2)
+            Err(NO_PLACE)
         }
     }
 
-    /// The value of an operand; fault 2 where it names a cell that is not there.
+    /// The value of an operand; a fault where it names a cell that is not there.
     pub fn operand(&self, a: Operand) -> Result<u32, u8>
         ensures { result ≡ operand_value (env_of self.now) a }
     {
@@ -100,9 +101,9 @@ impl Store {
         }
     }
 
-    /// Where a target is stored; fault 2 where it names a cell that is not there.
+    /// Where a target is stored; a fault where it names a cell that is not there.
     pub fn place(&self, t: Target) -> Result<Place, u8>
-        ensures { as_place_or_fault result ≡ place_of (env_of self.now) t }
+        ensures { as_place_or_fault result ≡ target_place (env_of self.now) t }
     {
         match t {
             Target::Var(i) => Ok(Place::Var(i)),

@@ -1,4 +1,4 @@
--- What a choice of names in progress does, by where it stands.
+-- What a renaming in progress does, by where it stands.
 use Rattle.std.proofs.Common.{◌≡◌, ◌≢◌, ℕ, zero, suc, ◌+◌, ◌-◌, ◌*◌, ◌≤◌, Bool, true, false, not, ◌&&◌, ◌||◌, cond, List, [], ◌∷◌, take, refl, ap, ◌∙◌, arith}
 use Rattle.std.specs.Prelude.{nat_lt, ◌==◌, slice_set}
 use Rattle.regmodel.specs.declared.accesses.Pending.{Pending}
@@ -7,7 +7,7 @@ use Rattle.natives.specs.declared.names.NameSlots.{NameSlots}
 use Rattle.natives.specs.declared.names.Reading.{Reading}
 use Rattle.natives.specs.declared.names.Stage.{Stage}
 use Rattle.natives.specs.Bits.{bit}
-use Rattle.natives.specs.Names.{IsRead, past, first_slot, at_slot, cells_of, from_round, from_reading, from_after, from_slot, name_rest, number_from}
+use Rattle.natives.specs.Names.{IsRead, after_slot, first_slot, at_slot, cells_of, from_round, from_reading, from_after, from_slot, name_rest, number_from}
 use Rattle.natives.proofs.Steps.{eq_no}
 use Rattle.natives.proofs.Slots.{IsChoice, clash_after, rank_after, finish-next, read-own, read-other, round-read}
 
@@ -62,7 +62,7 @@ module _ (m : NameSlots) where
   pub reads-own : (reading : Reading) (s : List ℕ) → reading.at ≡ m.slot → reading.rank ≤ 8 → reads_on reading s ≡ reads_on (record reading { at = reading.at + 1 }) s
   reads-own reading s e small = read-own m.base m.slots m.slot m.registers (choice m) m.seen m.eight m.later m.proposal reading.at reading.rank (bit reading.clash) s e m.own_empty small
 
-  pub reads-other : (reading : Reading) (held : ℕ) (s : List ℕ) → IsRead m.slots m.slot reading → reads_on reading (held ∷ s) ≡ from_reading m.base m.slots m.slot m.registers m.later m.proposal (slice_set m.seen reading.at held) (past m.slot m.proposal held reading) s
+  pub reads-other : (reading : Reading) (held : ℕ) (s : List ℕ) → IsRead m.slots m.slot reading → reads_on reading (held ∷ s) ≡ from_reading m.base m.slots m.slot m.registers m.later m.proposal (slice_set m.seen reading.at held) (after_slot m.slot m.proposal held reading) s
   reads-other reading held s h =
       read-other m.base m.slots m.slot m.registers (choice m) m.seen m.eight m.later m.proposal reading.at reading.rank (bit reading.clash) held s h.other h.inside h.small
       ∙ ap (λ c. from_slot m.base m.slots m.slot m.registers m.later (m.slots - (reading.at + 1)) (at_slot m.proposal c (rank_after (nat_lt reading.at m.slot) held reading.rank) (reading.at + 1) (cells_of (slice_set m.seen reading.at held))) s) (clash-past reading.clash held m.proposal)

@@ -5,7 +5,7 @@ use Rattle.regmodel.specs.declared.accesses.Access.TheVariants as access
 use Rattle.regmodel.specs.declared.accesses.Pending.{Pending}
 use Rattle.regmodel.specs.declared.accesses.Pending.TheVariants as pending
 use Rattle.regmodel.specs.Values.{Env}
-use Rattle.regmodel.specs.Act.{Flow, GoesOn, Wants, Faults, exec, times, stands, then_do}
+use Rattle.regmodel.specs.Act.{Flow, GoesOn, Wants, Faults, exec, times, flow_pending, then_do}
 use Rattle.reglang.specs.Expansions.{tree_collect, tree_look}
 use Rattle.std.proofs.lemmas.Bool.{cases_lt}
 use Rattle.std.proofs.lemmas.List.{get_or-map, map-set}
@@ -30,7 +30,7 @@ reach vertex cells = slice_set (slice_set cells (vertex * 2) 1) (vertex * 2 + 1)
 
 -- a continuation that depends on the vertex, the cells and the numbers alone
 abbrev IsAlike : ℕ → (Env → List ℕ → Flow) → Type 0
-IsAlike vertex go = (a b c d : ℕ) (cells numbers s : List ℕ) → stands (go (collect_with vertex a b c d cells numbers) s) ≡ stands (go (collect_with vertex 0 0 0 0 cells numbers) s)
+IsAlike vertex go = (a b c d : ℕ) (cells numbers s : List ℕ) → flow_pending (go (collect_with vertex a b c d cells numbers) s) ≡ flow_pending (go (collect_with vertex 0 0 0 0 cells numbers) s)
 
 -- ---- looking at a vertex
 
@@ -108,18 +108,18 @@ module _ (base registers vertex : ℕ) (h : IsPlace base registers vertex) where
 
   module _ (go : Env → List ℕ → Flow) (alike : IsAlike vertex go) (a b c d : ℕ) (cells numbers : List ℕ) where
     abbrev looked : ℕ → ℕ → ℕ → ℕ → List ℕ → Pending
-    looked a b c d s = stands (then_do (exec (tree_look base) registers (collect_with vertex a b c d cells numbers) s) go)
+    looked a b c d s = flow_pending (then_do (exec (tree_look base) registers (collect_with vertex a b c d cells numbers) s) go)
 
     abbrev then_go : Flow → Pending
-    then_go f = stands (then_do f go)
+    then_go f = flow_pending (then_do f go)
 
-    pub looks-unmarked : (s : List ℕ) → looked a b c d (0 ∷ s) ≡ stands (go (collect_with vertex 0 0 0 0 cells numbers) s)
+    pub looks-unmarked : (s : List ℕ) → looked a b c d (0 ∷ s) ≡ flow_pending (go (collect_with vertex 0 0 0 0 cells numbers) s)
     looks-unmarked s = ap then_go (look-unmarked a b c d cells numbers s) ∙ alike _ _ _ _ cells numbers s
 
-    pub looks-empty : (m : ℕ) (s : List ℕ) → looked a b c d (suc m ∷ 0 ∷ s) ≡ stands (go (collect_with vertex 0 0 0 0 (reach vertex cells) numbers) s)
+    pub looks-empty : (m : ℕ) (s : List ℕ) → looked a b c d (suc m ∷ 0 ∷ s) ≡ flow_pending (go (collect_with vertex 0 0 0 0 (reach vertex cells) numbers) s)
     looks-empty m s = ap then_go (look-empty a b c d cells numbers m s) ∙ alike _ _ _ _ (reach vertex cells) numbers s
 
-    pub looks-value : (m v : ℕ) (s : List ℕ) → length numbers < 8 → looked a b c d (suc m ∷ suc v ∷ s) ≡ stands (go (collect_with vertex 0 0 0 0 (reach vertex cells) (numbers ++ suc v ∷ [])) s)
+    pub looks-value : (m v : ℕ) (s : List ℕ) → length numbers < 8 → looked a b c d (suc m ∷ suc v ∷ s) ≡ flow_pending (go (collect_with vertex 0 0 0 0 (reach vertex cells) (numbers ++ suc v ∷ [])) s)
     looks-value m v s room = ap then_go (look-value a b c d cells numbers m v s room) ∙ alike _ _ _ _ (reach vertex cells) (numbers ++ suc v ∷ []) s
 
     pub looks-ninth : (m v : ℕ) (s : List ℕ) → 8 ≤ length numbers → looked a b c d (suc m ∷ suc v ∷ s) ≡ pending.Fault 4
@@ -156,9 +156,9 @@ module _ (base registers : ℕ) where
   collects turns = times turns (exec (tree_collect base) registers)
 
   abbrev then_turns : ℕ → Flow → Pending
-  then_turns turns f = stands (then_do f (collects turns))
+  then_turns turns f = flow_pending (then_do f (collects turns))
 
-  step-alike : (turns vertex next : ℕ) → vertex + 1 ≡ next → IsPlace base registers next → IsAlike next (collects turns) → (cell a b c d : ℕ) (cells numbers s : List ℕ) → slice_index cells next ≡ cell → stands (collects (suc turns) (collect_with vertex a b c d cells numbers) s) ≡ stands (collects (suc turns) (collect_with vertex 0 0 0 0 cells numbers) s)
+  step-alike : (turns vertex next : ℕ) → vertex + 1 ≡ next → IsPlace base registers next → IsAlike next (collects turns) → (cell a b c d : ℕ) (cells numbers s : List ℕ) → slice_index cells next ≡ cell → flow_pending (collects (suc turns) (collect_with vertex a b c d cells numbers) s) ≡ flow_pending (collects (suc turns) (collect_with vertex 0 0 0 0 cells numbers) s)
   step-alike turns vertex next e p alike zero a b c d cells numbers s h =
       ap (then_turns turns) (turn-passes base registers next p vertex a b c d cells numbers e s h)
       ∙ alike a b c d cells numbers s
@@ -214,13 +214,13 @@ module _ (base registers last : ℕ) (h : IsTree base registers last) where
       pub takes-empty : (s : List ℕ) → from_look base registers turns vertex reached numbers (1 ∷ 0 ∷ s) ≡ from_past base registers turns vertex (below_reached vertex reached) numbers s
       takes-empty s =
           looks-empty base registers vertex here (collects base registers turns) same 0 0 0 0 (map bit reached) numbers 0 s
-          ∙ ap (λ cells. stands (collects base registers turns (collect_with vertex 0 0 0 0 cells numbers) s)) below
+          ∙ ap (λ cells. flow_pending (collects base registers turns (collect_with vertex 0 0 0 0 cells numbers) s)) below
 
       pub takes-value : (v : ℕ) (s : List ℕ) → v ≢ 0 → length numbers < 8 → from_look base registers turns vertex reached numbers (1 ∷ v ∷ s) ≡ from_past base registers turns vertex (below_reached vertex reached) (numbers ++ v ∷ []) s
       takes-value zero s some room = absurd (some refl)
       takes-value (suc v) s some room =
           looks-value base registers vertex here (collects base registers turns) same 0 0 0 0 (map bit reached) numbers 0 v s room
-          ∙ ap (λ cells. stands (collects base registers turns (collect_with vertex 0 0 0 0 cells (numbers ++ suc v ∷ [])) s)) below
+          ∙ ap (λ cells. flow_pending (collects base registers turns (collect_with vertex 0 0 0 0 cells (numbers ++ suc v ∷ [])) s)) below
 
       pub takes-ninth : (v : ℕ) (s : List ℕ) → v ≢ 0 → 8 ≤ length numbers → from_look base registers turns vertex reached numbers (1 ∷ v ∷ s) ≡ pending.Fault 4
       takes-ninth zero s some full = absurd (some refl)

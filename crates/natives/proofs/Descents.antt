@@ -5,7 +5,7 @@ use Rattle.regmodel.specs.declared.accesses.Access.TheVariants as access
 use Rattle.regmodel.specs.declared.accesses.Pending.{Pending}
 use Rattle.regmodel.specs.declared.accesses.Pending.TheVariants as pending
 use Rattle.regmodel.specs.Values.{Env}
-use Rattle.regmodel.specs.Act.{Flow, GoesOn, Wants, Faults, exec, times, stands, then_do, act_of}
+use Rattle.regmodel.specs.Act.{Flow, GoesOn, Wants, Faults, exec, times, flow_pending, then_do, act_of}
 use Rattle.regmodel.specs.Program.{Stop}
 use Rattle.reglang.specs.Expansions.{tree_after, tree_leave, tree_descend, tree_collect, expansion}
 use Rattle.reglang.specs.declared.uses.Use.TheVariants as kind
@@ -99,9 +99,9 @@ module _ (base id registers depth value : ℕ) where
   descends levels = times levels (exec (tree_descend base id) registers)
 
   abbrev then_levels : ℕ → Flow → Pending
-  then_levels levels f = stands (then_do (then_do f (descends levels)) (exec (tree_after base depth value) registers))
+  then_levels levels f = flow_pending (then_do (then_do f (descends levels)) (exec (tree_after base depth value) registers))
 
-  way-same : (levels vertex a b c d : ℕ) (s : List ℕ) → (0 < levels → IsNode base registers vertex) → stands (then_do (descends levels (way_with vertex 0 a b c d) s) (exec (tree_after base depth value) registers)) ≡ from_vertex base registers depth id value levels vertex s
+  way-same : (levels vertex a b c d : ℕ) (s : List ℕ) → (0 < levels → IsNode base registers vertex) → flow_pending (then_do (descends levels (way_with vertex 0 a b c d) s) (exec (tree_after base depth value) registers)) ≡ from_vertex base registers depth id value levels vertex s
   way-same zero vertex a b c d s h = refl
   way-same (suc levels) vertex a b c d s h = ap (then_levels levels) (visit-same base id registers vertex (h (omega arith)) a b c d s)
 
@@ -144,7 +144,7 @@ module _ (base id registers depth value : ℕ) where
 
   -- from the root
   pub from_root : (s : List ℕ) → depth ≤ 4 → from_vertex base registers depth id value depth 1 s ≡ act_of (expansion (kind.Tree base depth id value) registers) s
-  from_root s small = sym (ap (λ test. stands (then_do (cond test (Faults 3) (descends depth (on_way 1 0 0) s)) (exec (tree_after base depth value) registers))) (lt_no 99 depth (omega arith)))
+  from_root s small = sym (ap (λ test. flow_pending (then_do (cond test (Faults 3) (descends depth (on_way 1 0 0) s)) (exec (tree_after base depth value) registers))) (lt_no 99 depth (omega arith)))
 
   -- ---- where it stopped
 
@@ -170,17 +170,17 @@ module _ (base id registers depth value : ℕ) where
     leave-collects : (b c d w : ℕ) (s : List ℕ) → exec (tree_leave base depth value) registers (way_with vertex 1 register b c d) (w ∷ s) ≡ then_do (times (2 ^ depth - 1) (exec (tree_collect base) registers) (collect_with 0 (register + 3) b c d (map bit root_reached) []) s) (exec Stop registers)
     leave-collects b c d w s = rw (value_sum, value_there) (ap (λ test. then_do (cond test (Faults 3) (times (2 ^ depth - 1) (exec (tree_collect base) registers) (collect_with 0 (register + 3) b c d (map bit root_reached) []) s)) (exec Stop registers)) few_vertices)
 
-    leave-past : (b c d w : ℕ) (s : List ℕ) → stands (exec (tree_leave base depth value) registers (way_with vertex 1 register b c d) (w ∷ s)) ≡ from_past base registers (2 ^ depth - 1) 0 root_reached [] s
+    leave-past : (b c d w : ℕ) (s : List ℕ) → flow_pending (exec (tree_leave base depth value) registers (way_with vertex 1 register b c d) (w ∷ s)) ≡ from_past base registers (2 ^ depth - 1) 0 root_reached [] s
     leave-past b c d w s =
-        ap stands (leave-collects b c d w s ∙ then_stop _ registers)
+        ap flow_pending (leave-collects b c d w s ∙ then_stop _ registers)
         ∙ turns-alike base registers (2 ^ depth - 1) t (2 ^ depth - 1) 0 (omega arith) (register + 3) b c d (map bit root_reached) [] s
 
-    leave-same : (b c d : ℕ) (s : List ℕ) → stands (exec (tree_leave base depth value) registers (way_with vertex 1 register b c d) s) ≡ from_stop base registers depth value vertex s
-    leave-same b c d [] = ap stands (leave-wants b c d ∙ sym (leave-wants 0 0 0))
+    leave-same : (b c d : ℕ) (s : List ℕ) → flow_pending (exec (tree_leave base depth value) registers (way_with vertex 1 register b c d) s) ≡ from_stop base registers depth value vertex s
+    leave-same b c d [] = ap flow_pending (leave-wants b c d ∙ sym (leave-wants 0 0 0))
     leave-same b c d (w ∷ s) = leave-past b c d w s ∙ sym (leave-past 0 0 0 w s)
 
     pub from_stop-leaves : from_stop base registers depth value vertex [] ≡ pending.Wants (access.Write (register + 3) value)
-    from_stop-leaves = ap stands (leave-wants 0 0 0)
+    from_stop-leaves = ap flow_pending (leave-wants 0 0 0)
 
     pub from_stop-past : (w : ℕ) (s : List ℕ) → from_stop base registers depth value vertex (w ∷ s) ≡ from_past base registers (2 ^ depth - 1) 0 root_reached [] s
     from_stop-past w s = leave-past 0 0 0 w s
@@ -189,8 +189,8 @@ module _ (base id registers depth value : ℕ) where
     from-stops levels k w x y last s e same =
         first_level levels k vertex e h _
         ∙ ap (then_levels k) (visit-stops base id registers vertex h 0 0 0 0 w x y last s same)
-        ∙ ap (λ f. stands (then_do f (exec (tree_after base depth value) registers))) (stopped k vertex register (register + 1) (register + 2) last s)
-        ∙ ap stands (after-stopped (register + 1) (register + 2) last s)
+        ∙ ap (λ f. flow_pending (then_do f (exec (tree_after base depth value) registers))) (stopped k vertex register (register + 1) (register + 2) last s)
+        ∙ ap flow_pending (after-stopped (register + 1) (register + 2) last s)
         ∙ leave-same (register + 1) (register + 2) last s
       where
         after-stopped : (b c d : ℕ) (s : List ℕ) → exec (tree_after base depth value) registers (way_with vertex 1 register b c d) s ≡ exec (tree_leave base depth value) registers (way_with vertex 1 register b c d) s

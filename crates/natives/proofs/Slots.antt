@@ -1,4 +1,4 @@
--- The turns of a round in a choice of names.
+-- The turns of a round of a renaming.
 use Rattle.std.proofs.Common.{◌≡◌, ◌≢◌, ℕ, zero, suc, ◌+◌, ◌-◌, ◌*◌, ◌<◌, ◌≤◌, Bool, true, false, cond, List, [], ◌∷◌, inl, inr, length, refl, ap, sym, ◌∙◌, arith, replicate, get_or, set, add-one, drop, take, drop-cons, not, ◌||◌}
 use Rattle.std.specs.Prelude.{nat_lt, nat_le, ◌==◌, if◌then◌else◌, slice_index, slice_set}
 use Rattle.std.proofs.lemmas.List.{get_or-set_same, length-set, length-append, take-append-le, set-append_left, get_or_append_left, set-get_or}
@@ -6,13 +6,13 @@ use Rattle.regmodel.specs.declared.accesses.Access.TheVariants as access
 use Rattle.regmodel.specs.declared.accesses.Pending.{Pending}
 use Rattle.regmodel.specs.declared.accesses.Pending.TheVariants as pending
 use Rattle.regmodel.specs.Values.{Env}
-use Rattle.regmodel.specs.Act.{Flow, GoesOn, Wants, Faults, exec, times, stands, then_do}
+use Rattle.regmodel.specs.Act.{Flow, GoesOn, Wants, Faults, exec, times, flow_pending, then_do}
 use Rattle.reglang.specs.Expansions.{name_slot, name_held, name_turn, name_round}
 use Rattle.std.proofs.lemmas.Bool.{cases_eq}
 use Rattle.natives.specs.Names.{holds, number_from, cells_of, rounds_from, turns_from, from_round, from_after, from_slot, at_slot, name_after}
 use Rattle.natives.proofs.Steps.{le_yes, lt_yes, lt_no, eq_yes, eq_no}
 
--- a choice of names within its limits
+-- a renaming within its limits
 pub record IsChoice (base slots own registers : ℕ) : Type 0 where
   pub own_in : own < slots
   pub few_slots : slots ≤ 8
@@ -183,14 +183,14 @@ module _ (base slots own registers : ℕ) (h : IsChoice base slots own registers
     few_turns : nat_lt 99 (2 * slots - 1) ≡ false
     few_turns = lt_no _ _ (omega (arith, h.few_slots))
 
-    after-clash : (later rank slot a b : ℕ) (s : List ℕ) → (t : Turned (2 * slots - 1) rank slot 0 b) → clash ≢ 0 → from_after base slots own registers later (env_at proposal clash rank slot a b cells) s ≡ stands (rounds_from base slots own registers later (env_at (number rank) clash t.rank_left t.slot_left (number rank) t.found cells) s)
+    after-clash : (later rank slot a b : ℕ) (s : List ℕ) → (t : Turned (2 * slots - 1) rank slot 0 b) → clash ≢ 0 → from_after base slots own registers later (env_at proposal clash rank slot a b cells) s ≡ flow_pending (rounds_from base slots own registers later (env_at (number rank) clash t.rank_left t.slot_left (number rank) t.found cells) s)
     after-clash later rank slot a b s t e = rw (eq_no clash 0 e, few_turns, t.is s) refl
 
   -- ---- what is left of earlier rounds plays no part
 
   -- rounds depend on the proposal and the cells alone
   abbrev AreAlike : ℕ → Type 0
-  AreAlike rounds = (proposal clash rank slot a b : ℕ) (cells : List ℕ) (s : List ℕ) → length cells ≡ 32 → stands (rounds_from base slots own registers rounds (env_at proposal clash rank slot a b cells) s) ≡ from_round base slots own registers rounds proposal cells s
+  AreAlike rounds = (proposal clash rank slot a b : ℕ) (cells : List ℕ) (s : List ℕ) → length cells ≡ 32 → flow_pending (rounds_from base slots own registers rounds (env_at proposal clash rank slot a b cells) s) ≡ from_round base slots own registers rounds proposal cells s
 
   after-alike : (later : ℕ) → AreAlike later → (proposal clash rank slot a b : ℕ) (cells : List ℕ) (s : List ℕ) → length cells ≡ 32 → clash ≢ 0 → from_after base slots own registers later (env_at proposal clash rank slot a b cells) s ≡ from_round base slots own registers later (number_from (take slots cells) (2 * slots - 1) rank 0) cells s
   after-alike later alike proposal clash rank slot a b cells s long e =
@@ -205,7 +205,7 @@ module _ (base slots own registers : ℕ) (h : IsChoice base slots own registers
 
   -- a turn of the slots and what comes after it
   abbrev then_slots : ℕ → ℕ → Flow → Pending
-  then_slots later turns f = stands (then_do (then_do (then_do f (turns_from base slots own registers turns)) (exec (name_after slots) registers)) (rounds_from base slots own registers later))
+  then_slots later turns f = flow_pending (then_do (then_do (then_do f (turns_from base slots own registers turns)) (exec (name_after slots) registers)) (rounds_from base slots own registers later))
 
   rank-rises : (before : Bool) (reply rank : ℕ) → rank_after before reply rank ≤ rank + 1
   rank-rises true (suc reply) rank = omega arith
@@ -256,11 +256,11 @@ module _ (base slots own registers : ℕ) (h : IsChoice base slots own registers
 
   alike : (rounds : ℕ) → AreAlike rounds
   alike zero proposal clash rank slot a b cells s long = refl
-  alike (suc rounds) proposal clash rank slot a b cells [] long = ap (λ f. stands (then_do f (rounds_from base slots own registers rounds))) (round-wants proposal clash rank slot a b cells ∙ sym (round-wants proposal 0 0 0 0 0 cells))
+  alike (suc rounds) proposal clash rank slot a b cells [] long = ap (λ f. flow_pending (then_do f (rounds_from base slots own registers rounds))) (round-wants proposal clash rank slot a b cells ∙ sym (round-wants proposal 0 0 0 0 0 cells))
   alike (suc rounds) proposal clash rank slot a b cells (w ∷ s) long =
-      ap (λ f. stands (then_do f (rounds_from base slots own registers rounds))) (round-goes_on proposal clash rank slot a b w cells s)
+      ap (λ f. flow_pending (then_do f (rounds_from base slots own registers rounds))) (round-goes_on proposal clash rank slot a b w cells s)
       ∙ slot-same rounds (alike rounds) slots 0 (omega arith) proposal 0 1 a b cells s long (omega arith)
-      ∙ sym (ap (λ f. stands (then_do f (rounds_from base slots own registers rounds))) (round-goes_on proposal 0 0 0 0 0 w cells s))
+      ∙ sym (ap (λ f. flow_pending (then_do f (rounds_from base slots own registers rounds))) (round-goes_on proposal 0 0 0 0 0 w cells s))
 
   -- ---- what the machine needs of a round
 
@@ -306,5 +306,5 @@ module _ (base slots own registers : ℕ) (h : IsChoice base slots own registers
     pub round-read : (later proposal w : ℕ) (s : List ℕ) → from_round base slots own registers (suc later) proposal (cells_of seen) (w ∷ s) ≡ from_slot base slots own registers later (slots - 0) (at_slot proposal 0 1 0 (cells_of seen)) s
     round-read later proposal w s =
         let turns : slots ≡ slots - 0 = omega arith in
-        ap (λ f. stands (then_do f (rounds_from base slots own registers later))) (round-goes_on proposal 0 0 0 0 0 w (cells_of seen) s)
+        ap (λ f. flow_pending (then_do f (rounds_from base slots own registers later))) (round-goes_on proposal 0 0 0 0 0 w (cells_of seen) s)
         ∙ ap (λ n. from_slot base slots own registers later n (at_slot proposal 0 1 0 (cells_of seen)) s) turns

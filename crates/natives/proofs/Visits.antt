@@ -4,7 +4,7 @@ use Rattle.std.specs.Prelude.{nat_lt, nat_le}
 use Rattle.regmodel.specs.declared.accesses.Access.TheVariants as access
 use Rattle.regmodel.specs.declared.accesses.Pending.TheVariants as pending
 use Rattle.regmodel.specs.Values.{Env}
-use Rattle.regmodel.specs.Act.{Flow, GoesOn, Wants, Ends, exec, times, stands, then_do}
+use Rattle.regmodel.specs.Act.{Flow, GoesOn, Wants, Ends, exec, times, flow_pending, then_do}
 use Rattle.regmodel.specs.declared.accesses.Pending.{Pending}
 use Rattle.reglang.specs.Expansions.{grid_visit}
 use Rattle.natives.specs.Grids.{grid_from}
@@ -84,9 +84,9 @@ module _ (base id registers level vertex : ℕ) (h : IsVertex base registers lev
 
 module _ (base id registers : ℕ) where
   abbrev then_turns : ℕ → Flow → Pending
-  then_turns turns f = stands (then_do f (times turns (exec (grid_visit base id) registers)))
+  then_turns turns f = flow_pending (then_do f (times turns (exec (grid_visit base id) registers)))
 
-  pub from-any : (turns level vertex a b c : ℕ) (s : List ℕ) → (0 < turns → IsVertex base registers level vertex) → stands (times turns (exec (grid_visit base id) registers) (at_vertex_with level vertex a b c) s) ≡ grid_from base id registers turns level vertex s
+  pub from-any : (turns level vertex a b c : ℕ) (s : List ℕ) → (0 < turns → IsVertex base registers level vertex) → flow_pending (times turns (exec (grid_visit base id) registers) (at_vertex_with level vertex a b c) s) ≡ grid_from base id registers turns level vertex s
   from-any zero level vertex a b c s h = refl
   from-any (suc turns) level vertex a b c s h = ap (then_turns turns) (visit-same base id registers level vertex (h (omega arith)) a b c s)
 

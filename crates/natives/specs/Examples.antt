@@ -6,7 +6,7 @@ use Rattle.reglang.specs.Expansions.{split_program}
 use Rattle.natives.specs.declared.split.Stage.TheVariants as split
 use Rattle.natives.specs.Splits.{split_rest}
 use Rattle.natives.specs.Grids.{grid_from}
-use Rattle.natives.specs.Names.{first_slot, past, number_from, from_reading}
+use Rattle.natives.specs.Names.{first_slot, after_slot, number_from, from_reading}
 use Rattle.natives.specs.Trees.{from_stop, from_past, from_at}
 
 -- ---- a splitter that is about to look who came last
@@ -24,7 +24,7 @@ grid_goes_out = refl
 
 -- ---- two slots, of which the first is the own one
 
-pub proposal_is_free : from_reading 0 2 0 2 98 1 (replicate 8 0) (past 0 1 0 first_slot) (0 ∷ []) ≡ Done (record { items = 1 ∷ [] })
+pub proposal_is_free : from_reading 0 2 0 2 98 1 (replicate 8 0) (after_slot 0 1 0 first_slot) (0 ∷ []) ≡ Done (record { items = 1 ∷ [] })
 proposal_is_free = refl
 
 -- the least number that no slot holds; the second one of them
@@ -35,7 +35,7 @@ pub second_free : number_from (0 ∷ 1 ∷ []) 3 2 0 ≡ 3
 second_free = refl
 
 -- a slot below the own one that holds the proposal
-pub clash_below : past 1 1 1 first_slot ≡ record { at = 1; clash = true; rank = 2 }
+pub clash_below : after_slot 1 1 1 first_slot ≡ record { at = 1; clash = true; rank = 2 }
 clash_below = refl
 
 -- ---- a tree of three vertices at registers 0 to 11

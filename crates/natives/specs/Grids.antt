@@ -3,7 +3,7 @@ use Rattle.std.specs.Prelude.{ℕ, List, [], ◌∷◌, replicate}
 use Rattle.regmodel.specs.declared.accesses.Pending.{Pending}
 use Rattle.regmodel.specs.declared.accesses.Pending.TheVariants.{Done}
 use Rattle.regmodel.specs.Values.{Env}
-use Rattle.regmodel.specs.Act.{exec, times, stands}
+use Rattle.regmodel.specs.Act.{exec, times, flow_pending}
 use Rattle.reglang.specs.Expansions.{grid_visit}
 use Rattle.natives.specs.declared.grid.Stage.{Stage}
 use Rattle.natives.specs.declared.grid.Stage.TheVariants.{Marks, Tries, Closes, Looks, Stopped, Over}
@@ -15,7 +15,7 @@ at_vertex level vertex = record { vars = level ∷ vertex ∷ replicate 14 0; ce
 -- from a vertex on, with so many turns left, the one at this vertex counted
 abbrev pub grid_from : ℕ → ℕ → ℕ → ℕ → ℕ → ℕ → List ℕ → Pending
 grid_from base id registers turns level vertex s =
-    stands (times turns (exec (grid_visit base id) registers) (at_vertex level vertex) s)
+    flow_pending (times turns (exec (grid_visit base id) registers) (at_vertex level vertex) s)
 
 -- at an access the value from the vertex on, after the replies since then
 abbrev pub grid_rest : (List ℕ → Pending) → ℕ → Stage → List ℕ → Pending

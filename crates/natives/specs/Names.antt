@@ -1,4 +1,4 @@
--- What a choice of names does on further replies.
+-- What a renaming does on further replies.
 use Rattle.std.specs.Prelude.{◌≢◌, ◌<◌, ◌≤◌, ℕ, zero, suc, ◌+◌, ◌*◌, ◌-◌, ◌==◌, if◌then◌else◌, ◌||◌, ◌&&◌, not, nat_lt, Bool, false, List, [], ◌∷◌, ◌++◌, replicate}
 use Rattle.regmodel.specs.declared.accesses.Pending.{Pending}
 use Rattle.regmodel.specs.declared.accesses.Pending.TheVariants.{Done}
@@ -6,7 +6,7 @@ use Rattle.regmodel.specs.declared.programs.Op.TheVariants.{Equal}
 use Rattle.regmodel.specs.declared.programs.Operand.TheVariants.{Number, Var}
 use Rattle.regmodel.specs.declared.programs.Expr.TheVariants.{One, Two}
 use Rattle.regmodel.specs.Values.{Env}
-use Rattle.regmodel.specs.Act.{Flow, exec, times, then_do, stands}
+use Rattle.regmodel.specs.Act.{Flow, exec, times, then_do, flow_pending}
 use Rattle.regmodel.specs.Program.{Block, Stop, If, Repeat, Emit, Halt}
 use Rattle.reglang.specs.Expansions.{◌▸◌, set, name_round, name_slot, name_turn}
 use Rattle.natives.specs.Bits.{bit}
@@ -27,8 +27,8 @@ first_slot = record { at = 0; clash = false; rank = 1 }
 
 -- past a slot that held so much: a clash where that is the proposal, a higher rank where the slot is below the own one and
 -- held something
-abbrev pub past : ℕ → ℕ → ℕ → Reading → Reading
-past own proposal held reading = record {
+abbrev pub after_slot : ℕ → ℕ → ℕ → Reading → Reading
+after_slot own proposal held reading = record {
   at = reading.at + 1;
   clash = reading.clash || held == proposal;
   rank = if nat_lt reading.at own && not (held == 0) then reading.rank + 1 else reading.rank;
@@ -62,16 +62,16 @@ module _ (base slots own registers : ℕ) where
 
   -- from a round on, with so many of them left, its own counted
   abbrev pub from_round : ℕ → ℕ → List ℕ → List ℕ → Pending
-  from_round rounds proposal cells s = stands (rounds_from rounds (at_slot proposal 0 0 0 cells) s)
+  from_round rounds proposal cells s = flow_pending (rounds_from rounds (at_slot proposal 0 0 0 cells) s)
 
   -- once the slots were read, with so many rounds left after this one
   abbrev pub from_after : ℕ → Env → List ℕ → Pending
-  from_after later env s = stands (then_do (exec (name_after slots) registers env s) (rounds_from later))
+  from_after later env s = flow_pending (then_do (exec (name_after slots) registers env s) (rounds_from later))
 
   -- from a slot on, with so many rounds left after this one and so many slots left in it
   abbrev pub from_slot : ℕ → ℕ → Env → List ℕ → Pending
   from_slot later turns env s =
-      stands (then_do (then_do (turns_from turns env s) (exec (name_after slots) registers)) (rounds_from later))
+      flow_pending (then_do (then_do (turns_from turns env s) (exec (name_after slots) registers)) (rounds_from later))
 
   -- from a slot that is about to be read on, given what the slots held so far
   abbrev pub from_reading : ℕ → ℕ → List ℕ → Reading → List ℕ → Pending

@@ -3,7 +3,7 @@ use Rattle.std.specs.Prelude.{◌≤◌, ℕ, ◌+◌, ◌*◌, ◌-◌, slice_s
 use Rattle.regmodel.specs.declared.accesses.Pending.{Pending}
 use Rattle.regmodel.specs.declared.accesses.Pending.TheVariants.{Done, Fault}
 use Rattle.regmodel.specs.Values.{Env}
-use Rattle.regmodel.specs.Act.{Flow, exec, times, then_do, stands}
+use Rattle.regmodel.specs.Act.{Flow, exec, times, then_do, flow_pending}
 use Rattle.reglang.specs.Expansions.{tree_leave, tree_after, tree_descend, tree_collect, tree_look}
 use Rattle.natives.specs.Bits.{bit}
 use Rattle.natives.specs.declared.trees.Stage.{Stage}
@@ -21,12 +21,12 @@ module _ (base registers : ℕ) where
   -- from a vertex on, with so many levels left, its own counted
   abbrev pub from_vertex : ℕ → ℕ → ℕ → ℕ → ℕ → List ℕ → Pending
   from_vertex depth id value levels vertex s =
-      stands (then_do (times levels (exec (tree_descend base id) registers) (on_way vertex 0 0) s) (exec (tree_after base depth value) registers))
+      flow_pending (then_do (times levels (exec (tree_descend base id) registers) (on_way vertex 0 0) s) (exec (tree_after base depth value) registers))
 
   -- from where it stopped
   abbrev pub from_stop : ℕ → ℕ → ℕ → List ℕ → Pending
   from_stop depth value vertex s =
-      stands (exec (tree_leave base depth value) registers (on_way vertex 1 ((vertex - 1) * 4 + base)) s)
+      flow_pending (exec (tree_leave base depth value) registers (on_way vertex 1 ((vertex - 1) * 4 + base)) s)
 
   -- so many vertices of the collect
   abbrev pub collects : ℕ → Env → List ℕ → Flow
@@ -34,12 +34,12 @@ module _ (base registers : ℕ) where
 
   -- from past a vertex on, with so many vertices left
   abbrev pub from_past : ℕ → ℕ → List Bool → List ℕ → List ℕ → Pending
-  from_past turns vertex reached numbers s = stands (collects turns (at_collect vertex reached numbers) s)
+  from_past turns vertex reached numbers s = flow_pending (collects turns (at_collect vertex reached numbers) s)
 
   -- from a vertex that is looked at on, with so many vertices left after it
   abbrev pub from_look : ℕ → ℕ → List Bool → List ℕ → List ℕ → Pending
   from_look turns vertex reached numbers s =
-      stands (then_do (exec (tree_look base) registers (at_collect vertex reached numbers) s) (collects turns))
+      flow_pending (then_do (exec (tree_look base) registers (at_collect vertex reached numbers) s) (collects turns))
 
   -- the same in a tree with so many vertices
   abbrev pub from_at : ℕ → List Bool → List ℕ → ℕ → List ℕ → Pending

@@ -6,10 +6,12 @@ ghost use Rattle.regmodel.specs.Lawful.{IsLawful};
 ghost use Rattle.reglang.specs.declared.uses.Use.TheVariants as kind;
 ghost use Rattle.reglang.specs.Expansions.{expansion};
 ghost use Rattle.reglang.specs.Uses.{use_fits};
+ghost use Rattle.natives.specs.declared.TheConstants.{PAST_LIMIT};
+ghost use Rattle.regmodel.specs.declared.limits.TheConstants.{MOST_REGISTERS, MOST_ROWS};
 ghost use Rattle.natives.specs.Grids.{grid_from};
 
-use crate::MakeFault;
 use crate::numbers::{done, done_with};
+use crate::{MakeFault, PAST_LIMIT};
 use machine::Machine;
 use reglang::Use;
 use regmodel::{Access, Pending};
@@ -42,9 +44,9 @@ pub struct Grid {
     level: u8,
     vertex: u8,
     stage: Stage,
-    ghost few: { registers ≤ 64 },
+    ghost few: { registers ≤ MOST_REGISTERS },
     ghost room: { base + side * (side + 1) ≤ registers },
-    ghost sides: { side ≤ 7 },
+    ghost sides: { side ≤ MOST_ROWS },
     ghost inside: { level < side },
     ghost some: { 1 ≤ vertex },
     ghost named: { vertex * 2 ≤ (level + 1) * (level + 2) },
@@ -56,11 +58,11 @@ impl Grid {
     pub fn make(base: u32, side: u32, id: u32, registers: u32) -> Result<Grid, MakeFault>
         ensures same { IfOk result (λ m. ⟦<Grid as Machine>⟧.program m ≡ expansion (kind.Grid base side id) registers) }
         ensures starts { IfOk result (λ m. (s : List ℕ) → IsLawful (act_of (expansion (kind.Grid base side id) registers)) s → ⟦<Grid as Machine>⟧.rest m s ≡ act_of (expansion (kind.Grid base side id) registers) s) }
-        ensures limits { (result ≡ Err (record { code = 1 })) ↔ (use_fits (kind.Grid base side id) registers ≡ false) }
+        ensures limits { (result ≡ Err (record { code = PAST_LIMIT })) ↔ (use_fits (kind.Grid base side id) registers ≡ false) }
         ensures made { IsOk result ↔ IsTrue (use_fits (kind.Grid base side id) registers) }
     {
         if !Use::Grid(base, side, id).fits(registers) {
-            return Err(MakeFault { code: 1 });
+            return Err(MakeFault { code: PAST_LIMIT });
         }
         let mut grid = Grid {
             base: base as u8,

@@ -15,6 +15,9 @@ pub use split::Split;
 use thiserror::Error;
 pub use trees::Tree;
 
+/// The code of numbers past the limits of their use line.
+pub const PAST_LIMIT: u8 = 1;
+
 /// Why a native machine was not made.
 #[derive(Clone, Copy, PartialEq, Eq, Debug, Error)]
 #[error("no machine: code {code}")]

@@ -1,4 +1,4 @@
-//! Choices of names: a process proposes a name in its slot until no other slot holds it.
+//! Renamings: a process proposes a name in its slot until no other slot holds it.
 
 ghost use Rattle.std.specs.Prelude.{◌≡◌, ◌≢◌, ℕ, zero, suc, ◌+◌, ◌-◌, ◌*◌, ◌<◌, ◌≤◌, ◌↔◌, List, ◌∷◌, false, Err, IfOk, IsOk, IsTrue, length, slice_index, take};
 ghost use Rattle.regmodel.specs.Act.{act_of};
@@ -6,19 +6,22 @@ ghost use Rattle.regmodel.specs.Lawful.{IsLawful};
 ghost use Rattle.reglang.specs.declared.uses.Use.TheVariants as kind;
 ghost use Rattle.reglang.specs.Expansions.{expansion};
 ghost use Rattle.reglang.specs.Uses.{use_fits};
+ghost use Rattle.natives.specs.declared.TheConstants.{PAST_LIMIT};
+ghost use Rattle.regmodel.specs.declared.limits.TheConstants.{MOST_REGISTERS, MOST_SLOTS};
 ghost use Rattle.natives.specs.declared.names.Reading.{Reading};
 ghost use Rattle.natives.specs.declared.names.Stage.TheVariants.{Reads};
 ghost use Rattle.natives.specs.Bits.{bit};
-ghost use Rattle.natives.specs.Names.{IsRead, past, at_slot, cells_of, from_reading, from_after, holds, number_from};
+ghost use Rattle.natives.specs.Names.{IsRead, after_slot, at_slot, cells_of, from_reading, from_after, holds, number_from};
 
-use crate::MakeFault;
 use crate::numbers::{done, done_with};
+use crate::{MakeFault, PAST_LIMIT};
 use machine::Machine;
 use reglang::Use;
+use regmodel::limits::MOST_TURNS;
 use regmodel::{Access, Pending};
 
 /// How many rounds there are after the first.
-const LATER: u8 = 98;
+const LATER: u8 = MOST_TURNS as u8 - 1;
 
 /// A slot that is read, and what the slots before it gave.
 #[derive(Clone, Copy)]
@@ -33,10 +36,10 @@ struct Reading {
 
 impl Reading {
     /// Past the slot, which held this much.
-    fn past(self, held: u32, proposal: u32, own: u8) -> Reading
-        requires few { self.at ≤ 8 }
+    fn after_slot(self, held: u32, proposal: u32, own: u8) -> Reading
+        requires few { self.at ≤ MOST_SLOTS }
         requires small { self.rank ≤ self.at + 1 }
-        ensures { result ≡ past own proposal held self }
+        ensures { result ≡ after_slot own proposal held self }
     {
         let higher = self.at < own && held != 0;
         Reading {
@@ -60,7 +63,7 @@ enum Stage {
     Over,
 }
 
-/// A choice of names in progress: a register a slot, for the proposal of its process. It keeps what it last read in each
+/// A renaming in progress: a register a slot, for the proposal of its process. It keeps what it last read in each
 /// slot, 0 for its own.
 #[derive(Drop)]
 pub struct NameSlots {
@@ -72,8 +75,8 @@ pub struct NameSlots {
     proposal: u32,
     seen: [u32; 8],
     stage: Stage,
-    ghost few: { registers ≤ 64 },
-    ghost few_slots: { slots ≤ 8 },
+    ghost few: { registers ≤ MOST_REGISTERS },
+    ghost few_slots: { slots ≤ MOST_SLOTS },
     ghost room: { base + slots ≤ registers },
     ghost own_in: { slot < slots },
     ghost eight: { length seen ≡ 8 },
@@ -82,16 +85,16 @@ pub struct NameSlots {
 }
 
 impl NameSlots {
-    /// The choice of a use line, at its start: BASE, SLOTS, SLOT, and how many registers there are. Fault 1 where a limit of
+    /// The renaming of a use line, at its start: BASE, SLOTS, SLOT, and how many registers there are. Fault 1 where a limit of
     /// the line is passed, which [`Use::fits`] tells; no other fault comes. It takes no memory.
     pub fn make(base: u32, slots: u32, slot: u32, registers: u32) -> Result<NameSlots, MakeFault>
         ensures same { IfOk result (λ m. ⟦<NameSlots as Machine>⟧.program m ≡ expansion (kind.Name base slots slot) registers) }
         ensures starts { IfOk result (λ m. (s : List ℕ) → IsLawful (act_of (expansion (kind.Name base slots slot) registers)) s → ⟦<NameSlots as Machine>⟧.rest m s ≡ act_of (expansion (kind.Name base slots slot) registers) s) }
-        ensures limits { (result ≡ Err (record { code = 1 })) ↔ (use_fits (kind.Name base slots slot) registers ≡ false) }
+        ensures limits { (result ≡ Err (record { code = PAST_LIMIT })) ↔ (use_fits (kind.Name base slots slot) registers ≡ false) }
         ensures made { IsOk result ↔ IsTrue (use_fits (kind.Name base slots slot) registers) }
     {
         if !Use::Name(base, slots, slot).fits(registers) {
-            return Err(MakeFault { code: 1 });
+            return Err(MakeFault { code: PAST_LIMIT });
         }
         let mut names = NameSlots {
             base: base as u8,
@@ -191,7 +194,7 @@ impl NameSlots {
         ensures goes_on { (s : List ℕ) → ⟦<NameSlots as Machine>⟧.rest self.new s ≡ from_reading self.old.base self.old.slots self.old.slot self.old.registers self.old.later self.old.proposal self.old.seen reading (held ∷ s) }
     {
         self.seen[usize::from(reading.at)] = held;
-        self.go_on(reading.past(held, self.proposal, self.slot));
+        self.go_on(reading.after_slot(held, self.proposal, self.slot));
     }
 }
 

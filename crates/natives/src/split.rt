@@ -6,9 +6,11 @@ ghost use Rattle.regmodel.specs.Lawful.{IsLawful};
 ghost use Rattle.reglang.specs.declared.uses.Use.TheVariants as kind;
 ghost use Rattle.reglang.specs.Expansions.{expansion};
 ghost use Rattle.reglang.specs.Uses.{use_fits};
+ghost use Rattle.natives.specs.declared.TheConstants.{PAST_LIMIT};
+ghost use Rattle.regmodel.specs.declared.limits.TheConstants.{MOST_REGISTERS};
 
-use crate::MakeFault;
 use crate::numbers::{done, done_with};
+use crate::{MakeFault, PAST_LIMIT};
 use machine::Machine;
 use reglang::Use;
 use regmodel::{Access, Pending};
@@ -41,7 +43,7 @@ pub struct Split {
     id: u32,
     registers: u32,
     stage: Stage,
-    ghost few: { registers ≤ 64 },
+    ghost few: { registers ≤ MOST_REGISTERS },
     ghost room: { base + 2 ≤ registers },
 }
 
@@ -51,11 +53,11 @@ impl Split {
     pub fn make(base: u32, id: u32, registers: u32) -> Result<Split, MakeFault>
         ensures same { IfOk result (λ m. ⟦<Split as Machine>⟧.program m ≡ expansion (kind.Split base id) registers) }
         ensures starts { IfOk result (λ m. (s : List ℕ) → IsLawful (act_of (expansion (kind.Split base id) registers)) s → ⟦<Split as Machine>⟧.rest m s ≡ act_of (expansion (kind.Split base id) registers) s) }
-        ensures limits { (result ≡ Err (record { code = 1 })) ↔ (use_fits (kind.Split base id) registers ≡ false) }
+        ensures limits { (result ≡ Err (record { code = PAST_LIMIT })) ↔ (use_fits (kind.Split base id) registers ≡ false) }
         ensures made { IsOk result ↔ IsTrue (use_fits (kind.Split base id) registers) }
     {
         if !Use::Split(base, id).fits(registers) {
-            return Err(MakeFault { code: 1 });
+            return Err(MakeFault { code: PAST_LIMIT });
         }
         Ok(Split {
             base: base as u8,

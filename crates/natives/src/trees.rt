@@ -7,11 +7,13 @@ ghost use Rattle.regmodel.specs.Lawful.{IsLawful};
 ghost use Rattle.reglang.specs.declared.uses.Use.TheVariants as kind;
 ghost use Rattle.reglang.specs.Expansions.{expansion};
 ghost use Rattle.reglang.specs.Uses.{use_fits};
+ghost use Rattle.natives.specs.declared.TheConstants.{PAST_LIMIT};
+ghost use Rattle.regmodel.specs.declared.limits.TheConstants.{MOST_LEVELS, MOST_REGISTERS};
 ghost use Rattle.natives.specs.declared.trees.Stage.TheVariants.{Sees, Takes};
 ghost use Rattle.natives.specs.Trees.{IsIn, below_reached, from_vertex, from_past, from_at, from_next};
 
-use crate::MakeFault;
 use crate::numbers::done;
+use crate::{MakeFault, PAST_LIMIT};
 use machine::Machine;
 use reglang::Use;
 use regmodel::{Access, Numbers, Pending};
@@ -58,9 +60,9 @@ pub struct Tree {
     reached: [bool; 32],
     numbers: Numbers,
     stage: Stage,
-    ghost few: { registers ≤ 64 },
+    ghost few: { registers ≤ MOST_REGISTERS },
     ghost some_level: { 1 ≤ depth },
-    ghost small: { depth ≤ 4 },
+    ghost small: { depth ≤ MOST_LEVELS },
     ghost all: { last ≡ 2 ^ depth - 1 },
     ghost vertices: { last ≤ 15 },
     ghost room: { base + last * 4 ≤ registers },
@@ -73,7 +75,7 @@ pub struct Tree {
 
 /// How many vertices a tree of so many levels has.
 fn vertices(depth: u8) -> u8
-    requires { depth ≤ 4 }
+    requires { depth ≤ MOST_LEVELS }
     ensures value { result ≡ 2 ^ depth - 1 }
     ensures few { result ≤ 15 }
 {
@@ -92,11 +94,11 @@ impl Tree {
     ) -> Result<Tree, MakeFault>
         ensures same { IfOk result (λ m. ⟦<Tree as Machine>⟧.program m ≡ expansion (kind.Tree base depth id value) registers) }
         ensures starts { IfOk result (λ m. (s : List ℕ) → IsLawful (act_of (expansion (kind.Tree base depth id value) registers)) s → ⟦<Tree as Machine>⟧.rest m s ≡ act_of (expansion (kind.Tree base depth id value) registers) s) }
-        ensures limits { (result ≡ Err (record { code = 1 })) ↔ (use_fits (kind.Tree base depth id value) registers ≡ false) }
+        ensures limits { (result ≡ Err (record { code = PAST_LIMIT })) ↔ (use_fits (kind.Tree base depth id value) registers ≡ false) }
         ensures made { IsOk result ↔ IsTrue (use_fits (kind.Tree base depth id value) registers) }
     {
         if !Use::Tree(base, depth, id, value).fits(registers) {
-            return Err(MakeFault { code: 1 });
+            return Err(MakeFault { code: PAST_LIMIT });
         }
         let depth = depth as u8;
         let mut tree = Tree {

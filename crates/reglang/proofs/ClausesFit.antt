@@ -6,7 +6,7 @@ use Rattle.std.proofs.lemmas.Bool.{and_from}
 use Rattle.regmodel.specs.declared.clauses.Clause.{Clause}
 use Rattle.regmodel.specs.declared.clauses.Clause.TheVariants as clause
 use Rattle.reglang.specs.Contents.{clause_fits}
-use Rattle.reglang.specs.Forms.{◌⊛◌, alone, number_to, at_most_clause, within_clause, property_clause, clause_of, use_of_kind, form_of, formed, or_fault, line_of, read_line, kind_of, use_of, number_in, target_of, operand_of, expr_of, is_known, is_no_number}
+use Rattle.reglang.specs.Forms.{◌⊛◌, alone, number_to, at_most_clause, within_clause, property_clause, clause_of, use_of_kind, form_of, keyword_line, or_fault, line_of, read_line, kind_of, use_of, number_in, target_of, operand_of, expr_of, is_known, is_no_number}
 use Rattle.reglang.specs.Lines.{is_printable, words}
 use Rattle.reglang.specs.Words.{word_of}
 use Rattle.reglang.specs.declared.forms.Line.{Line}
@@ -164,25 +164,25 @@ tested true true result h = tt
 tested true false result h = h
 tested false bad result h = tt
 
-formed_fits : (key : Keyword) (ws : List Word) → IsReadFit (formed key ws)
-formed_fits key ws = tested (list_all is_known ws) (list_any is_no_number ws) (or_fault 4 (form_of key ws)) (or_fits 4 (form_of key ws) (form_fits key ws))
+keyword_line_fits : (key : Keyword) (ws : List Word) → IsReadFit (keyword_line key ws)
+keyword_line_fits key ws = tested (list_all is_known ws) (list_any is_no_number ws) (or_fault 4 (form_of key ws)) (or_fits 4 (form_of key ws) (form_fits key ws))
 
 begun_fits : (key : Keyword) (ws : List Word) → IsReadFit (line_of (word.Keyword key ∷ ws))
 begun_fits keyword.Check ws = check_is_fit (clause_of ws) (clause_is_fit ws)
-begun_fits keyword.Registers ws = formed_fits keyword.Registers ws
-begun_fits keyword.Process ws = formed_fits keyword.Process ws
-begun_fits keyword.End ws = formed_fits keyword.End ws
-begun_fits keyword.Set ws = formed_fits keyword.Set ws
-begun_fits keyword.Read ws = formed_fits keyword.Read ws
-begun_fits keyword.Write ws = formed_fits keyword.Write ws
-begun_fits keyword.If ws = formed_fits keyword.If ws
-begun_fits keyword.Else ws = formed_fits keyword.Else ws
-begun_fits keyword.Fi ws = formed_fits keyword.Fi ws
-begun_fits keyword.Repeat ws = formed_fits keyword.Repeat ws
-begun_fits keyword.Done ws = formed_fits keyword.Done ws
-begun_fits keyword.Emit ws = formed_fits keyword.Emit ws
-begun_fits keyword.Halt ws = formed_fits keyword.Halt ws
-begun_fits keyword.Use ws = formed_fits keyword.Use ws
+begun_fits keyword.Registers ws = keyword_line_fits keyword.Registers ws
+begun_fits keyword.Process ws = keyword_line_fits keyword.Process ws
+begun_fits keyword.End ws = keyword_line_fits keyword.End ws
+begun_fits keyword.Set ws = keyword_line_fits keyword.Set ws
+begun_fits keyword.Read ws = keyword_line_fits keyword.Read ws
+begun_fits keyword.Write ws = keyword_line_fits keyword.Write ws
+begun_fits keyword.If ws = keyword_line_fits keyword.If ws
+begun_fits keyword.Else ws = keyword_line_fits keyword.Else ws
+begun_fits keyword.Fi ws = keyword_line_fits keyword.Fi ws
+begun_fits keyword.Repeat ws = keyword_line_fits keyword.Repeat ws
+begun_fits keyword.Done ws = keyword_line_fits keyword.Done ws
+begun_fits keyword.Emit ws = keyword_line_fits keyword.Emit ws
+begun_fits keyword.Halt ws = keyword_line_fits keyword.Halt ws
+begun_fits keyword.Use ws = keyword_line_fits keyword.Use ws
 
 words_fit : (ws : List Word) → IsReadFit (line_of ws)
 words_fit [] = tt

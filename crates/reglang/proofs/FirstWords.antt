@@ -10,7 +10,7 @@ use Rattle.reglang.specs.declared.words.Property.TheVariants as property
 use Rattle.reglang.specs.declared.words.Word.{Word}
 use Rattle.reglang.specs.declared.words.Word.TheVariants as word
 use Rattle.std.specs.List.{list_all, list_any}
-use Rattle.reglang.specs.Forms.{kind_of, use_of_kind, form_of, property_clause, clause_of, is_known, is_no_number, or_fault, formed, line_of, read_line}
+use Rattle.reglang.specs.Forms.{kind_of, use_of_kind, form_of, property_clause, clause_of, is_known, is_no_number, or_fault, keyword_line, line_of, read_line}
 use Rattle.reglang.specs.Lines.{words, is_printable}
 use Rattle.reglang.specs.Words.{word_of}
 use Rattle.reglang.specs.declared.forms.Line.TheVariants.{Check}
@@ -82,8 +82,8 @@ clause_of-take (a ∷ b ∷ c ∷ d ∷ []) = refl
 clause_of-take (a ∷ b ∷ c ∷ d ∷ e ∷ []) = refl
 clause_of-take (a ∷ b ∷ c ∷ d ∷ e ∷ f ∷ more) = clause_of_long a b c d e f more
 
-pub formed_from : (key : Keyword) (more : List Word) → list_all is_known more ≡ true → list_any is_no_number more ≡ false → formed key more ≡ or_fault 4 (form_of key more)
-formed_from key more known numbers = rw (known, numbers) refl
+pub keyword_line_from : (key : Keyword) (more : List Word) → list_all is_known more ≡ true → list_any is_no_number more ≡ false → keyword_line key more ≡ or_fault 4 (form_of key more)
+keyword_line_from key more known numbers = rw (known, numbers) refl
 
 pub read_check : (line first rest : List ℕ) → is_printable line ≡ true → words line ≡ first ∷ words rest → word_of first ≡ word.Keyword keyword.Check → read_line line ≡ Ok (Some (Check (clause_of (map word_of (words rest)))))
 read_check line first rest printable cut key =

@@ -7,8 +7,8 @@ use Rattle.regmodel.specs.declared.programs.Expr.{Expr}
 use Rattle.regmodel.specs.Limits.{target_fits, operand_fits, expr_fits, operands_fit, statements, open_blocks, open_repeats}
 use Rattle.regmodel.specs.Program as program
 use Rattle.regmodel.specs.Program.{Block, Stop}
-use Rattle.reglang.specs.Contents.{Contents, Body, Text, Kind, IsBodyWithin, AreWithin, clause_fits}
-use Rattle.reglang.specs.Drafts.{Frame, First, Second, Turn, Reading, Empty, Between, Inside, Used, ◌⊕◌, turns, enter, enter_else, leave, leave_if, leave_repeat, take_line, take_read, BlockFits, FramesFit, statements_around, ContentsFit, InsideFits, UsedFits, ReadingFits}
+use Rattle.reglang.specs.Contents.{Contents, Body, Text, Kind, IsBodyWithin, IsSourceWithin, clause_fits}
+use Rattle.reglang.specs.Drafts.{Frame, First, Second, Turn, Reading, Empty, Between, Inside, Used, ◌⊕◌, turns, enter, enter_else, leave, leave_if, leave_repeat, take_line, take_if_said, BlockFits, FramesFit, statements_around, ContentsFit, InsideFits, UsedFits, ReadingFits}
 use Rattle.reglang.specs.Forms.{read_line}
 use Rattle.reglang.specs.Uses.{is_between, use_fits}
 use Rattle.reglang.specs.declared.forms.Line.{Line}
@@ -347,17 +347,17 @@ line_fits (Between before) l h k = between before l h k
 line_fits (Inside before frames block n) l h k = inside before frames block n l h
 line_fits (Used before kind) l h k = used before kind l h
 
-taken_fits : (reading : Reading) (read : Result (Option Line) ℕ) → ReadingFits reading → IsReadFit read → Fitting (take_read reading read)
+taken_fits : (reading : Reading) (read : Result (Option Line) ℕ) → ReadingFits reading → IsReadFit read → Fitting (take_if_said reading read)
 taken_fits reading (Ok (Some l)) h k = line_fits reading l h k
 taken_fits reading (Ok None) h k = h
 taken_fits reading (Err code) h k = tt
 
 -- what was taken is within the limits
-pub read_on_fits : (reading next : Reading) (bytes : List ℕ) → ReadingFits reading → take_read reading (read_line bytes) ≡ Ok next → ReadingFits next
+pub read_on_fits : (reading next : Reading) (bytes : List ℕ) → ReadingFits reading → take_if_said reading (read_line bytes) ≡ Ok next → ReadingFits next
 read_on_fits reading next bytes h e = subst Fitting e (taken_fits reading (read_line bytes) h (read_fits bytes))
 
 -- and so is what was read in the end
-pub end_fits : (before : Contents) → ContentsFit before → 0 < length before.processes → AreWithin before
+pub end_fits : (before : Contents) → ContentsFit before → 0 < length before.processes → IsSourceWithin before
 end_fits before h some = record {
   some_register = h.some_register;
   few_registers = h.few_registers;

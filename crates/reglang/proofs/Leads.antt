@@ -10,7 +10,7 @@ use Rattle.regmodel.specs.declared.programs.Expr.{Expr}
 use Rattle.regmodel.specs.Limits.{target_fits, operand_fits, expr_fits, operands_fit, statements, open_blocks, open_repeats}
 use Rattle.regmodel.specs.Program as program
 use Rattle.regmodel.specs.Program.{Block, Stop}
-use Rattle.reglang.specs.Contents.{Contents, Body, Text, Kind, IsBodyWithin, AreWithin}
+use Rattle.reglang.specs.Contents.{Contents, Body, Text, Kind, IsBodyWithin, IsSourceWithin}
 use Rattle.reglang.specs.Drafts.{Frame, First, Second, Turn, Reading, Empty, Between, Inside, Used, ◌⊕◌, turns, add, enter, take_line, BlockFits}
 use Rattle.reglang.specs.Grammar.{Begins, Then, BlockSays, ElseSays, BodySays, Part, Process, Check, PartSays, PartsSay, processes_in, clauses_in, LinesSay}
 use Rattle.reglang.specs.declared.forms.Line.{Line}
@@ -231,7 +231,7 @@ parts_lead (Check clause ∷ parts) before room lines t =
     ∙ ap (λ cs. Ok (Between (record before { processes = before.processes ++ processes_in parts; clauses = cs }))) (append_assoc before.clauses (clause ∷ []) (clauses_in parts)))
 
 -- the lines of a source within the limits lead to it
-pub source_leads : (source : Contents) (lines : List Line) → LinesSay source lines → AreWithin source → takes Empty lines ≡ Ok (Between source)
+pub source_leads : (source : Contents) (lines : List Line) → LinesSay source lines → IsSourceWithin source → takes Empty lines ≡ Ok (Between source)
 source_leads source lines h within =
     let start : Contents = record { registers = source.registers; processes = []; clauses = [] } in
     let some = within.some_register in

@@ -14,6 +14,6 @@ mod ReadAgain
 mod Says
 mod SourceTexts
 mod Spelled
-mod Standings
+mod Contexts
 mod Taken
 mod WordTexts

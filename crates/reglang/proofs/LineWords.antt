@@ -12,7 +12,7 @@ use Rattle.regmodel.specs.declared.clauses.Clause.{Clause}
 use Rattle.regmodel.specs.declared.clauses.Clause.TheVariants as clause
 use Rattle.regmodel.specs.Limits.{target_fits, operand_fits, expr_fits}
 use Rattle.reglang.specs.Contents.{clause_fits}
-use Rattle.reglang.specs.Forms.{target_of, operand_of, expr_of, clause_of, form_of, is_known, is_no_number, or_fault, formed, line_of}
+use Rattle.reglang.specs.Forms.{target_of, operand_of, expr_of, clause_of, form_of, is_known, is_no_number, or_fault, keyword_line, line_of}
 use Rattle.reglang.specs.Writing.{target_word, operand_word, expr_words, use_words, clause_words, later_words, line_words}
 use Rattle.reglang.specs.declared.uses.Use.{Use}
 use Rattle.reglang.specs.declared.uses.Use.TheVariants as use_line
@@ -21,7 +21,7 @@ use Rattle.reglang.specs.declared.words.Keyword.TheVariants as keyword
 use Rattle.reglang.specs.declared.words.Word.{Word}
 use Rattle.reglang.specs.declared.forms.Line.{Line}
 use Rattle.reglang.specs.declared.forms.Line.TheVariants as line
-use Rattle.reglang.proofs.FirstWords.{formed_from}
+use Rattle.reglang.proofs.FirstWords.{keyword_line_from}
 use Rattle.reglang.proofs.WordTexts.{word_fits}
 
 -- each number of a use line is at most 1000000000
@@ -124,8 +124,8 @@ all_numbers (w ∷ ws) h =
     let parts = and_parts (may_follow w) (list_all may_follow ws) h in
     no_number_or (is_no_number w) (list_any is_no_number ws) (and_parts (is_known w) (not (is_no_number w)) parts.0).1 (all_numbers ws parts.1)
 
-formed_again : (key : Keyword) (more : List Word) → list_all may_follow more ≡ true → formed key more ≡ or_fault 4 (form_of key more)
-formed_again key more h = formed_from key more (all_known more h) (all_numbers more h)
+keyword_line_again : (key : Keyword) (more : List Word) → list_all may_follow more ≡ true → keyword_line key more ≡ or_fault 4 (form_of key more)
+keyword_line_again key more h = keyword_line_from key more (all_known more h) (all_numbers more h)
 
 target_follows : (t : Target) → may_follow (target_word t) ≡ true
 target_follows (target.Var i) = refl
@@ -178,20 +178,20 @@ line_again (line.Registers n) h = refl
 line_again line.Process h = refl
 line_again line.End h = refl
 line_again (line.Set to value) h =
-    formed_again keyword.Set (target_word to ∷ expr_words value) (and_from (may_follow (target_word to)) (list_all may_follow (expr_words value)) (target_follows to) (expr_follows value))
+    keyword_line_again keyword.Set (target_word to ∷ expr_words value) (and_from (may_follow (target_word to)) (list_all may_follow (expr_words value)) (target_follows to) (expr_follows value))
     ∙ rw (target_again to, expr_again value) refl
 line_again (line.Read to from) h =
-    formed_again keyword.Read (target_word to ∷ operand_word from ∷ []) (and_from (may_follow (target_word to)) (may_follow (operand_word from) && true) (target_follows to) (and_from (may_follow (operand_word from)) true (operand_follows from) refl))
+    keyword_line_again keyword.Read (target_word to ∷ operand_word from ∷ []) (and_from (may_follow (target_word to)) (may_follow (operand_word from) && true) (target_follows to) (and_from (may_follow (operand_word from)) true (operand_follows from) refl))
     ∙ rw (target_again to, operand_again from) refl
 line_again (line.Write to value) h =
-    formed_again keyword.Write (operand_word to ∷ expr_words value) (and_from (may_follow (operand_word to)) (list_all may_follow (expr_words value)) (operand_follows to) (expr_follows value))
+    keyword_line_again keyword.Write (operand_word to ∷ expr_words value) (and_from (may_follow (operand_word to)) (list_all may_follow (expr_words value)) (operand_follows to) (expr_follows value))
     ∙ rw (operand_again to, expr_again value) refl
-line_again (line.If test) h = formed_again keyword.If (expr_words test) (expr_follows test) ∙ rw (expr_again test) refl
+line_again (line.If test) h = keyword_line_again keyword.If (expr_words test) (expr_follows test) ∙ rw (expr_again test) refl
 line_again line.Else h = refl
 line_again line.Fi h = refl
-line_again (line.Repeat count) h = formed_again keyword.Repeat (expr_words count) (expr_follows count) ∙ rw (expr_again count) refl
+line_again (line.Repeat count) h = keyword_line_again keyword.Repeat (expr_words count) (expr_follows count) ∙ rw (expr_again count) refl
 line_again line.Done h = refl
-line_again (line.Emit value) h = formed_again keyword.Emit (expr_words value) (expr_follows value) ∙ rw (expr_again value) refl
+line_again (line.Emit value) h = keyword_line_again keyword.Emit (expr_words value) (expr_follows value) ∙ rw (expr_again value) refl
 line_again line.Halt h = refl
 line_again (line.Use kind) h = use_again kind
 line_again (line.Check (Some clause)) h = ap (λ c. Ok (Some (line.Check c))) (clause_again clause h)

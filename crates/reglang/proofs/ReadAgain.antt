@@ -8,7 +8,7 @@ use Rattle.std.proofs.lemmas.List.Folds.{list_all-append}
 use Rattle.std.proofs.lemmas.List.Splits.{slice_split_at, slice_split_none}
 use Rattle.std.proofs.lemmas.List.Sums.{AllPass-from_list_all}
 use Rattle.reglang.specs.Forms.{line_of, read_line}
-use Rattle.reglang.specs.Grammar.{said, told}
+use Rattle.reglang.specs.Grammar.{lines_said, line_said}
 use Rattle.reglang.specs.Lines.{is_empty, is_printable, lines, without_empty_end, words}
 use Rattle.reglang.specs.Words.{word_of}
 use Rattle.reglang.specs.Writing.{line_text, line_words, lines_text, word_text, words_text}
@@ -64,8 +64,8 @@ words_again (w ∷ ws) h =
 abbrev may_stand : ℕ → Bool
 may_stand b = leb 32 b && leb b 126
 
-plain_stands : (b : ℕ) → is_plain b ≡ true → may_stand b ≡ true
-plain_stands b h =
+plain_context : (b : ℕ) → is_plain b ≡ true → may_stand b ≡ true
+plain_context b h =
     let parts = and_parts (leb 33 b) (leb b 126) h in
     let low = leb-true 33 b parts.0 in
     and_from (leb 32 b) (leb b 126) (le-leb 32 b (omega arith)) parts.1
@@ -74,7 +74,7 @@ plain_printable : (bs : List ℕ) → list_all is_plain bs ≡ true → is_print
 plain_printable [] h = refl
 plain_printable (b ∷ bs) h =
     let parts = and_parts (is_plain b) (list_all is_plain bs) h in
-    and_from (may_stand b) (is_printable bs) (plain_stands b parts.0) (plain_printable bs parts.1)
+    and_from (may_stand b) (is_printable bs) (plain_context b parts.0) (plain_printable bs parts.1)
 
 both_printable : (xs ys : List ℕ) → is_printable xs ≡ true → is_printable ys ≡ true → is_printable (xs ++ ys) ≡ true
 both_printable xs ys h k = list_all-append may_stand xs ys ∙ and_from (is_printable xs) (is_printable ys) h k
@@ -125,15 +125,15 @@ without_last (part ∷ next ∷ parts) = ap (λ rest. part ∷ rest) (without_la
 pub lines_cut : (ls : List Line) → list_all line_fits ls ≡ true → lines (lines_text ls) ≡ map line_text ls
 lines_cut ls h = ap without_empty_end (split_ended ls h) ∙ without_last (map line_text ls)
 
-told_again : (ls : List Line) → list_all line_fits ls ≡ true → said (map line_text ls) ≡ ls
-told_again [] h = refl
-told_again (l ∷ ls) h =
+each_said_again : (ls : List Line) → list_all line_fits ls ≡ true → lines_said (map line_text ls) ≡ ls
+each_said_again [] h = refl
+each_said_again (l ∷ ls) h =
     let parts = and_parts (line_fits l) (list_all line_fits ls) h in
-    ap (λ r. told r ++ said (map line_text ls)) (read_again l parts.0) ∙ ap (λ rest. l ∷ rest) (told_again ls parts.1)
+    ap (λ r. line_said r ++ lines_said (map line_text ls)) (read_again l parts.0) ∙ ap (λ rest. l ∷ rest) (each_said_again ls parts.1)
 
 -- what is said by lines that are written
-pub said_again : (ls : List Line) → list_all line_fits ls ≡ true → said (lines (lines_text ls)) ≡ ls
-said_again ls h = ap said (lines_cut ls h) ∙ told_again ls h
+pub lines_said_again : (ls : List Line) → list_all line_fits ls ≡ true → lines_said (lines (lines_text ls)) ≡ ls
+lines_said_again ls h = ap lines_said (lines_cut ls h) ∙ each_said_again ls h
 
 each_formed : (ls : List Line) → list_all line_fits ls ≡ true → AllByRecursion (λ line. IsOk (read_line line)) (map line_text ls)
 each_formed [] h = tt

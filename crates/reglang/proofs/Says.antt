@@ -8,9 +8,9 @@ use Rattle.regmodel.specs.declared.clauses.Clause.{Clause}
 use Rattle.regmodel.specs.Limits.{target_fits, operand_fits, expr_fits, statements}
 use Rattle.regmodel.specs.Program as program
 use Rattle.regmodel.specs.Program.{Block, Stop}
-use Rattle.reglang.specs.Contents.{Contents, Body, Text, Kind, AreWithin}
-use Rattle.reglang.specs.Drafts.{Frame, First, Second, Turn, Reading, Empty, Between, Inside, Used, ◌⊕◌, turns, enter, enter_else, leave, leave_if, leave_repeat, take_line, take_read, finished, read_from, faulty_at, goes_on, statements_around, ContentsFit, InsideFits, ReadingFits}
-use Rattle.reglang.specs.Grammar.{Begins, Then, BlockSays, Part, Process, Check, PartSays, PartsSay, processes_in, clauses_in, LinesSay, said, told}
+use Rattle.reglang.specs.Contents.{Contents, Body, Text, Kind, IsSourceWithin}
+use Rattle.reglang.specs.Drafts.{Frame, First, Second, Turn, Reading, Empty, Between, Inside, Used, ◌⊕◌, turns, enter, enter_else, leave, leave_if, leave_repeat, take_line, take_if_said, contents_at_end, read_from, faulty_at, goes_on, statements_around, ContentsFit, InsideFits, ReadingFits}
+use Rattle.reglang.specs.Grammar.{Begins, Then, BlockSays, Part, Process, Check, PartSays, PartsSay, processes_in, clauses_in, LinesSay, lines_said, line_said}
 use Rattle.reglang.specs.Uses.{is_between, use_fits}
 use Rattle.reglang.specs.declared.forms.Line.{Line}
 use Rattle.reglang.specs.declared.forms.Line.TheVariants as line
@@ -309,19 +309,19 @@ as_read : (reading : Reading) (l : Line) (result : Result Reading ℕ) → Keeps
 as_read reading l (Ok next) k = k
 as_read reading l (Err code) k = tt
 
-read_kept : (reading : Reading) (read : Result (Option Line) ℕ) → ReadingFits reading → KeepsRead reading (told read) (take_read reading read)
+read_kept : (reading : Reading) (read : Result (Option Line) ℕ) → ReadingFits reading → KeepsRead reading (line_said read) (take_if_said reading read)
 read_kept reading (Ok (Some l)) h = as_read reading l (take_line reading l) (line_kept reading l h)
 read_kept reading (Ok None) h = λ x s. subst (Says reading) (sym (append-nil x)) s
 read_kept reading (Err code) h = tt
 
-formed : (reading next : Reading) (read : Result (Option Line) ℕ) → take_read reading read ≡ Ok next → IsOk read
+formed : (reading next : Reading) (read : Result (Option Line) ℕ) → take_if_said reading read ≡ Ok next → IsOk read
 formed reading next (Ok l) e = refl
 formed reading next (Err code) e = absurd cc
 
 -- what a whole text comes to
 pub record Spelled (source : Contents) (before : List Line) (lines : List (List ℕ)) : Type 0 where
-  pub says : LinesSay source (before ++ said lines)
-  pub within : AreWithin source
+  pub says : LinesSay source (before ++ lines_said lines)
+  pub within : IsSourceWithin source
   pub formed : AllByRecursion (λ l. IsOk (read_line l)) lines
 
 spelled_between : (before : Contents) (n : ℕ) (x : List Line) (source : Contents) → ContentsFit before → LinesSay before x → (t : Bool) → nat_lt 0 (length before.processes) ≡ t → faulty_at (max 1 n) (if t then Ok before else Err 6) ≡ Ok source → Spelled source x []
@@ -329,12 +329,12 @@ spelled_between before n x source h s true t e =
     let same : before ≡ source = cc in
     record {
       says = subst (λ c. LinesSay c (x ++ [])) same (subst (LinesSay before) (sym (append-nil x)) s);
-      within = subst AreWithin same (end_fits before h (ltb-true 0 (length before.processes) t));
+      within = subst IsSourceWithin same (end_fits before h (ltb-true 0 (length before.processes) t));
       formed = tt;
     }
 spelled_between before n x source h s false t e = absurd cc
 
-spelled_end : (reading : Reading) (n : ℕ) (x : List Line) (source : Contents) → ReadingFits reading → Says reading x → faulty_at (max 1 n) (finished reading) ≡ Ok source → Spelled source x []
+spelled_end : (reading : Reading) (n : ℕ) (x : List Line) (source : Contents) → ReadingFits reading → Says reading x → faulty_at (max 1 n) (contents_at_end reading) ≡ Ok source → Spelled source x []
 spelled_end Empty n x source h s e = absurd cc
 spelled_end (Between before) n x source h s e = spelled_between before n x source h s (nat_lt 0 (length before.processes)) refl e
 spelled_end (Inside before frames block m) n x source h s e = absurd cc
@@ -342,13 +342,13 @@ spelled_end (Used before kind) n x source h s e = absurd cc
 
 spelled_on : (reading : Reading) (n : ℕ) (l : List ℕ) (lines : List (List ℕ)) (x : List Line) (source : Contents) →
     ((next : Reading) (y : List Line) → ReadingFits next → Says next y → read_from next (suc n) lines ≡ Ok source → Spelled source y lines) →
-    ReadingFits reading → Says reading x → (result : Result Reading ℕ) → take_read reading (read_line l) ≡ result →
+    ReadingFits reading → Says reading x → (result : Result Reading ℕ) → take_if_said reading (read_line l) ≡ result →
     goes_on (faulty_at (suc n) result) (λ next. read_from next (suc n) lines) ≡ Ok source → Spelled source x (l ∷ lines)
 spelled_on reading n l lines x source later h s (Ok next) t e =
-    let kept : KeepsRead reading (told (read_line l)) (Ok next) = subst (KeepsRead reading (told (read_line l))) t (read_kept reading (read_line l) h) in
-    let rest = later next (x ++ told (read_line l)) (read_on_fits reading next l h t) (kept x s) e in
+    let kept : KeepsRead reading (line_said (read_line l)) (Ok next) = subst (KeepsRead reading (line_said (read_line l))) t (read_kept reading (read_line l) h) in
+    let rest = later next (x ++ line_said (read_line l)) (read_on_fits reading next l h t) (kept x s) e in
     record {
-      says = subst (LinesSay source) (append_assoc x (told (read_line l)) (said lines)) rest.says;
+      says = subst (LinesSay source) (append_assoc x (line_said (read_line l)) (lines_said lines)) rest.says;
       within = rest.within;
       formed = (formed reading next (read_line l) t, rest.formed);
     }
@@ -358,4 +358,4 @@ spelled_on reading n l lines x source later h s (Err code) t e = absurd cc
 pub reads_spelled : (reading : Reading) (n : ℕ) (lines : List (List ℕ)) (x : List Line) (source : Contents) → ReadingFits reading → Says reading x → read_from reading n lines ≡ Ok source → Spelled source x lines
 reads_spelled reading n [] x source h s e = spelled_end reading n x source h s e
 reads_spelled reading n (l ∷ lines) x source h s e =
-    spelled_on reading n l lines x source (λ next y g t f. reads_spelled next (suc n) lines y source g t f) h s (take_read reading (read_line l)) refl e
+    spelled_on reading n l lines x source (λ next y g t f. reads_spelled next (suc n) lines y source g t f) h s (take_if_said reading (read_line l)) refl e

@@ -9,7 +9,7 @@ use Rattle.regmodel.specs.declared.clauses.Clause.{Clause}
 use Rattle.regmodel.specs.Limits.{expr_fits, operand_fits, operands_fit, target_fits}
 use Rattle.regmodel.specs.Program as program
 use Rattle.regmodel.specs.Program.{Block}
-use Rattle.reglang.specs.Contents.{AreWithin, Body, Contents, IsBodyWithin, Kind, Text, clause_fits}
+use Rattle.reglang.specs.Contents.{IsSourceWithin, Body, Contents, IsBodyWithin, Kind, Text, clause_fits}
 use Rattle.reglang.specs.Grammar.{BlockSays, BodySays, Check, ElseSays, LinesSay, Part, PartSays, PartsSay, Process, Spells, clauses_in, processes_in}
 use Rattle.reglang.specs.Uses.{is_between, is_mark, use_fits}
 use Rattle.reglang.specs.Writing.{block_lines, body_lines, check_line, else_lines, process_lines, source_lines, source_text}
@@ -18,7 +18,7 @@ use Rattle.reglang.specs.declared.uses.Use.TheVariants as use_line
 use Rattle.reglang.specs.declared.forms.Line.{Line}
 use Rattle.reglang.specs.declared.forms.Line.TheVariants as line
 use Rattle.reglang.proofs.Fitting.{between, fits}
-use Rattle.reglang.proofs.ReadAgain.{all_formed, said_again}
+use Rattle.reglang.proofs.ReadAgain.{all_formed, lines_said_again}
 use Rattle.reglang.proofs.LineWords.{line_fits, numbers_small}
 
 -- ---- what the lines say
@@ -213,7 +213,7 @@ checks_fit : (clauses : List Clause) → AllByRecursion (λ clause. clause_fits 
 checks_fit [] h = refl
 checks_fit (clause ∷ clauses) h = and_from (clause_fits clause) (list_all line_fits (map check_line clauses)) h.0 (checks_fit clauses h.1)
 
-lines_fit : (source : Contents) → AreWithin source → list_all line_fits (source_lines source) ≡ true
+lines_fit : (source : Contents) → IsSourceWithin source → list_all line_fits (source_lines source) ≡ true
 lines_fit source h =
     let few = h.few_registers in
     and_from (leb source.registers 1000000000) (list_all line_fits (flat_map process_lines source.processes ++ map check_line source.clauses))
@@ -222,11 +222,11 @@ lines_fit source h =
     (processes_fit source.registers source.processes (recursion_from_All (IsBodyWithin source.registers) source.processes h.processes))
     (checks_fit source.clauses (recursion_from_All (λ clause. clause_fits clause ≡ true) source.clauses h.clauses_fit)))
 
-pub text_spells : (source : Contents) → AreWithin source → Spells (source_text source) source
+pub text_spells : (source : Contents) → IsSourceWithin source → Spells (source_text source) source
 text_spells source h =
     let fit = lines_fit source h in
     record {
       formed = all_formed (source_lines source) fit;
-      says = subst (LinesSay source) (sym (said_again (source_lines source) fit)) (source_says source);
+      says = subst (LinesSay source) (sym (lines_said_again (source_lines source) fit)) (source_says source);
       within = h;
     }

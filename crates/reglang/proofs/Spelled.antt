@@ -5,39 +5,39 @@ use Rattle.std.specs.List.{AllByRecursion}
 use Rattle.std.proofs.lemmas.Bool.{lt-ltb}
 use Rattle.std.proofs.lemmas.List.Elements.{All-from_recursion, recursion_from_All}
 use Rattle.reglang.specs.Contents.{Contents}
-use Rattle.reglang.specs.Drafts.{Reading, Empty, Between, take_line, take_read, finished, read_from, faulty_at, goes_on, IsRefusalOf, IsFaultOf}
+use Rattle.reglang.specs.Drafts.{Reading, Empty, Between, take_line, take_if_said, contents_at_end, read_from, faulty_at, goes_on, IsRefusalOf, IsFaultOf}
 use Rattle.reglang.specs.Faults.{first_fault}
 use Rattle.reglang.specs.Forms.{read_line}
-use Rattle.reglang.specs.Grammar.{Spells, said, told}
+use Rattle.reglang.specs.Grammar.{Spells, lines_said, line_said}
 use Rattle.reglang.specs.Lines.{lines}
 use Rattle.reglang.specs.declared.forms.Line.{Line}
 use Rattle.reglang.specs.declared.reader.ReadFault.{ReadFault}
-use Rattle.reglang.specs.declared.refusals.Refusal.{Refusal}
-use Rattle.reglang.specs.declared.refusals.Refusal.TheVariants as refusal
+use Rattle.reglang.specs.declared.refusals.LineRefusal.{LineRefusal}
+use Rattle.reglang.specs.declared.refusals.LineRefusal.TheVariants as refusal
 use Rattle.reglang.proofs.Leads.{takes, then_take, source_leads}
 use Rattle.reglang.proofs.Says.{reads_spelled}
-use Rattle.reglang.proofs.Standings.{Agrees, reads_first}
+use Rattle.reglang.proofs.Contexts.{Agrees, reads_first}
 
 took : (last : Reading) (source : Contents) (n : ℕ) (rest : List (List ℕ)) (result : Result Reading ℕ) →
-    ((next : Reading) → takes next (said rest) ≡ Ok last → read_from next (suc n) rest ≡ Ok source) →
-    then_take result (λ next. takes next (said rest)) ≡ Ok last →
+    ((next : Reading) → takes next (lines_said rest) ≡ Ok last → read_from next (suc n) rest ≡ Ok source) →
+    then_take result (λ next. takes next (lines_said rest)) ≡ Ok last →
     goes_on (faulty_at (suc n) result) (λ next. read_from next (suc n) rest) ≡ Ok source
 took last source n rest (Ok next) later h = later next h
 took last source n rest (Err code) later h = absurd cc
 
 took_read : (reading last : Reading) (source : Contents) (n : ℕ) (rest : List (List ℕ)) (read : Result (Option Line) ℕ) →
-    ((next : Reading) → takes next (said rest) ≡ Ok last → read_from next (suc n) rest ≡ Ok source) →
-    IsOk read → takes reading (told read ++ said rest) ≡ Ok last →
-    goes_on (faulty_at (suc n) (take_read reading read)) (λ next. read_from next (suc n) rest) ≡ Ok source
+    ((next : Reading) → takes next (lines_said rest) ≡ Ok last → read_from next (suc n) rest ≡ Ok source) →
+    IsOk read → takes reading (line_said read ++ lines_said rest) ≡ Ok last →
+    goes_on (faulty_at (suc n) (take_if_said reading read)) (λ next. read_from next (suc n) rest) ≡ Ok source
 took_read reading last source n rest (Ok (Some l)) later formed h = took last source n rest (take_line reading l) later h
 took_read reading last source n rest (Ok None) later formed h = later reading h
 took_read reading last source n rest (Err code) later formed h = absurd cc
 
 -- lines that are taken one after another are read
-reads_taken : (reading last : Reading) (n : ℕ) (rest : List (List ℕ)) (source : Contents) → AllByRecursion (λ l. IsOk (read_line l)) rest → takes reading (said rest) ≡ Ok last → finished last ≡ Ok source → read_from reading n rest ≡ Ok source
+reads_taken : (reading last : Reading) (n : ℕ) (rest : List (List ℕ)) (source : Contents) → AllByRecursion (λ l. IsOk (read_line l)) rest → takes reading (lines_said rest) ≡ Ok last → contents_at_end last ≡ Ok source → read_from reading n rest ≡ Ok source
 reads_taken reading last n [] source formed h e =
     let same : reading ≡ last = cc in
-    ap (λ r. faulty_at (max 1 n) (finished r)) same ∙ ap (faulty_at (max 1 n)) e
+    ap (λ r. faulty_at (max 1 n) (contents_at_end r)) same ∙ ap (faulty_at (max 1 n)) e
 reads_taken reading last n (l ∷ rest) source formed h e =
     took_read reading last source n rest (read_line l) (λ next t. reads_taken next last (suc n) rest source formed.1 t e) formed.0 h
 
@@ -46,7 +46,7 @@ pub spelled_read : (text : List ℕ) (source : Contents) → Spells text source 
 spelled_read text source h =
     reads_taken Empty (Between source) 0 (lines text) source
     (recursion_from_All (λ l. IsOk (read_line l)) (lines text) h.formed)
-    (source_leads source (said (lines text)) h.says h.within)
+    (source_leads source (lines_said (lines text)) h.says h.within)
     (rw (lt-ltb 0 (length source.processes) h.within.some_process) refl)
 
 -- a text that is read as a source spells it
@@ -78,7 +78,7 @@ pub record IsLeft (text : List ℕ) (reading : Reading) (n : ℕ) (rest : List �
 pub record IsCut (rest line after : List ℕ) : Type 0 where
   pub cut : lines rest ≡ line ∷ lines after
 
-pub left_next : (text rest line after : List ℕ) (reading next : Reading) (n : ℕ) → IsLeft text reading n rest → IsCut rest line after → take_read reading (read_line line) ≡ Ok next → IsLeft text next (n + 1) after
+pub left_next : (text rest line after : List ℕ) (reading next : Reading) (n : ℕ) → IsLeft text reading n rest → IsCut rest line after → take_if_said reading (read_line line) ≡ Ok next → IsLeft text next (n + 1) after
 left_next text rest line after reading next n h c e = record {
   same =
       h.same ∙ (ap (read_from reading n) c.cut
@@ -86,12 +86,12 @@ left_next text rest line after reading next n h c e = record {
       ∙ ap (λ m. read_from next m (lines after)) (omega arith)));
 }
 
-pub left_refused : (text rest line after : List ℕ) (reading : Reading) (n : ℕ) (refusal : Refusal) (fault : ReadFault) → IsLeft text reading n rest → IsCut rest line after → IsRefusalOf (take_read reading (read_line line)) refusal → IsFaultOf (n + 1) refusal fault → fault.code ≢ 9 → read_from Empty 0 (lines text) ≡ Err fault
+pub left_refused : (text rest line after : List ℕ) (reading : Reading) (n : ℕ) (refusal : LineRefusal) (fault : ReadFault) → IsLeft text reading n rest → IsCut rest line after → IsRefusalOf (take_if_said reading (read_line line)) refusal → IsFaultOf (n + 1) refusal fault → fault.code ≢ 9 → read_from Empty 0 (lines text) ≡ Err fault
 left_refused text rest line after reading n (refusal.Fault code) fault h c e told other =
     h.same ∙ (ap (read_from reading n) c.cut
     ∙ (ap (λ r. goes_on (faulty_at (suc n) r) (λ next. read_from next (suc n) (lines after))) e
     ∙ (ap (λ m. Err (record { line = m; code = code })) (omega arith) ∙ ap Err (sym told))))
 left_refused text rest line after reading n refusal.Memory fault h c e told other = absurd (other (ap (λ f. f.code) told))
 
-pub left_ended : (text rest : List ℕ) (reading : Reading) (n : ℕ) (result : Result Contents ℕ) → IsLeft text reading n rest → lines rest ≡ [] → finished reading ≡ result → read_from Empty 0 (lines text) ≡ faulty_at (max 1 n) result
+pub left_ended : (text rest : List ℕ) (reading : Reading) (n : ℕ) (result : Result Contents ℕ) → IsLeft text reading n rest → lines rest ≡ [] → contents_at_end reading ≡ result → read_from Empty 0 (lines text) ≡ faulty_at (max 1 n) result
 left_ended text rest reading n result h none e = h.same ∙ (ap (read_from reading n) none ∙ ap (faulty_at (max 1 n)) e)

@@ -13,14 +13,14 @@ use Rattle.reglang.specs.Drafts.{Frame, First, Second, Turn, Inside, Reading, An
 use Rattle.reglang.proofs.Frames.{turns-held}
 use Rattle.reglang.specs.declared.draft.Draft.{Draft}
 use Rattle.reglang.specs.declared.open_process.Open.{Open}
-use Rattle.reglang.specs.declared.refusals.Refusal.{Refusal}
-use Rattle.reglang.specs.declared.refusals.Refusal.TheVariants as refusal
+use Rattle.reglang.specs.declared.refusals.LineRefusal.{LineRefusal}
+use Rattle.reglang.specs.declared.refusals.LineRefusal.TheVariants as refusal
 
 pub added : (before : Contents) (frames : List Frame) (block : Block) (n : ℕ) (fits : Bool) (statement next : Block) → nat_lt n 200 ≡ true → fits ≡ true → next ≡ block ⊕ statement → add before frames block n fits statement ≡ Ok (Inside before frames next (n + 1))
 added before frames block n fits statement next room h told = rw (room, h, told) (ap (λ m. Ok (Inside before frames (block ⊕ statement) m)) (omega arith))
 
 -- an answer that only memory may refuse
-pub answered : (expected : Result Reading ℕ) (next : Reading) (result : Result Draft Refusal) → IfOk result (λ draft. reading_of draft ≡ next) → IfErr result (λ r. r ≡ refusal.Memory) → expected ≡ Ok next → Answers expected result
+pub answered : (expected : Result Reading ℕ) (next : Reading) (result : Result Draft LineRefusal) → IfOk result (λ draft. reading_of draft ≡ next) → IfErr result (λ r. r ≡ refusal.Memory) → expected ≡ Ok next → Answers expected result
 answered expected next (Ok draft) ok err e = e ∙ ap Ok (sym ok)
 answered expected next (Err refusal.Memory) ok err e = tt
 answered expected next (Err (refusal.Fault code)) ok err e = absurd cc

@@ -10,8 +10,9 @@ use Rattle.std.proofs.lemmas.Str.Parse.{digit_from_value}
 use Rattle.regmodel.specs.declared.programs.Op.{Op}
 use Rattle.regmodel.specs.declared.programs.Op.TheVariants as op
 use Rattle.reglang.specs.Lines.{is_empty}
-use Rattle.reglang.specs.Words.{is_digit, is_number, up_to_limit, number_of, below, variable_of, before_bracket, in_brackets, cell_or, cell_or_other, cell_word, variable_or, number_word, value_word, keywords, operators, kinds, properties, spelled_in, word_of}
-use Rattle.reglang.specs.Writing.{keyword_text, operator_text, kind_text, property_text, word_text}
+use Rattle.reglang.specs.Words.{is_digit, is_number, up_to_limit, number_of, only_below, variable_of, before_bracket, in_brackets, cell_or, cell_or_other, cell_word, variable_or, number_word, value_word, keywords, operators, kinds, properties, spelled_in, word_of}
+use Rattle.reglang.specs.Spelling.{keyword_text, operator_text, kind_text, property_text}
+use Rattle.reglang.specs.Writing.{word_text}
 use Rattle.reglang.specs.declared.words.Keyword.{Keyword}
 use Rattle.reglang.specs.declared.words.Keyword.TheVariants as keyword
 use Rattle.reglang.specs.declared.words.Kind.{Kind}
@@ -113,8 +114,8 @@ number_at n (b ∷ bs) h e =
 
 -- ---- variables and cells
 
-index_below : (limit i : ℕ) → i < limit → i ≤ 1000000000 → below limit (number_of (decimal i)) ≡ Some i
-index_below limit i h fits = ap (below limit) (number_again i fits) ∙ cond-true _ (Some i) None (lt-ltb i limit h)
+index_below : (limit i : ℕ) → i < limit → i ≤ 1000000000 → only_below limit (number_of (decimal i)) ≡ Some i
+index_below limit i h fits = ap (only_below limit) (number_again i fits) ∙ cond-true _ (Some i) None (lt-ltb i limit h)
 
 variable_again : (i : ℕ) → i < 16 → variable_of (118 ∷ decimal i) ≡ Some i
 variable_again i h = index_below 16 i h (omega arith)

@@ -2,6 +2,7 @@
 use Rattle.std.specs.Prelude.{◌≡◌, ℕ, ◌<◌, ◌≤◌, ◌==◌, ◌&&◌, Bool, true, List, length, map, All, nat_le}
 use Rattle.regmodel.specs.declared.clauses.Clause.{Clause}
 use Rattle.regmodel.specs.declared.clauses.Clause.TheVariants as clause
+use Rattle.regmodel.specs.declared.limits.TheConstants.{GREATEST_VALUE, MOST_CHECKS, MOST_PROCESSES, MOST_REGISTERS}
 use Rattle.regmodel.specs.Limits.{IsWithin}
 use Rattle.regmodel.specs.Program.{Block, Program, block_of}
 use Rattle.reglang.specs.Expansions.{expansion}
@@ -42,18 +43,18 @@ IsBodyWithin registers (Kind kind) = use_fits kind registers ≡ true
 
 -- the numbers of a clause are within their limits
 abbrev pub clause_fits : Clause → Bool
-clause_fits (clause.AtMost name count) = nat_le name 1000000000 && nat_le count 8
-clause_fits (clause.Within low high) = nat_le low 1000000000 && nat_le high 1000000000
+clause_fits (clause.AtMost name count) = nat_le name GREATEST_VALUE && nat_le count MOST_PROCESSES
+clause_fits (clause.Within low high) = nat_le low GREATEST_VALUE && nat_le high GREATEST_VALUE
 clause_fits _ = true
 
 -- a source within the limits
-pub record AreWithin (source : Contents) : Type 0 where
+pub record IsSourceWithin (source : Contents) : Type 0 where
   pub some_register : 0 < source.registers
-  pub few_registers : source.registers ≤ 64
+  pub few_registers : source.registers ≤ MOST_REGISTERS
   pub some_process : 0 < length source.processes
-  pub few_processes : length source.processes ≤ 8
+  pub few_processes : length source.processes ≤ MOST_PROCESSES
   pub processes : All (IsBodyWithin source.registers) source.processes
-  pub few_clauses : length source.clauses ≤ 16
+  pub few_clauses : length source.clauses ≤ MOST_CHECKS
   pub clauses_fit : All (λ clause. clause_fits clause ≡ true) source.clauses
 
 -- a process that is at home over so many registers
@@ -61,6 +62,7 @@ abbrev pub is_over : ℕ → Process → Bool
 is_over registers (process.Text prog) = prog.registers == registers
 is_over registers (process.Use kind) = use_fits kind registers
 
+-- what a process runs, however it lies in memory
 abbrev pub body_of : Process → Body
 body_of (process.Text prog) = Text (block_of prog.body.items)
 body_of (process.Use kind) = Kind kind

@@ -1,7 +1,9 @@
--- Reading by whole values: what was read so far, and what one line more makes of it.
+-- Inside the crate: reading by whole values: what was read so far, and what one line more makes of it.
 use Rattle.std.specs.Prelude.{◌≡◌, ℕ, suc, ◌+◌, ◌<◌, ◌≤◌, Bool, true, false, ◌&&◌, if◌then◌else◌, List, [], ◌∷◌, ◌++◌, length, map, reverse, max, All, Option, Some, None, Result, Ok, Err, MatchResult, nat_lt}
 use Rattle.regmodel.specs.declared.clauses.Clause.{Clause}
 use Rattle.regmodel.specs.declared.programs.Expr.{Expr}
+use Rattle.regmodel.specs.declared.limits.TheConstants.{MOST_CHECKS, MOST_OPEN_BLOCKS, MOST_OPEN_REPEATS, MOST_PROCESSES, MOST_REGISTERS, MOST_STATEMENTS}
+use Rattle.reglang.specs.declared.refusals.TheConstants.{MISPLACED, NO_CLAUSE, NO_MEMORY, NO_REGISTERS, PAST_LIMIT}
 use Rattle.regmodel.specs.Limits.{target_fits, operand_fits, expr_fits, operands_fit, statements, open_blocks, open_repeats}
 use Rattle.regmodel.specs.Program as program
 use Rattle.regmodel.specs.Program.{Block, Stop, block_of}
@@ -15,8 +17,8 @@ use Rattle.reglang.specs.declared.open_process.Open.TheVariants as opened
 use Rattle.reglang.specs.declared.open_process.OpenProcess.{OpenProcess}
 use Rattle.reglang.specs.declared.draft.Draft.{Draft}
 use Rattle.reglang.specs.declared.draft.Draft.TheVariants as draft
-use Rattle.reglang.specs.declared.refusals.Refusal.{Refusal}
-use Rattle.reglang.specs.declared.refusals.Refusal.TheVariants as refusal
+use Rattle.reglang.specs.declared.refusals.LineRefusal.{LineRefusal}
+use Rattle.reglang.specs.declared.refusals.LineRefusal.TheVariants as refusal
 use Rattle.reglang.specs.declared.forms.Line.{Line}
 use Rattle.reglang.specs.declared.forms.Line.TheVariants as line
 use Rattle.reglang.specs.declared.reader.ReadFault.{ReadFault}
@@ -40,6 +42,7 @@ pub data Frame : Type 0 where
   Second : (test : Expr) (first outer : Block) → Frame
   Turn : (count : Expr) (outer : Block) → Frame
 
+-- which kind of block it is
 abbrev pub opened_of : Frame → Opened
 opened_of (First test outer) = If
 opened_of (Second test first outer) = Else
@@ -59,49 +62,56 @@ pub data Reading : Type 0 where
 
 -- one statement more
 abbrev pub add : Contents → List Frame → Block → ℕ → Bool → Block → Result Reading ℕ
-add before frames block n fits statement = if nat_lt n 200 && fits then Ok (Inside before frames (block ⊕ statement) (suc n)) else Err 6
+add before frames block n fits statement = if nat_lt n MOST_STATEMENTS && fits then Ok (Inside before frames (block ⊕ statement) (suc n)) else Err PAST_LIMIT
 
 -- one open block more
 abbrev pub enter : Contents → Frame → List Frame → ℕ → Bool → Result Reading ℕ
-enter before frame frames n fits = if nat_lt n 200 && fits && nat_lt (length frames) 16 then Ok (Inside before (frame ∷ frames) Stop (suc n)) else Err 6
+enter before frame frames n fits = if nat_lt n MOST_STATEMENTS && fits && nat_lt (length frames) MOST_OPEN_BLOCKS then Ok (Inside before (frame ∷ frames) Stop (suc n)) else Err PAST_LIMIT
 
+-- the `else` of the innermost block, an `if` without one
 abbrev pub enter_else : Contents → List Frame → Block → ℕ → Result Reading ℕ
 enter_else before (First test outer ∷ frames) block n = Ok (Inside before (Second test block outer ∷ frames) Stop n)
-enter_else before frames block n = Err 5
+enter_else before frames block n = Err MISPLACED
 
+-- the `fi` of the innermost block, an `if`, which is now a statement of the block around it
 abbrev pub leave_if : Contents → List Frame → Block → ℕ → Result Reading ℕ
 leave_if before (First test outer ∷ frames) block n = Ok (Inside before frames (outer ⊕ program.If test block Stop Stop) n)
 leave_if before (Second test first outer ∷ frames) block n = Ok (Inside before frames (outer ⊕ program.If test first block Stop) n)
-leave_if before frames block n = Err 5
+leave_if before frames block n = Err MISPLACED
 
+-- the `done` of the innermost block, a `repeat`
 abbrev pub leave_repeat : Contents → List Frame → Block → ℕ → Result Reading ℕ
 leave_repeat before (Turn count outer ∷ frames) block n = Ok (Inside before frames (outer ⊕ program.Repeat count block Stop) n)
-leave_repeat before frames block n = Err 5
+leave_repeat before frames block n = Err MISPLACED
 
+-- the `end` of a process without open blocks
 abbrev pub leave : Contents → List Frame → Block → Result Reading ℕ
 leave before [] block = Ok (Between (record before { processes = before.processes ++ Text block ∷ [] }))
-leave before (frame ∷ frames) block = Err 5
+leave before (frame ∷ frames) block = Err MISPLACED
 
 -- a use line, which stands alone
 abbrev pub stand_for : Contents → ℕ → Use → Result Reading ℕ
-stand_for before n kind = if nat_lt 0 n then Err 5 else (if use_fits kind before.registers then Ok (Used before kind) else Err 6)
+stand_for before n kind = if nat_lt 0 n then Err MISPLACED else (if use_fits kind before.registers then Ok (Used before kind) else Err PAST_LIMIT)
 
+-- one clause more
 abbrev pub add_clause : Contents → Option Clause → Result Reading ℕ
-add_clause before (Some clause) = if nat_lt (length before.clauses) 16 then Ok (Between (record before { clauses = before.clauses ++ clause ∷ [] })) else Err 6
-add_clause before None = if nat_lt (length before.clauses) 16 then Err 8 else Err 6
+add_clause before (Some clause) = if nat_lt (length before.clauses) MOST_CHECKS then Ok (Between (record before { clauses = before.clauses ++ clause ∷ [] })) else Err PAST_LIMIT
+add_clause before None = if nat_lt (length before.clauses) MOST_CHECKS then Err NO_CLAUSE else Err PAST_LIMIT
 
 -- the first line, one between processes, one of a process, and one after a use line; or the code of its fault
 abbrev pub begin : Line → Result Reading ℕ
-begin (line.Registers n) = if is_between 1 64 n then Ok (Between (record { registers = n; processes = []; clauses = [] })) else Err 6
-begin line.Process = Err 7
-begin (line.Check clause) = Err 7
-begin _ = Err 5
+begin (line.Registers n) = if is_between 1 MOST_REGISTERS n then Ok (Between (record { registers = n; processes = []; clauses = [] })) else Err PAST_LIMIT
+begin line.Process = Err NO_REGISTERS
+begin (line.Check clause) = Err NO_REGISTERS
+begin _ = Err MISPLACED
 
+-- a line between processes
 abbrev pub take_between : Contents → Line → Result Reading ℕ
-take_between before line.Process = if nat_lt (length before.processes) 8 then Ok (Inside before [] Stop 0) else Err 6
+take_between before line.Process = if nat_lt (length before.processes) MOST_PROCESSES then Ok (Inside before [] Stop 0) else Err PAST_LIMIT
 take_between before (line.Check clause) = add_clause before clause
-take_between before _ = Err 5
+take_between before _ = Err MISPLACED
 
+-- a line of a process
 abbrev pub take_inside : Contents → List Frame → Block → ℕ → Line → Result Reading ℕ
 take_inside before frames block n (line.Set to value) = add before frames block n (target_fits to && expr_fits value) (program.Assign to value Stop)
 take_inside before frames block n (line.Read to from) = add before frames block n (target_fits to && operand_fits from) (program.Read to from Stop)
@@ -109,17 +119,18 @@ take_inside before frames block n (line.Write to value) = add before frames bloc
 take_inside before frames block n (line.Emit value) = add before frames block n (expr_fits value) (program.Emit value Stop)
 take_inside before frames block n line.Halt = add before frames block n true (program.Halt Stop)
 take_inside before frames block n (line.If test) = enter before (First test block) frames n (expr_fits test)
-take_inside before frames block n (line.Repeat count) = enter before (Turn count block) frames n (expr_fits count && nat_lt (turns frames) 3)
+take_inside before frames block n (line.Repeat count) = enter before (Turn count block) frames n (expr_fits count && nat_lt (turns frames) MOST_OPEN_REPEATS)
 take_inside before frames block n line.Else = enter_else before frames block n
 take_inside before frames block n line.Fi = leave_if before frames block n
 take_inside before frames block n line.Done = leave_repeat before frames block n
 take_inside before frames block n line.End = leave before frames block
 take_inside before frames block n (line.Use kind) = stand_for before n kind
-take_inside before frames block n _ = Err 5
+take_inside before frames block n _ = Err MISPLACED
 
+-- a line after a use line
 abbrev pub take_used : Contents → Use → Line → Result Reading ℕ
 take_used before kind line.End = Ok (Between (record before { processes = before.processes ++ Kind kind ∷ [] }))
-take_used before kind _ = Err 5
+take_used before kind _ = Err MISPLACED
 
 -- what one line more makes of what was read, or the code of its fault
 abbrev pub take_line : Reading → Line → Result Reading ℕ
@@ -128,38 +139,41 @@ take_line (Between before) line = take_between before line
 take_line (Inside before frames block n) line = take_inside before frames block n line
 take_line (Used before kind) line = take_used before kind line
 
-abbrev pub take_read : Reading → Result (Option Line) ℕ → Result Reading ℕ
-take_read reading (Ok (Some line)) = take_line reading line
-take_read reading (Ok None) = Ok reading
-take_read reading (Err code) = Err code
+-- takes what a line of the text says, if it says something; or keeps the code of its fault
+abbrev pub take_if_said : Reading → Result (Option Line) ℕ → Result Reading ℕ
+take_if_said reading (Ok (Some line)) = take_line reading line
+take_if_said reading (Ok None) = Ok reading
+take_if_said reading (Err code) = Err code
 
 -- what was read, at the end of a text; or the code of its fault
-abbrev pub finished : Reading → Result Contents ℕ
-finished Empty = Err 7
-finished (Between before) = if nat_lt 0 (length before.processes) then Ok before else Err 6
-finished (Inside before frames block n) = Err 5
-finished (Used before kind) = Err 5
+abbrev pub contents_at_end : Reading → Result Contents ℕ
+contents_at_end Empty = Err NO_REGISTERS
+contents_at_end (Between before) = if nat_lt 0 (length before.processes) then Ok before else Err PAST_LIMIT
+contents_at_end (Inside before frames block n) = Err MISPLACED
+contents_at_end (Used before kind) = Err MISPLACED
 
+-- a result whose fault is on this line
 abbrev pub faulty_at : {A : Type 0} → ℕ → Result A ℕ → Result A ReadFault
 faulty_at number (Ok x) = Ok x
 faulty_at number (Err code) = Err (record { line = number; code = code })
 
+-- goes on with a value, or keeps the fault
 abbrev pub goes_on : {A B : Type 0} → Result A ReadFault → (A → Result B ReadFault) → Result B ReadFault
 goes_on (Ok x) f = f x
 goes_on (Err fault) f = Err fault
 
 -- what a text makes of what was read, where so many lines came before
 abbrev pub read_from : Reading → ℕ → List (List ℕ) → Result Contents ReadFault
-read_from reading n [] = faulty_at (max 1 n) (finished reading)
-read_from reading n (line ∷ lines) = goes_on (faulty_at (suc n) (take_read reading (read_line line))) (λ next. read_from next (suc n) lines)
+read_from reading n [] = faulty_at (max 1 n) (contents_at_end reading)
+read_from reading n (line ∷ lines) = goes_on (faulty_at (suc n) (take_if_said reading (read_line line))) (λ next. read_from next (suc n) lines)
 
 -- ---- what is known of what was read
 
 -- a block within the limits, where so many blocks and so many repeats are open around it
 pub record BlockFits (blocks repeats : ℕ) (block : Block) : Type 0 where
   pub operands : operands_fit block ≡ true
-  pub depth : open_blocks block + blocks ≤ 16
-  pub turning : open_repeats block + repeats ≤ 3
+  pub depth : open_blocks block + blocks ≤ MOST_OPEN_BLOCKS
+  pub turning : open_repeats block + repeats ≤ MOST_OPEN_REPEATS
 
 -- open blocks, and the statements of the innermost
 abbrev pub FramesFit : List Frame → Block → Type 0
@@ -178,25 +192,27 @@ statements_around (Turn count outer ∷ frames) = suc (statements outer + statem
 -- whole processes and checks within the limits
 pub record ContentsFit (before : Contents) : Type 0 where
   pub some_register : 0 < before.registers
-  pub few_registers : before.registers ≤ 64
-  pub few_processes : length before.processes ≤ 8
+  pub few_registers : before.registers ≤ MOST_REGISTERS
+  pub few_processes : length before.processes ≤ MOST_PROCESSES
   pub processes : All (IsBodyWithin before.registers) before.processes
-  pub few_clauses : length before.clauses ≤ 16
+  pub few_clauses : length before.clauses ≤ MOST_CHECKS
   pub clauses_fit : All (λ clause. clause_fits clause ≡ true) before.clauses
 
 -- a process so far within the limits
 pub record InsideFits (before : Contents) (frames : List Frame) (block : Block) (n : ℕ) : Type 0 where
   pub contents : ContentsFit before
-  pub room : length before.processes < 8
+  pub room : length before.processes < MOST_PROCESSES
   pub nested : FramesFit frames block
   pub count : n ≡ statements block + statements_around frames
-  pub few : n ≤ 200
+  pub few : n ≤ MOST_STATEMENTS
 
+-- a process that is a use line, within the limits
 pub record UsedFits (before : Contents) (kind : Use) : Type 0 where
   pub contents : ContentsFit before
-  pub room : length before.processes < 8
+  pub room : length before.processes < MOST_PROCESSES
   pub fits : use_fits kind before.registers ≡ true
 
+-- what was read so far is within the limits
 abbrev pub ReadingFits : Reading → Type 0
 ReadingFits Empty = Unit {0}
 ReadingFits (Between before) = ContentsFit before
@@ -205,14 +221,17 @@ ReadingFits (Used before kind) = UsedFits before kind
 
 -- ---- what the reader holds, however it lies in memory
 
+-- whole processes and checks
 abbrev pub contents_before : Parts → Contents
 contents_before parts = record { registers = parts.registers; processes = map body_of parts.processes.items; clauses = parts.clauses.items }
 
+-- one open block
 abbrev pub frame_of : Open → Frame
 frame_of (opened.First test outer) = First test (block_of outer.items)
 frame_of (opened.Second test first outer) = Second test (block_of first.items) (block_of outer.items)
 frame_of (opened.Turn count outer) = Turn count (block_of outer.items)
 
+-- open blocks, the innermost first; in memory it is the last
 abbrev pub frames_of : List Open → List Frame
 frames_of opens = map frame_of (reverse opens)
 
@@ -222,24 +241,27 @@ is_turn (opened.First test outer) = false
 is_turn (opened.Second test first outer) = false
 is_turn (opened.Turn count outer) = true
 
+-- an open process
 abbrev pub inside_of : OpenProcess → Reading
 inside_of process = Inside (contents_before process.before) (frames_of process.blocks.items) (block_of process.block.items) process.statements
 
+-- what was read so far
 abbrev pub reading_of : Draft → Reading
 reading_of draft.Empty = Empty
 reading_of (draft.Between parts) = Between (contents_before parts)
 reading_of (draft.Inside process) = inside_of process
 reading_of (draft.Used parts kind) = Used (contents_before parts) kind
 
-abbrev pub IsRefusalOf : Result Reading ℕ → Refusal → Type 0
+-- the refusal has the code that is expected, unless it is for memory
+abbrev pub IsRefusalOf : Result Reading ℕ → LineRefusal → Type 0
 IsRefusalOf expected (refusal.Fault code) = expected ≡ Err code
 IsRefusalOf expected refusal.Memory = Unit {0}
 
--- the fault of a line that was refused; 9 stands for memory
-abbrev pub IsFaultOf : ℕ → Refusal → ReadFault → Type 0
+-- the fault of a line that was refused; its own stands for memory
+abbrev pub IsFaultOf : ℕ → LineRefusal → ReadFault → Type 0
 IsFaultOf number (refusal.Fault code) fault = fault ≡ record { line = number; code = code }
-IsFaultOf number refusal.Memory fault = fault ≡ record { line = number; code = 9 }
+IsFaultOf number refusal.Memory fault = fault ≡ record { line = number; code = NO_MEMORY }
 
 -- the answer is what is expected, unless memory was refused
-abbrev pub Answers : Result Reading ℕ → Result Draft Refusal → Type 0
+abbrev pub Answers : Result Reading ℕ → Result Draft LineRefusal → Type 0
 Answers expected result = MatchResult result (λ draft. expected ≡ Ok (reading_of draft)) (IsRefusalOf expected)

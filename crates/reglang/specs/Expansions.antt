@@ -1,5 +1,6 @@
 -- The programs that `use` lines stand for. The numbers of a line go into its program as literals.
 use Rattle.std.specs.Prelude.{ℕ, ◌+◌, ◌-◌, ◌*◌, ◌^◌}
+use Rattle.regmodel.specs.declared.limits.TheConstants.{MOST_TURNS}
 use Rattle.regmodel.specs.declared.programs.Target.TheVariants as target
 use Rattle.regmodel.specs.declared.programs.Operand.{Operand}
 use Rattle.regmodel.specs.declared.programs.Operand.TheVariants.{Number, Var, CellOf}
@@ -229,11 +230,11 @@ name_round base slots slot =
     set 0 (One (Var 4)) ▸
     Stop
 
--- rounds until no other slot holds the proposal, 99 at most
+-- rounds until no other slot holds the proposal, or there were as many as a `repeat` has
 abbrev pub name_body : ℕ → ℕ → ℕ → Block
 name_body base slots slot =
     set 0 (One (Number 1)) ▸
-    Repeat (One (Number 99)) (name_round base slots slot) ▸
+    Repeat (One (Number MOST_TURNS)) (name_round base slots slot) ▸
     Stop
 
 -- ---- each kind over so many registers, its numbers in the order of the use line
@@ -250,7 +251,7 @@ grid_program base side id registers = record { registers = registers; body = gri
 abbrev pub tree_program : ℕ → ℕ → ℕ → ℕ → ℕ → Program
 tree_program base depth id value registers = record { registers = registers; body = tree_body base depth id value }
 
--- a choice of names
+-- a renaming
 abbrev pub name_program : ℕ → ℕ → ℕ → ℕ → Program
 name_program base slots slot registers = record { registers = registers; body = name_body base slots slot }
 

@@ -1,9 +1,11 @@
 -- The first fault of a text.
 use Rattle.std.specs.Prelude.{ℕ, suc, Bool, true, false, not, ◌&&◌, if◌then◌else◌, List, [], ◌∷◌, ◌++◌, length, max, Option, Some, None, is_some, is_none, unwrap_or, option_map, Result, Ok, Err, nat_lt}
+use Rattle.regmodel.specs.declared.limits.TheConstants.{MOST_CHECKS, MOST_OPEN_BLOCKS, MOST_OPEN_REPEATS, MOST_PROCESSES, MOST_REGISTERS, MOST_STATEMENTS}
+use Rattle.reglang.specs.declared.refusals.TheConstants.{MISPLACED, NO_CLAUSE, NO_REGISTERS, PAST_LIMIT}
 use Rattle.regmodel.specs.Limits.{target_fits, operand_fits, expr_fits}
 use Rattle.reglang.specs.Lines.{lines}
 use Rattle.reglang.specs.Forms.{read_line}
-use Rattle.reglang.specs.Grammar.{said}
+use Rattle.reglang.specs.Grammar.{lines_said}
 use Rattle.reglang.specs.Uses.{is_between, use_fits}
 use Rattle.reglang.specs.declared.forms.Line.{Line}
 use Rattle.reglang.specs.declared.forms.Line.TheVariants as line
@@ -24,7 +26,7 @@ pub data Place : Type 0 where
   Used : Place
 
 -- how many registers there are, where it was told; the processes and the checks so far; and the place
-pub record Standing : Type 0 where
+pub record Context : Type 0 where
   pub registers : Option ℕ
   pub processes : ℕ
   pub checks : ℕ
@@ -40,6 +42,7 @@ abbrev pub without_innermost : List Opened → List Opened
 without_innermost [] = []
 without_innermost (block ∷ outer) = outer
 
+-- the place after a line that was taken at one
 abbrev pub place_after : Line → Place → Place
 place_after line.Process place = Inside [] 0
 place_after line.End place = Outside
@@ -56,52 +59,58 @@ place_after (line.Emit value) (Inside opened n) = Inside opened (suc n)
 place_after line.Halt (Inside opened n) = Inside opened (suc n)
 place_after _ place = place
 
+-- the number of registers after a line
 abbrev pub registers_after : Line → Option ℕ → Option ℕ
 registers_after (line.Registers n) registers = Some n
 registers_after _ registers = registers
 
+-- the number of processes after a line
 abbrev pub processes_after : Line → ℕ → ℕ
 processes_after line.Process n = suc n
 processes_after _ n = n
 
+-- the number of checks after a line
 abbrev pub checks_after : Line → ℕ → ℕ
 checks_after (line.Check clause) n = suc n
 checks_after _ n = n
 
 -- after one line more
-abbrev pub stands_after : Line → Standing → Standing
-stands_after line standing = record {
-  registers = registers_after line standing.registers;
-  processes = processes_after line standing.processes;
-  checks = checks_after line standing.checks;
-  place = place_after line standing.place;
+abbrev pub context_after_line : Line → Context → Context
+context_after_line line context = record {
+  registers = registers_after line context.registers;
+  processes = processes_after line context.processes;
+  checks = checks_after line context.checks;
+  place = place_after line context.place;
 }
 
 -- before any line
-abbrev pub at_start : Standing
+abbrev pub at_start : Context
 at_start = record { registers = None; processes = 0; checks = 0; place = Outside }
 
 -- after lines that were taken from there on
-abbrev pub stands_after_all : List Line → Standing → Standing
-stands_after_all [] standing = standing
-stands_after_all (line ∷ lines) standing = stands_after_all lines (stands_after line standing)
+abbrev pub context_after_lines : List Line → Context → Context
+context_after_lines [] context = context
+context_after_lines (line ∷ lines) context = context_after_lines lines (context_after_line line context)
 
 -- ---- the conditions of the codes
 
+-- whether the innermost open block is an `if` without its `else` so far
 abbrev pub is_if : List Opened → Bool
 is_if (If ∷ outer) = true
 is_if _ = false
 
+-- whether it is an `if`, with its `else` or without
 abbrev pub is_if_or_else : List Opened → Bool
 is_if_or_else (If ∷ outer) = true
 is_if_or_else (Else ∷ outer) = true
 is_if_or_else _ = false
 
+-- whether it is a `repeat`
 abbrev pub is_repeat : List Opened → Bool
 is_repeat (Repeat ∷ outer) = true
 is_repeat _ = false
 
--- code 5: the line cannot stand outside processes, where `registers` came or not
+-- misplaced: the line cannot stand outside processes, where `registers` came or not
 abbrev pub is_no_outer : Bool → Line → Bool
 is_no_outer came (line.Registers n) = came
 is_no_outer came line.Process = false
@@ -125,23 +134,27 @@ abbrev pub is_no_end : Line → Bool
 is_no_end line.End = false
 is_no_end _ = true
 
+-- whether a line cannot stand at a place
 abbrev pub misplaced_at : Place → Bool → Line → Bool
 misplaced_at Outside came line = is_no_outer came line
 misplaced_at (Inside opened n) came line = is_no_inner opened n line
 misplaced_at Used came line = is_no_end line
 
-abbrev pub is_misplaced : Standing → Line → Bool
-is_misplaced standing line = misplaced_at standing.place (is_some standing.registers) line
+-- whether a line cannot stand in its context
+abbrev pub is_misplaced : Context → Line → Bool
+is_misplaced context line = misplaced_at context.place (is_some context.registers) line
 
--- code 6: how many statements there are so far, and which blocks are open
+-- past a limit: how many statements there are so far, and which blocks are open
 abbrev pub statements_at : Place → ℕ
 statements_at (Inside opened n) = n
 statements_at _ = 0
 
+-- the open blocks at a place
 abbrev pub opened_at : Place → List Opened
 opened_at (Inside opened n) = opened
 opened_at _ = []
 
+-- how many of these blocks are repeats
 abbrev pub repeats_in : List Opened → ℕ
 repeats_in [] = 0
 repeats_in (Repeat ∷ outer) = suc (repeats_in outer)
@@ -150,82 +163,88 @@ repeats_in (Else ∷ outer) = repeats_in outer
 
 -- whether there is room for one more statement, for one more block, and for one more repeat
 abbrev pub has_room : Place → Bool
-has_room place = nat_lt (statements_at place) 200
+has_room place = nat_lt (statements_at place) MOST_STATEMENTS
 
+-- whether there is room for one more open block
 abbrev pub has_depth : Place → Bool
-has_depth place = nat_lt (length (opened_at place)) 16
+has_depth place = nat_lt (length (opened_at place)) MOST_OPEN_BLOCKS
 
+-- whether there is room for one more open repeat
 abbrev pub has_turns : Place → Bool
-has_turns place = nat_lt (repeats_in (opened_at place)) 3
+has_turns place = nat_lt (repeats_in (opened_at place)) MOST_OPEN_REPEATS
 
 -- whether a line is within the limits where it stands
-abbrev pub is_within : Standing → Line → Bool
-is_within standing (line.Registers n) = is_between 1 64 n
-is_within standing line.Process = nat_lt standing.processes 8
-is_within standing (line.Check clause) = nat_lt standing.checks 16
-is_within standing (line.Use kind) = use_fits kind (unwrap_or standing.registers 0)
-is_within standing (line.Set to value) = has_room standing.place && (target_fits to && expr_fits value)
-is_within standing (line.Read to from) = has_room standing.place && (target_fits to && operand_fits from)
-is_within standing (line.Write to value) = has_room standing.place && (operand_fits to && expr_fits value)
-is_within standing (line.If test) = has_room standing.place && expr_fits test && has_depth standing.place
-is_within standing (line.Repeat count) = has_room standing.place && (expr_fits count && has_turns standing.place) && has_depth standing.place
-is_within standing (line.Emit value) = has_room standing.place && expr_fits value
-is_within standing line.Halt = has_room standing.place
-is_within standing _ = true
+abbrev pub is_within : Context → Line → Bool
+is_within context (line.Registers n) = is_between 1 MOST_REGISTERS n
+is_within context line.Process = nat_lt context.processes MOST_PROCESSES
+is_within context (line.Check clause) = nat_lt context.checks MOST_CHECKS
+is_within context (line.Use kind) = use_fits kind (unwrap_or context.registers 0)
+is_within context (line.Set to value) = has_room context.place && (target_fits to && expr_fits value)
+is_within context (line.Read to from) = has_room context.place && (target_fits to && operand_fits from)
+is_within context (line.Write to value) = has_room context.place && (operand_fits to && expr_fits value)
+is_within context (line.If test) = has_room context.place && expr_fits test && has_depth context.place
+is_within context (line.Repeat count) = has_room context.place && (expr_fits count && has_turns context.place) && has_depth context.place
+is_within context (line.Emit value) = has_room context.place && expr_fits value
+is_within context line.Halt = has_room context.place
+is_within context _ = true
 
--- code 7: no `registers` line came, and this is none
-abbrev pub is_too_early : Standing → Line → Bool
-is_too_early standing (line.Registers n) = false
-is_too_early standing _ = is_none standing.registers
+-- too early: no `registers` line came, and this is none
+abbrev pub is_too_early : Context → Line → Bool
+is_too_early context (line.Registers n) = false
+is_too_early context _ = is_none context.registers
 
--- code 8: a check without a clause
+-- no clause: a check without a clause
 abbrev pub is_no_clause : Line → Bool
 is_no_clause (line.Check None) = true
 is_no_clause _ = false
 
 -- the code of a line's fault where it stands
-abbrev pub line_fault : Standing → Line → Option ℕ
-line_fault standing line =
-    if is_misplaced standing line then Some 5 else
-    (if not (is_within standing line) then Some 6 else
-    (if is_too_early standing line then Some 7 else
-    (if is_no_clause line then Some 8 else None)))
+abbrev pub line_fault : Context → Line → Option ℕ
+line_fault context line =
+    if is_misplaced context line then Some MISPLACED else
+    (if not (is_within context line) then Some PAST_LIMIT else
+    (if is_too_early context line then Some NO_REGISTERS else
+    (if is_no_clause line then Some NO_CLAUSE else None)))
 
 -- the code of the fault of a line that says this, where it stands
-abbrev pub fault_of : Standing → Result (Option Line) ℕ → Option ℕ
-fault_of standing (Ok (Some line)) = line_fault standing line
-fault_of standing (Ok None) = None
-fault_of standing (Err code) = Some code
+abbrev pub fault_of_line : Context → Result (Option Line) ℕ → Option ℕ
+fault_of_line context (Ok (Some line)) = line_fault context line
+fault_of_line context (Ok None) = None
+fault_of_line context (Err code) = Some code
 
+-- whether a process is open
 abbrev pub is_inside : Place → Bool
 is_inside Outside = false
 is_inside _ = true
 
 -- the code of the fault of the end of a text
-abbrev pub end_fault : Standing → Option ℕ
-end_fault standing =
-    if is_none standing.registers then Some 7 else
-    (if is_inside standing.place then Some 5 else
-    (if nat_lt 0 standing.processes then None else Some 6))
+abbrev pub end_fault : Context → Option ℕ
+end_fault context =
+    if is_none context.registers then Some NO_REGISTERS else
+    (if is_inside context.place then Some MISPLACED else
+    (if nat_lt 0 context.processes then None else Some PAST_LIMIT))
 
 -- ---- the first of them
 
 -- where a line stands that comes after these lines
-abbrev pub standing_after : List (List ℕ) → Standing
-standing_after before = stands_after_all (said before) at_start
+abbrev pub context_after : List (List ℕ) → Context
+context_after before = context_after_lines (lines_said before) at_start
 
+-- a code, where there is one, on its line
 abbrev pub at_line : ℕ → Option ℕ → Option ReadFault
 at_line number code = option_map (λ c. record { line = number; code = c }) code
 
+-- the first fault, or else the second
 abbrev pub or_later : Option ReadFault → Option ReadFault → Option ReadFault
 or_later (Some fault) later = Some fault
 or_later None later = later
 
 -- the fault of the first of these lines that has one, where they come after others; else that of the end, on the last line
 abbrev pub fault_from : List (List ℕ) → List (List ℕ) → Option ReadFault
-fault_from before [] = at_line (max 1 (length before)) (end_fault (standing_after before))
+fault_from before [] = at_line (max 1 (length before)) (end_fault (context_after before))
 fault_from before (line ∷ lines) =
-    or_later (at_line (suc (length before)) (fault_of (standing_after before) (read_line line))) (fault_from (before ++ line ∷ []) lines)
+    or_later (at_line (suc (length before)) (fault_of_line (context_after before) (read_line line))) (fault_from (before ++ line ∷ []) lines)
 
+-- the first fault of a text, where it has one
 abbrev pub first_fault : List ℕ → Option ReadFault
 first_fault text = fault_from [] (lines text)

@@ -1,6 +1,8 @@
 -- What a line says, or the code of its fault.
 use Rattle.std.specs.Prelude.{ℕ, Bool, true, false, not, if◌then◌else◌, List, [], ◌∷◌, map, Option, Some, None, Result, Ok, Err, nat_le}
 use Rattle.std.specs.List.{list_all, list_any}
+use Rattle.regmodel.specs.declared.limits.TheConstants.{GREATEST_VALUE, MOST_PROCESSES}
+use Rattle.reglang.specs.declared.refusals.TheConstants.{NO_FORM, NO_NUMBER, NOT_PRINTABLE, UNKNOWN_WORD}
 use Rattle.regmodel.specs.declared.programs.Target.{Target}
 use Rattle.regmodel.specs.declared.programs.Target.TheVariants as target
 use Rattle.regmodel.specs.declared.programs.Operand.{Operand}
@@ -26,16 +28,19 @@ use Rattle.reglang.specs.declared.forms.Line.{Line}
 use Rattle.reglang.specs.declared.forms.Line.TheVariants.{Registers, Process, End, Set, Read, Write, If, Else, Fi, Repeat, Done, Emit, Halt, Check}
 use Rattle.reglang.specs.declared.forms.Line.TheVariants as line
 
+-- the number that a word is
 abbrev pub number_in : Word → Option ℕ
 number_in (word.Number n) = Some n
 number_in _ = None
 
+-- the target that a word is
 abbrev pub target_of : Word → Option Target
 target_of (word.Var i) = Some (target.Var i)
 target_of (word.Cell i) = Some (target.Cell i)
 target_of (word.CellOf i) = Some (target.CellOf i)
 target_of _ = None
 
+-- the operand that a word is
 abbrev pub operand_of : Word → Option Operand
 operand_of (word.Number n) = Some (operand.Number n)
 operand_of (word.Var i) = Some (operand.Var i)
@@ -43,6 +48,7 @@ operand_of (word.Cell i) = Some (operand.Cell i)
 operand_of (word.CellOf i) = Some (operand.CellOf i)
 operand_of _ = None
 
+-- the operator that a word is
 abbrev pub operator_of : Word → Option Op
 operator_of (word.Operator op) = Some op
 operator_of _ = None
@@ -59,6 +65,7 @@ expr_of (a ∷ []) = Some expr.One ⊛ operand_of a
 expr_of (a ∷ op ∷ b ∷ []) = Some (λ x op y. expr.Two x op y) ⊛ operand_of a ⊛ operator_of op ⊛ operand_of b
 expr_of _ = None
 
+-- the kind that a word is
 abbrev pub kind_of : Word → Option Kind
 kind_of (word.Kind kind) = Some kind
 kind_of _ = None
@@ -71,6 +78,7 @@ use_of kind.Tree (base ∷ depth ∷ id ∷ value ∷ []) = Some (λ b d i v. us
 use_of kind.Name (base ∷ slots ∷ slot ∷ []) = Some (λ b n s. use_line.Name b n s) ⊛ number_in base ⊛ number_in slots ⊛ number_in slot
 use_of _ _ = None
 
+-- the use line of a kind, if it is one, with its numbers
 abbrev pub use_of_kind : Option Kind → List Word → Option Line
 use_of_kind (Some kind) numbers = Some line.Use ⊛ use_of kind numbers
 use_of_kind None numbers = None
@@ -80,22 +88,27 @@ abbrev pub alone : {A : Type 0} → A → List Word → Option A
 alone a [] = Some a
 alone a (word ∷ more) = None
 
+-- what follows `registers`: a number
 abbrev pub registers_form : List Word → Option Line
 registers_form (n ∷ []) = Some Registers ⊛ number_in n
 registers_form _ = None
 
+-- what follows `set`: a target and an expression
 abbrev pub set_form : List Word → Option Line
 set_form (to ∷ value) = Some (λ t e. Set t e) ⊛ target_of to ⊛ expr_of value
 set_form [] = None
 
+-- what follows `read`: a target and an operand
 abbrev pub read_form : List Word → Option Line
 read_form (to ∷ from ∷ []) = Some (λ t a. Read t a) ⊛ target_of to ⊛ operand_of from
 read_form _ = None
 
+-- what follows `write`: an operand and an expression
 abbrev pub write_form : List Word → Option Line
 write_form (to ∷ value) = Some (λ a e. Write a e) ⊛ operand_of to ⊛ expr_of value
 write_form [] = None
 
+-- what follows `use`: a kind and its numbers
 abbrev pub use_form : List Word → Option Line
 use_form (kind ∷ numbers) = use_of_kind (kind_of kind) numbers
 use_form [] = None
@@ -123,12 +136,14 @@ abbrev pub number_to : ℕ → Word → Option ℕ
 number_to limit (word.Number n) = if nat_le n limit then Some n else None
 number_to limit _ = None
 
+-- a name, and how many may have it
 abbrev pub at_most_clause : List Word → Option Clause
-at_most_clause (name ∷ count ∷ []) = Some (λ v c. clause.AtMost v c) ⊛ number_to 1000000000 name ⊛ number_to 8 count
+at_most_clause (name ∷ count ∷ []) = Some (λ v c. clause.AtMost v c) ⊛ number_to GREATEST_VALUE name ⊛ number_to MOST_PROCESSES count
 at_most_clause _ = None
 
+-- the least name and the greatest
 abbrev pub within_clause : List Word → Option Clause
-within_clause (low ∷ high ∷ []) = Some (λ l h. clause.Within l h) ⊛ number_to 1000000000 low ⊛ number_to 1000000000 high
+within_clause (low ∷ high ∷ []) = Some (λ l h. clause.Within l h) ⊛ number_to GREATEST_VALUE low ⊛ number_to GREATEST_VALUE high
 within_clause _ = None
 
 -- a property with its numbers, each up to its limit
@@ -142,6 +157,7 @@ property_clause property.SelfSeen numbers = alone clause.SelfSeen numbers
 property_clause property.Ended numbers = alone clause.Ended numbers
 property_clause property.NoFault numbers = alone clause.NoFault numbers
 
+-- the clause that words are
 abbrev pub clause_of : List Word → Option Clause
 clause_of (word.Property property ∷ numbers) = property_clause property numbers
 clause_of _ = None
@@ -167,20 +183,20 @@ abbrev pub or_fault : ℕ → Option Line → Result (Option Line) ℕ
 or_fault code (Some line) = Ok (Some line)
 or_fault code None = Err code
 
--- the fault of the words of a line that is no check: 2 an unknown word, 3 no number word, 4 no form of its first word
-abbrev pub formed : Keyword → List Word → Result (Option Line) ℕ
-formed key more =
-    if not (list_all is_known more) then Err 2 else
-    (if list_any is_no_number more then Err 3 else or_fault 4 (form_of key more))
+-- what a keyword and the words after it say, where it is no check; or the code of an unknown word, of no number word, of no form
+abbrev pub keyword_line : Keyword → List Word → Result (Option Line) ℕ
+keyword_line key more =
+    if not (list_all is_known more) then Err UNKNOWN_WORD else
+    (if list_any is_no_number more then Err NO_NUMBER else or_fault NO_FORM (form_of key more))
 
 -- what words say: nothing where there are none, or the first begins a comment
 abbrev pub line_of : List Word → Result (Option Line) ℕ
 line_of [] = Ok None
 line_of (word.Comment ∷ more) = Ok None
 line_of (word.Keyword keyword.Check ∷ more) = Ok (Some (Check (clause_of more)))
-line_of (word.Keyword key ∷ more) = formed key more
-line_of _ = Err 2
+line_of (word.Keyword key ∷ more) = keyword_line key more
+line_of _ = Err UNKNOWN_WORD
 
--- what a line says; fault 1 where a byte is not in 32 to 126
+-- what a line says, or the code of its fault: a byte that is not in 32 to 126, or one of its words
 abbrev pub read_line : List ℕ → Result (Option Line) ℕ
-read_line line = if is_printable line then line_of (map word_of (words line)) else Err 1
+read_line line = if is_printable line then line_of (map word_of (words line)) else Err NOT_PRINTABLE

@@ -6,7 +6,7 @@ use Rattle.regmodel.specs.Program as program
 use Rattle.regmodel.specs.Program.{Block}
 use Rattle.reglang.specs.Lines.{lines}
 use Rattle.reglang.specs.Forms.{read_line}
-use Rattle.reglang.specs.Contents.{Body, Text, Kind, Contents, AreWithin}
+use Rattle.reglang.specs.Contents.{Body, Text, Kind, Contents, IsSourceWithin}
 use Rattle.reglang.specs.declared.forms.Line.{Line}
 use Rattle.reglang.specs.declared.forms.Line.TheVariants as line
 
@@ -50,6 +50,7 @@ pub data Part : Type 0 where
   Process : (body : Body) → Part
   Check : (clause : Clause) → Part
 
+-- the lines of a process, or of a check
 abbrev pub PartSays : Part → List Line → Type 0
 PartSays (Process body) lines = Begins line.Process (Then (BodySays body) (λ last. last ≡ line.End ∷ [])) lines
 PartSays (Check clause) lines = lines ≡ line.Check (Some clause) ∷ []
@@ -71,14 +72,14 @@ clauses_in (Process body ∷ parts) = clauses_in parts
 clauses_in (Check clause ∷ parts) = clause ∷ clauses_in parts
 
 -- what one line says, where it is not skipped
-abbrev pub told : Result (Option Line) ℕ → List Line
-told (Ok (Some line)) = line ∷ []
-told (Ok None) = []
-told (Err code) = []
+abbrev pub line_said : Result (Option Line) ℕ → List Line
+line_said (Ok (Some line)) = line ∷ []
+line_said (Ok None) = []
+line_said (Err code) = []
 
 -- what lines say that are not skipped
-abbrev pub said : List (List ℕ) → List Line
-said lines = flat_map (λ line. told (read_line line)) lines
+abbrev pub lines_said : List (List ℕ) → List Line
+lines_said lines = flat_map (λ line. line_said (read_line line)) lines
 
 -- the lines are a `registers` line, and then the processes and the checks, in any mixture
 pub record LinesSay (source : Contents) (lines : List Line) : Type 0 where
@@ -90,5 +91,5 @@ pub record LinesSay (source : Contents) (lines : List Line) : Type 0 where
 -- each line of the text has its form, those that are not skipped say the source, and it is within the limits
 pub record Spells (text : List ℕ) (source : Contents) : Type 0 where
   pub formed : All (λ line. IsOk (read_line line)) (lines text)
-  pub says : LinesSay source (said (lines text))
-  pub within : AreWithin source
+  pub says : LinesSay source (lines_said (lines text))
+  pub within : IsSourceWithin source

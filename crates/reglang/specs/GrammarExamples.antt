@@ -5,14 +5,14 @@ use Rattle.regmodel.specs.declared.programs.Expr.TheVariants.{One}
 use Rattle.regmodel.specs.declared.programs.Operand.TheVariants.{Var}
 use Rattle.regmodel.specs.Program.{Block, Stop, If, Halt}
 use Rattle.reglang.specs.Contents.{Contents, Text}
-use Rattle.reglang.specs.Grammar.{BlockSays, LinesSay, Process, said}
+use Rattle.reglang.specs.Grammar.{BlockSays, LinesSay, Process, lines_said}
 use Rattle.reglang.specs.declared.forms.Line.TheVariants as line
 
 -- a process that is done at once
 abbrev halts : Contents
 halts = record { registers = 1; processes = Text (Halt Stop) ∷ []; clauses = [] }
 
-pub a_process_that_halts : LinesSay halts (said (codes "# done" ∷ codes "registers 1" ∷ codes "process" ∷ codes "  halt" ∷ [] ∷ codes "end" ∷ []))
+pub a_process_that_halts : LinesSay halts (lines_said (codes "# done" ∷ codes "registers 1" ∷ codes "process" ∷ codes "  halt" ∷ [] ∷ codes "end" ∷ []))
 a_process_that_halts = record {
   parts = Process (Text (Halt Stop)) ∷ [];
   whole = record {

@@ -10,6 +10,7 @@ pub mod KindExamples
 pub mod LineExamples
 pub mod Lines
 pub mod Sources
+pub mod Spelling
 pub mod Uses
 pub mod Words
 pub mod Writing

@@ -1,11 +1,13 @@
 -- What a word may stand for.
-use Rattle.std.specs.Prelude.{ℕ, ◌==◌, Bool, false, ◌&&◌, if◌then◌else◌, List, [], ◌∷◌, reverse, Option, Some, None, nat_lt, nat_le, codes}
+use Rattle.std.specs.Prelude.{ℕ, map, ◌+◌, ◌==◌, Bool, false, ◌&&◌, if◌then◌else◌, List, [], ◌∷◌, reverse, Option, Some, None, nat_lt, nat_le}
 use Rattle.std.specs.List.{list_all}
 use Rattle.std.specs.Str.{bytes_eq}
 use Rattle.std.specs.Str.Parse.{digits_value}
 use Rattle.regmodel.specs.declared.programs.Op.{Op}
 use Rattle.regmodel.specs.declared.programs.Op.TheVariants as op
+use Rattle.regmodel.specs.declared.limits.TheConstants.{CELLS, GREATEST_VALUE, VARIABLES}
 use Rattle.reglang.specs.Lines.{is_empty}
+use Rattle.reglang.specs.Spelling.{keyword_text, kind_text, operator_text, property_text}
 use Rattle.reglang.specs.declared.words.Keyword.{Keyword}
 use Rattle.reglang.specs.declared.words.Keyword.TheVariants as keyword
 use Rattle.reglang.specs.declared.words.Kind.{Kind}
@@ -16,6 +18,7 @@ use Rattle.reglang.specs.declared.words.Word.{Word}
 use Rattle.reglang.specs.declared.words.Word.TheVariants.{Number, NoNumber, Var, Cell, CellOf, Comment, Other}
 use Rattle.reglang.specs.declared.words.Word.TheVariants as word
 
+-- whether a byte is a digit
 abbrev pub is_digit : ℕ → Bool
 is_digit b = nat_le 48 b && nat_le b 57
 
@@ -26,24 +29,26 @@ is_number (b ∷ bs) = if b == 48 then is_empty bs else list_all is_digit (b ∷
 
 -- 1000000001 stands for each number past 1000000000
 abbrev pub up_to_limit : ℕ → ℕ
-up_to_limit n = if nat_le n 1000000000 then n else 1000000001
+up_to_limit n = if nat_le n GREATEST_VALUE then n else GREATEST_VALUE + 1
 
 -- the value of a number word
 abbrev pub number_of : List ℕ → Option ℕ
 number_of word = if is_number word then Some (up_to_limit (digits_value 10 word)) else None
 
-abbrev pub below : ℕ → Option ℕ → Option ℕ
-below limit None = None
-below limit (Some n) = if nat_lt n limit then Some n else None
+-- the number, if it is below the limit
+abbrev pub only_below : ℕ → Option ℕ → Option ℕ
+only_below limit None = None
+only_below limit (Some n) = if nat_lt n limit then Some n else None
 
 -- the number of a variable: `v` and a number word below 16
 abbrev pub variable_of : List ℕ → Option ℕ
 variable_of [] = None
-variable_of (b ∷ bs) = if b == 118 then below 16 (number_of bs) else None
+variable_of (b ∷ bs) = if b == 118 then only_below VARIABLES (number_of bs) else None
 
-abbrev pub begins_with : (ℕ → Bool) → List ℕ → Bool
-begins_with p [] = false
-begins_with p (b ∷ bs) = p b
+-- whether there is a first byte, and it is such a one
+abbrev pub first_byte_is : (ℕ → Bool) → List ℕ → Bool
+first_byte_is p [] = false
+first_byte_is p (b ∷ bs) = p b
 
 -- a word from its last byte on: what stands before a `]` there
 abbrev pub before_bracket : List ℕ → Option (List ℕ)
@@ -55,10 +60,12 @@ abbrev pub in_brackets : List ℕ → Option (List ℕ)
 in_brackets [] = None
 in_brackets (b ∷ bs) = if b == 91 then before_bracket (reverse bs) else None
 
+-- the cell that a variable names, where there is one
 abbrev pub cell_or_other : Option ℕ → Word
 cell_or_other (Some i) = CellOf i
 cell_or_other None = Other
 
+-- the cell with this number, where there is one
 abbrev pub cell_or : Option ℕ → Word → Word
 cell_or (Some i) word = Cell i
 cell_or None word = word
@@ -66,12 +73,14 @@ cell_or None word = word
 -- the cell that is named between brackets: by a number word below 32, or by a variable
 abbrev pub cell_word : Option (List ℕ) → Word
 cell_word None = Other
-cell_word (Some index) = cell_or (below 32 (number_of index)) (cell_or_other (variable_of index))
+cell_word (Some index) = cell_or (only_below CELLS (number_of index)) (cell_or_other (variable_of index))
 
+-- the variable with this number, where there is one
 abbrev pub variable_or : Option ℕ → Word → Word
 variable_or (Some i) word = Var i
 variable_or None word = word
 
+-- a number, or a word that begins with a digit and is none
 abbrev pub number_word : Option ℕ → Word
 number_word (Some n) = Number n
 number_word None = NoNumber
@@ -79,58 +88,33 @@ number_word None = NoNumber
 -- a word that is none of those spelled out
 abbrev pub value_word : List ℕ → Word
 value_word word =
-    if begins_with is_digit word then number_word (number_of word) else
-    (if begins_with (λ b. b == 35) word then Comment else
+    if first_byte_is is_digit word then number_word (number_of word) else
+    (if first_byte_is (λ b. b == 35) word then Comment else
     variable_or (variable_of word) (cell_word (in_brackets word)))
 
 -- the first words of lines, as they are spelled
 abbrev pub keywords : List (List ℕ × Keyword)
 keywords =
-    (codes "registers", keyword.Registers) ∷
-    (codes "process", keyword.Process) ∷
-    (codes "end", keyword.End) ∷
-    (codes "set", keyword.Set) ∷
-    (codes "read", keyword.Read) ∷
-    (codes "write", keyword.Write) ∷
-    (codes "if", keyword.If) ∷
-    (codes "else", keyword.Else) ∷
-    (codes "fi", keyword.Fi) ∷
-    (codes "repeat", keyword.Repeat) ∷
-    (codes "done", keyword.Done) ∷
-    (codes "emit", keyword.Emit) ∷
-    (codes "halt", keyword.Halt) ∷
-    (codes "use", keyword.Use) ∷
-    (codes "check", keyword.Check) ∷
-    []
+    map (λ one. (keyword_text one, one)) (
+    keyword.Registers ∷ keyword.Process ∷ keyword.End ∷ keyword.Set ∷ keyword.Read ∷ keyword.Write ∷ keyword.If ∷ keyword.Else ∷ keyword.Fi ∷ keyword.Repeat ∷ keyword.Done ∷ keyword.Emit ∷ keyword.Halt ∷ keyword.Use ∷ keyword.Check ∷ [])
 
+-- the operators, as they are spelled
 abbrev pub operators : List (List ℕ × Op)
 operators =
-    (codes "+", op.Add) ∷
-    (codes "-", op.Sub) ∷
-    (codes "*", op.Mul) ∷
-    (codes "=", op.Equal) ∷
-    (codes "<", op.Less) ∷
-    []
+    map (λ one. (operator_text one, one)) (
+    op.Add ∷ op.Sub ∷ op.Mul ∷ op.Equal ∷ op.Less ∷ [])
 
+-- the kinds, as they are spelled
 abbrev pub kinds : List (List ℕ × Kind)
 kinds =
-    (codes "split", kind.Split) ∷
-    (codes "grid", kind.Grid) ∷
-    (codes "tree", kind.Tree) ∷
-    (codes "name", kind.Name) ∷
-    []
+    map (λ one. (kind_text one, one)) (
+    kind.Split ∷ kind.Grid ∷ kind.Tree ∷ kind.Name ∷ [])
 
+-- the properties of checks, as they are spelled
 abbrev pub properties : List (List ℕ × Property)
 properties =
-    (codes "distinct", property.Distinct) ∷
-    (codes "atmost", property.AtMost) ∷
-    (codes "within", property.Within) ∷
-    (codes "adaptive", property.Adaptive) ∷
-    (codes "triangle", property.Triangle) ∷
-    (codes "selfseen", property.SelfSeen) ∷
-    (codes "ended", property.Ended) ∷
-    (codes "nofault", property.NoFault) ∷
-    []
+    map (λ one. (property_text one, one)) (
+    property.Distinct ∷ property.AtMost ∷ property.Within ∷ property.Adaptive ∷ property.Triangle ∷ property.SelfSeen ∷ property.Ended ∷ property.NoFault ∷ [])
 
 -- what stands beside a word in a table of spellings
 abbrev pub spelled_in : {A : Type 0} → List (List ℕ × A) → List ℕ → Option A

@@ -5,71 +5,24 @@ use Rattle.regmodel.specs.declared.programs.Target.{Target}
 use Rattle.regmodel.specs.declared.programs.Target.TheVariants as target
 use Rattle.regmodel.specs.declared.programs.Operand.{Operand}
 use Rattle.regmodel.specs.declared.programs.Operand.TheVariants as operand
-use Rattle.regmodel.specs.declared.programs.Op.{Op}
-use Rattle.regmodel.specs.declared.programs.Op.TheVariants as op
 use Rattle.regmodel.specs.declared.programs.Expr.{Expr}
 use Rattle.regmodel.specs.declared.programs.Expr.TheVariants as expr
 use Rattle.regmodel.specs.declared.clauses.Clause.{Clause}
 use Rattle.regmodel.specs.declared.clauses.Clause.TheVariants as clause
 use Rattle.regmodel.specs.Program as program
 use Rattle.regmodel.specs.Program.{Block}
+use Rattle.reglang.specs.Spelling.{keyword_text, kind_text, operator_text, property_text}
 use Rattle.reglang.specs.Contents.{Body, Text, Kind, Contents}
 use Rattle.reglang.specs.declared.uses.Use.{Use}
 use Rattle.reglang.specs.declared.uses.Use.TheVariants as use_line
 use Rattle.reglang.specs.declared.words.Keyword.{Keyword}
 use Rattle.reglang.specs.declared.words.Keyword.TheVariants as keyword
-use Rattle.reglang.specs.declared.words.Kind as kinds
 use Rattle.reglang.specs.declared.words.Kind.TheVariants as kind
-use Rattle.reglang.specs.declared.words.Property.{Property}
 use Rattle.reglang.specs.declared.words.Property.TheVariants as property
 use Rattle.reglang.specs.declared.words.Word.{Word}
 use Rattle.reglang.specs.declared.words.Word.TheVariants as word
 use Rattle.reglang.specs.declared.forms.Line.{Line}
 use Rattle.reglang.specs.declared.forms.Line.TheVariants as line
-
--- a first word of a line
-abbrev pub keyword_text : Keyword → List ℕ
-keyword_text keyword.Registers = codes "registers"
-keyword_text keyword.Process = codes "process"
-keyword_text keyword.End = codes "end"
-keyword_text keyword.Set = codes "set"
-keyword_text keyword.Read = codes "read"
-keyword_text keyword.Write = codes "write"
-keyword_text keyword.If = codes "if"
-keyword_text keyword.Else = codes "else"
-keyword_text keyword.Fi = codes "fi"
-keyword_text keyword.Repeat = codes "repeat"
-keyword_text keyword.Done = codes "done"
-keyword_text keyword.Emit = codes "emit"
-keyword_text keyword.Halt = codes "halt"
-keyword_text keyword.Use = codes "use"
-keyword_text keyword.Check = codes "check"
-
--- an operator
-abbrev pub operator_text : Op → List ℕ
-operator_text op.Add = codes "+"
-operator_text op.Sub = codes "-"
-operator_text op.Mul = codes "*"
-operator_text op.Equal = codes "="
-operator_text op.Less = codes "<"
-
--- a kind of use line
-abbrev pub kind_text : kinds.Kind → List ℕ
-kind_text kind.Split = codes "split"
-kind_text kind.Grid = codes "grid"
-kind_text kind.Tree = codes "tree"
-kind_text kind.Name = codes "name"
-
--- a property that a check line names
-abbrev pub property_text : Property → List ℕ
-property_text property.Distinct = codes "distinct"
-property_text property.AtMost = codes "atmost"
-property_text property.Within = codes "within"
-property_text property.Adaptive = codes "adaptive"
-property_text property.Triangle = codes "triangle"
-property_text property.SelfSeen = codes "selfseen"
-property_text property.Ended = codes "ended"
-property_text property.NoFault = codes "nofault"
 
 -- a word as it is written; one that no line has is not
 abbrev pub word_text : Word → List ℕ

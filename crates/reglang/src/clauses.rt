@@ -4,8 +4,9 @@ ghost use Rattle.std.specs.Prelude.{◌≡◌};
 ghost use Rattle.reglang.specs.Forms as spec;
 
 use crate::operands::alone;
-use crate::words::{GREATEST, Property, Word};
+use crate::words::{Property, Word};
 use regmodel::Clause;
+use regmodel::limits::{GREATEST_VALUE, MOST_PROCESSES};
 
 /// The number that a word is, up to this limit.
 fn number_to(limit: u32, word: Word) -> Option<u32>
@@ -25,11 +26,17 @@ fn property_clause(property: Property, numbers: &[Word]) -> Option<Clause>
         Property::Distinct => alone(Clause::Distinct, numbers),
         Property::AtMost => {
             let [name, count] = numbers else { return None };
-            Some(Clause::AtMost(number_to(GREATEST, *name)?, number_to(8, *count)?))
+            Some(Clause::AtMost(
+                number_to(GREATEST_VALUE, *name)?,
+                number_to(MOST_PROCESSES as u32, *count)?,
+            ))
         }
         Property::Within => {
             let [low, high] = numbers else { return None };
-            Some(Clause::Within(number_to(GREATEST, *low)?, number_to(GREATEST, *high)?))
+            Some(Clause::Within(
+                number_to(GREATEST_VALUE, *low)?,
+                number_to(GREATEST_VALUE, *high)?,
+            ))
         }
         Property::Adaptive => alone(Clause::Adaptive, numbers),
         Property::Triangle => alone(Clause::Triangle, numbers),

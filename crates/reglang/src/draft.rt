@@ -2,15 +2,16 @@
 
 ghost use Rattle.std.specs.Prelude.{Err, MatchResult, Ok, ◌≡◌};
 ghost use Rattle.reglang.specs.Drafts as spec;
-ghost use Rattle.reglang.specs.Drafts.{Answers, ReadingFits, finished, reading_of, take_line};
+ghost use Rattle.reglang.specs.Drafts.{Answers, ReadingFits, contents_at_end, reading_of, take_line};
 ghost use Rattle.reglang.specs.Sources.{contents_of};
 
 use crate::forms::Line;
 use crate::open_process::OpenProcess;
 use crate::parts::Parts;
-use crate::refusals::{MISPLACED, NO_REGISTERS, PAST_LIMIT, Refusal};
+use crate::refusals::{LineRefusal, MISPLACED, NO_REGISTERS, PAST_LIMIT};
 use crate::source::Source;
 use crate::uses::Use;
+use regmodel::limits::MOST_REGISTERS;
 use std::alloc::Global;
 
 /// What was read so far.
@@ -28,7 +29,7 @@ pub enum Draft {
 
 impl Draft {
     /// Takes the next line of the text.
-    pub fn take(self, alloc: Global, line: Line) -> Result<Draft, Refusal>
+    pub fn take(self, alloc: Global, line: Line) -> Result<Draft, LineRefusal>
         requires { ReadingFits (reading_of self) }
         ensures { Answers (take_line (reading_of self) line) result }
     {
@@ -43,7 +44,7 @@ impl Draft {
     /// The source that was read, at the end of the text; or the code of the end's fault.
     pub fn finish(self) -> Result<Source, u8>
         requires { ReadingFits (reading_of self) }
-        ensures { MatchResult result (λ source. finished (reading_of self) ≡ Ok (contents_of source)) (λ code. finished (reading_of self) ≡ Err code) }
+        ensures { MatchResult result (λ source. contents_at_end (reading_of self) ≡ Ok (contents_of source)) (λ code. contents_at_end (reading_of self) ≡ Err code) }
     {
         match self {
             Draft::Empty => Err(NO_REGISTERS),
@@ -54,18 +55,18 @@ impl Draft {
 }
 
 /// Takes the first line of the text.
-fn begin(alloc: Global, line: Line) -> Result<Draft, Refusal>
+fn begin(alloc: Global, line: Line) -> Result<Draft, LineRefusal>
     ensures { Answers (spec.begin line) result }
 {
     match line {
         Line::Registers(n) => {
-            if n == 0 || n > 64 {
-                return Err(Refusal::Fault(PAST_LIMIT));
+            if n == 0 || n > MOST_REGISTERS {
+                return Err(LineRefusal::Fault(PAST_LIMIT));
             }
             Ok(Draft::Between(Parts::new(alloc, n)))
         }
-        Line::Process => Err(Refusal::Fault(NO_REGISTERS)),
-        Line::Check(_) => Err(Refusal::Fault(NO_REGISTERS)),
-        _ => Err(Refusal::Fault(MISPLACED)),
+        Line::Process => Err(LineRefusal::Fault(NO_REGISTERS)),
+        Line::Check(_) => Err(LineRefusal::Fault(NO_REGISTERS)),
+        _ => Err(LineRefusal::Fault(MISPLACED)),
     }
 }

@@ -3,7 +3,9 @@
 ghost use Rattle.std.specs.Prelude.{◌≡◌, ◌≤◌, ◌↔◌, ◌⊎◌, false, Err, IfOk, IfErr, IsTrue};
 ghost use Rattle.regmodel.specs.OfProg.{program_of};
 ghost use Rattle.regmodel.specs.Program.{block_of};
+ghost use Rattle.regmodel.specs.declared.limits.TheConstants.{MOST_REGISTERS};
 ghost use Rattle.reglang.specs.Expansions.{use_body, expansion};
+ghost use Rattle.reglang.specs.declared.expansions.TheConstants.{NO_MEMORY, PAST_LIMIT};
 ghost use Rattle.reglang.specs.Uses.{numbers_fit, registers_end, use_fits};
 
 mod grid;
@@ -20,6 +22,12 @@ use std::alloc::Global;
 use thiserror::Error;
 use tree::tree_block;
 
+/// The code of a use line past its limits.
+pub const PAST_LIMIT: u8 = 1;
+
+/// The code of a request for memory that was refused.
+pub const NO_MEMORY: u8 = 2;
+
 /// Why a use line has no expansion.
 #[derive(Clone, Copy, PartialEq, Eq, Debug, Error)]
 #[error("no expansion: code {code}")]
@@ -32,22 +40,22 @@ pub struct ExpandFault {
 /// fault 2 only where a request for memory was refused.
 pub fn expand(alloc: Global, kind: &Use, registers: u32) -> Result<Prog, ExpandFault>
     ensures program { IfOk result (λ prog. program_of prog ≡ expansion kind.now registers) }
-    ensures limits { (result ≡ Err (record { code = 1 })) ↔ (use_fits kind.now registers ≡ false) }
-    ensures code { IfErr result (λ fault. (fault.code ≡ 1) ⊎ (fault.code ≡ 2)) }
+    ensures limits { (result ≡ Err (record { code = PAST_LIMIT })) ↔ (use_fits kind.now registers ≡ false) }
+    ensures code { IfErr result (λ fault. (fault.code ≡ PAST_LIMIT) ⊎ (fault.code ≡ NO_MEMORY)) }
 {
     if !kind.fits(registers) {
-        return Err(ExpandFault { code: 1 });
+        return Err(ExpandFault { code: PAST_LIMIT });
     }
     match block(alloc, kind) {
-        Ok(body) => Ok(Prog::new(registers, body).unwrap()),
-        Err(_) => Err(ExpandFault { code: 2 }),
+        Ok(body) => Ok(Prog::of(registers, body)),
+        Err(_) => Err(ExpandFault { code: NO_MEMORY }),
     }
 }
 
 /// The statements of a use line within its limits.
 fn block(alloc: Global, kind: &Use) -> Result<Vec<Stmt>, OutOfMemory>
     requires numbers { IsTrue (numbers_fit kind.now) }
-    requires registers { registers_end kind.now ≤ 64 }
+    requires registers { registers_end kind.now ≤ MOST_REGISTERS }
     ensures { IfOk result (λ block. block_of block.items ≡ use_body kind.now) }
 {
     match *kind {

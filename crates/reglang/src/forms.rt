@@ -162,8 +162,8 @@ fn form_of(key: Keyword, more: &[Word]) -> Option<Line>
 
 /// What a line says whose first word is this, no check. Code 2 where a later word is unknown, 3 where one begins with a digit
 /// and is no number word, 4 where the words have no form of the first one.
-fn formed(key: Keyword, rest: &[u8]) -> Result<Option<Line>, u8>
-    ensures { result ≡ spec.formed key (map word_of (words rest.now)) }
+fn keyword_line(key: Keyword, rest: &[u8]) -> Result<Option<Line>, u8>
+    ensures { result ≡ spec.keyword_line key (map word_of (words rest.now)) }
 {
     let later = later_words(rest);
     if !later.known {
@@ -195,7 +195,7 @@ pub fn read_line(line: &[u8]) -> Result<Option<Line>, u8>
         Word::Keyword(Keyword::Check) => Ok(Some(Line::Check(clause_of(
             later_words(rest).first.as_slice(),
         )))),
-        Word::Keyword(key) => formed(key, rest),
+        Word::Keyword(key) => keyword_line(key, rest),
         _ => Err(UNKNOWN_WORD),
     }
 }

@@ -2,6 +2,7 @@
 
 ghost use Rattle.std.specs.Prelude.{◌≡◌, ◌<◌, ◌&&◌, [], ◌∷◌, suc, length, nat_lt, count_by, IfErr, IfOk};
 ghost use Rattle.regmodel.specs.Program.{Stop, block_of, with_stmt};
+ghost use Rattle.regmodel.specs.declared.limits.TheConstants.{MOST_OPEN_BLOCKS, MOST_STATEMENTS};
 ghost use Rattle.reglang.specs.Drafts as spec;
 ghost use Rattle.reglang.specs.Drafts.{Answers, Inside, ReadingFits, ◌⊕◌, contents_before, frame_of, frames_of, inside_of, is_turn, reading_of, take_line};
 ghost use Rattle.reglang.specs.declared.forms.Line.TheVariants as line;
@@ -9,20 +10,12 @@ ghost use Rattle.reglang.specs.declared.forms.Line.TheVariants as line;
 use crate::draft::Draft;
 use crate::forms::Line;
 use crate::parts::Parts;
-use crate::refusals::{MISPLACED, PAST_LIMIT, Refusal};
+use crate::refusals::{LineRefusal, MISPLACED, PAST_LIMIT};
 use crate::source::Process;
 use crate::uses::Use;
+use regmodel::limits::{MOST_OPEN_BLOCKS, MOST_OPEN_REPEATS, MOST_STATEMENTS};
 use regmodel::{Expr, Prog, Stmt};
 use std::alloc::Global;
-
-/// The most statements of a process.
-const MOST_STATEMENTS: u32 = 200;
-
-/// The most blocks that are open at a time.
-const MOST_OPEN: usize = 16;
-
-/// The most repeats among them.
-const MOST_REPEATS: usize = 3;
 
 /// A block that is open, with the statements before it in the block around it.
 #[derive(Debug, Drop)]
@@ -70,7 +63,7 @@ impl OpenProcess {
     }
 
     /// Takes a line of the process.
-    pub fn take(self, alloc: Global, line: Line) -> Result<Draft, Refusal>
+    pub fn take(self, alloc: Global, line: Line) -> Result<Draft, LineRefusal>
         requires { ReadingFits (inside_of self) }
         ensures { Answers (take_line (inside_of self) line) result }
     {
@@ -87,16 +80,18 @@ impl OpenProcess {
             Line::Done => self.leave_repeat(),
             Line::End => self.end(),
             Line::Use(kind) => self.stand_for(kind),
-            Line::Registers(_) | Line::Process | Line::Check(_) => Err(Refusal::Fault(MISPLACED)),
+            Line::Registers(_) | Line::Process | Line::Check(_) => Err(LineRefusal::Fault(
+                MISPLACED,
+            )),
         }
     }
 
     /// Adds a statement, where its operands are within their limits.
-    fn add(mut self, fits: bool, stmt: Stmt) -> Result<Draft, Refusal>
+    fn add(mut self, fits: bool, stmt: Stmt) -> Result<Draft, LineRefusal>
         ensures { Answers (spec.add (contents_before self.before) (frames_of self.blocks.items) (block_of self.block.items) self.statements fits (with_stmt stmt Stop)) result }
     {
         if self.statements >= MOST_STATEMENTS || !fits {
-            return Err(Refusal::Fault(PAST_LIMIT));
+            return Err(LineRefusal::Fault(PAST_LIMIT));
         }
         self.block.push(stmt)?;
         self.statements += 1;
@@ -105,17 +100,17 @@ impl OpenProcess {
 
     /// Whether there is room for one more statement, and for one more block.
     fn may_enter(&self) -> bool
-        ensures { result ≡ nat_lt self.now.statements 200 && nat_lt (length self.now.blocks.items) 16 }
+        ensures { result ≡ nat_lt self.now.statements MOST_STATEMENTS && nat_lt (length self.now.blocks.items) MOST_OPEN_BLOCKS }
     {
-        self.statements < MOST_STATEMENTS && self.blocks.len() < MOST_OPEN
+        self.statements < MOST_STATEMENTS && self.blocks.len() < MOST_OPEN_BLOCKS as usize
     }
 
     /// Begins an `if`.
-    fn enter_if(self, alloc: Global, test: Expr) -> Result<Draft, Refusal>
+    fn enter_if(self, alloc: Global, test: Expr) -> Result<Draft, LineRefusal>
         ensures { Answers (take_line (inside_of self) (line.If test)) result }
     {
         if !self.may_enter() || !test.fits() {
-            return Err(Refusal::Fault(PAST_LIMIT));
+            return Err(LineRefusal::Fault(PAST_LIMIT));
         }
         let OpenProcess {
             before,
@@ -127,14 +122,14 @@ impl OpenProcess {
     }
 
     /// Begins a `repeat`.
-    fn enter_repeat(self, alloc: Global, count: Expr) -> Result<Draft, Refusal>
+    fn enter_repeat(self, alloc: Global, count: Expr) -> Result<Draft, LineRefusal>
         ensures { Answers (take_line (inside_of self) (line.Repeat count)) result }
     {
         if !self.may_enter() || !count.fits() {
-            return Err(Refusal::Fault(PAST_LIMIT));
+            return Err(LineRefusal::Fault(PAST_LIMIT));
         }
-        if open_repeats(self.blocks.as_slice()) >= MOST_REPEATS {
-            return Err(Refusal::Fault(PAST_LIMIT));
+        if open_repeats(self.blocks.as_slice()) >= MOST_OPEN_REPEATS as usize {
+            return Err(LineRefusal::Fault(PAST_LIMIT));
         }
         let OpenProcess {
             before,
@@ -146,7 +141,7 @@ impl OpenProcess {
     }
 
     /// Begins the second part of the innermost `if`.
-    fn enter_else(self, alloc: Global) -> Result<Draft, Refusal>
+    fn enter_else(self, alloc: Global) -> Result<Draft, LineRefusal>
         ensures { Answers (take_line (inside_of self) line.Else) result }
     {
         let OpenProcess {
@@ -165,12 +160,12 @@ impl OpenProcess {
                     statements,
                 }))
             }
-            _ => Err(Refusal::Fault(MISPLACED)),
+            _ => Err(LineRefusal::Fault(MISPLACED)),
         }
     }
 
     /// Ends the innermost block, an `if`.
-    fn leave_if(self, alloc: Global) -> Result<Draft, Refusal>
+    fn leave_if(self, alloc: Global) -> Result<Draft, LineRefusal>
         ensures { Answers (take_line (inside_of self) line.Fi) result }
     {
         let OpenProcess {
@@ -194,12 +189,12 @@ impl OpenProcess {
                 Stmt::If(test, first, block),
                 statements,
             ),
-            _ => Err(Refusal::Fault(MISPLACED)),
+            _ => Err(LineRefusal::Fault(MISPLACED)),
         }
     }
 
     /// Ends the innermost block, a `repeat`.
-    fn leave_repeat(self) -> Result<Draft, Refusal>
+    fn leave_repeat(self) -> Result<Draft, LineRefusal>
         ensures { Answers (take_line (inside_of self) line.Done) result }
     {
         let OpenProcess {
@@ -216,31 +211,31 @@ impl OpenProcess {
                 Stmt::Repeat(count, block),
                 statements,
             ),
-            _ => Err(Refusal::Fault(MISPLACED)),
+            _ => Err(LineRefusal::Fault(MISPLACED)),
         }
     }
 
     /// Ends the process.
-    fn end(self) -> Result<Draft, Refusal>
+    fn end(self) -> Result<Draft, LineRefusal>
         requires { ReadingFits (inside_of self) }
         ensures { Answers (take_line (inside_of self) line.End) result }
     {
         if !self.blocks.is_empty() {
-            return Err(Refusal::Fault(MISPLACED));
+            return Err(LineRefusal::Fault(MISPLACED));
         }
-        let prog = Prog::new(self.before.registers(), self.block).unwrap();
+        let prog = Prog::of(self.before.registers(), self.block);
         self.before.add_process(Process::Text(prog))
     }
 
     /// Lets the process be what a use line stands for.
-    fn stand_for(self, kind: Use) -> Result<Draft, Refusal>
+    fn stand_for(self, kind: Use) -> Result<Draft, LineRefusal>
         ensures { Answers (take_line (inside_of self) (line.Use kind)) result }
     {
         if self.statements > 0 {
-            return Err(Refusal::Fault(MISPLACED));
+            return Err(LineRefusal::Fault(MISPLACED));
         }
         if !kind.fits(self.before.registers()) {
-            return Err(Refusal::Fault(PAST_LIMIT));
+            return Err(LineRefusal::Fault(PAST_LIMIT));
         }
         Ok(Draft::Used(self.before, kind))
     }
@@ -260,10 +255,10 @@ fn enter(
     mut blocks: Vec<Open>,
     opened: Open,
     statements: u32,
-) -> Result<Draft, Refusal>
-    requires { statements < 200 }
+) -> Result<Draft, LineRefusal>
+    requires { statements < MOST_STATEMENTS }
     ensures ok { IfOk result (λ draft. reading_of draft ≡ Inside (contents_before before) (frame_of opened ∷ frames_of blocks.items) Stop (suc statements)) }
-    ensures err { IfErr result (λ refusal. refusal ≡ Refusal.Memory) }
+    ensures err { IfErr result (λ refusal. refusal ≡ LineRefusal.Memory) }
 {
     blocks.push(opened)?;
     Ok(Draft::Inside(OpenProcess {
@@ -281,9 +276,9 @@ fn leave(
     mut outer: Vec<Stmt>,
     stmt: Stmt,
     statements: u32,
-) -> Result<Draft, Refusal>
+) -> Result<Draft, LineRefusal>
     ensures ok { IfOk result (λ draft. reading_of draft ≡ Inside (contents_before before) (frames_of blocks.items) (block_of outer.items ⊕ with_stmt stmt Stop) statements) }
-    ensures err { IfErr result (λ refusal. refusal ≡ Refusal.Memory) }
+    ensures err { IfErr result (λ refusal. refusal ≡ LineRefusal.Memory) }
 {
     outer.push(stmt)?;
     Ok(Draft::Inside(OpenProcess {

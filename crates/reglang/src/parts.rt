@@ -6,15 +6,13 @@ ghost use Rattle.reglang.specs.Contents.{is_over};
 use crate::draft::Draft;
 use crate::forms::Line;
 use crate::open_process::OpenProcess;
-use crate::refusals::{MISPLACED, NO_CLAUSE, PAST_LIMIT, Refusal};
+use crate::refusals::{LineRefusal, MISPLACED, NO_CLAUSE, PAST_LIMIT};
 use crate::source::{Process, Source};
 use crate::uses::Use;
 use arrayvec::ArrayVec;
+use regmodel::limits::MOST_PROCESSES;
 use regmodel::{Clause, Clauses};
 use std::alloc::Global;
-
-/// The most processes of a source.
-const MOST_PROCESSES: usize = 8;
 
 /// The registers, and the whole processes and checks so far.
 #[derive(Debug, Drop)]
@@ -29,7 +27,7 @@ impl Parts {
     ghost use Rattle.std.specs.Prelude.{Err, IfErr, IfOk, MatchResult, Ok, [], ◌∷◌, ◌++◌};
     ghost use Rattle.reglang.specs.Contents.{body_of};
     ghost use Rattle.reglang.specs.Drafts as spec;
-    ghost use Rattle.reglang.specs.Drafts.{Answers, Between, ReadingFits, contents_before, finished, reading_of};
+    ghost use Rattle.reglang.specs.Drafts.{Answers, Between, ReadingFits, contents_before, contents_at_end, reading_of};
     ghost use Rattle.reglang.specs.Sources.{contents_of};
     ghost use Rattle.reglang.specs.declared.forms.Line.TheVariants as line;
     ghost use Rattle.reglang.specs.declared.source.Process.TheVariants as process;
@@ -53,45 +51,45 @@ impl Parts {
     }
 
     /// Takes a line between processes.
-    pub fn take(self, alloc: Global, line: Line) -> Result<Draft, Refusal>
+    pub fn take(self, alloc: Global, line: Line) -> Result<Draft, LineRefusal>
         ensures { Answers (spec.take_between (contents_before self) line) result }
     {
         match line {
             Line::Process => self.begin_process(alloc),
             Line::Check(clause) => self.add_clause(clause),
-            _ => Err(Refusal::Fault(MISPLACED)),
+            _ => Err(LineRefusal::Fault(MISPLACED)),
         }
     }
 
     /// Begins a process.
-    fn begin_process(self, alloc: Global) -> Result<Draft, Refusal>
+    fn begin_process(self, alloc: Global) -> Result<Draft, LineRefusal>
         ensures { Answers (spec.take_between (contents_before self) line.Process) result }
     {
         if self.processes.len() >= MOST_PROCESSES {
-            return Err(Refusal::Fault(PAST_LIMIT));
+            return Err(LineRefusal::Fault(PAST_LIMIT));
         }
         Ok(Draft::Inside(OpenProcess::new(alloc, self)))
     }
 
     /// Adds the clause of a check line.
-    fn add_clause(mut self, clause: Option<Clause>) -> Result<Draft, Refusal>
+    fn add_clause(mut self, clause: Option<Clause>) -> Result<Draft, LineRefusal>
         ensures { Answers (spec.add_clause (contents_before self) clause) result }
     {
         if self.clauses.is_full() {
-            return Err(Refusal::Fault(PAST_LIMIT));
+            return Err(LineRefusal::Fault(PAST_LIMIT));
         }
         let Some(clause) = clause else {
-            return Err(Refusal::Fault(NO_CLAUSE));
+            return Err(LineRefusal::Fault(NO_CLAUSE));
         };
         self.clauses.push(clause);
         Ok(Draft::Between(self))
     }
 
     /// Adds a process that is read to its end.
-    pub fn add_process(mut self, process: Process) -> Result<Draft, Refusal>
+    pub fn add_process(mut self, process: Process) -> Result<Draft, LineRefusal>
         requires { is_over self.registers process ≡ true }
         ensures ok { IfOk result (λ draft. reading_of draft ≡ Between (record (contents_before self) { processes = (contents_before self).processes ++ body_of process ∷ [] })) }
-        ensures err { IfErr result (λ refusal. refusal ≡ Refusal.Memory) }
+        ensures err { IfErr result (λ refusal. refusal ≡ LineRefusal.Memory) }
     {
         self.processes.push(process)?;
         Ok(Draft::Between(self))
@@ -100,7 +98,7 @@ impl Parts {
     /// The source of these parts.
     pub fn finish(self) -> Result<Source, u8>
         requires { ReadingFits (Between (contents_before self)) }
-        ensures { MatchResult result (λ source. finished (Between (contents_before self)) ≡ Ok (contents_of source)) (λ code. finished (Between (contents_before self)) ≡ Err code) }
+        ensures { MatchResult result (λ source. contents_at_end (Between (contents_before self)) ≡ Ok (contents_of source)) (λ code. contents_at_end (Between (contents_before self)) ≡ Err code) }
     {
         let Parts {
             registers,
@@ -114,13 +112,13 @@ impl Parts {
     }
 
     /// Takes a line after a use line.
-    pub fn take_used(self, kind: Use, line: Line) -> Result<Draft, Refusal>
+    pub fn take_used(self, kind: Use, line: Line) -> Result<Draft, LineRefusal>
         requires { is_over self.registers (process.Use kind) ≡ true }
         ensures { Answers (spec.take_used (contents_before self) kind line) result }
     {
         match line {
             Line::End => self.add_process(Process::Use(kind)),
-            _ => Err(Refusal::Fault(MISPLACED)),
+            _ => Err(LineRefusal::Fault(MISPLACED)),
         }
     }
 }

@@ -2,7 +2,7 @@
 
 ghost use Rattle.std.specs.Prelude.{◌≡◌, ◌≢◌, ◌<◌, ◌≤◌, IfErr, IfOk, length, max, Some};
 ghost use Rattle.reglang.specs.Contents.{Contents};
-ghost use Rattle.reglang.specs.Drafts.{Answers, IsFaultOf, ReadingFits, reading_of, take_read};
+ghost use Rattle.reglang.specs.Drafts.{Answers, IsFaultOf, ReadingFits, reading_of, take_if_said};
 ghost use Rattle.reglang.specs.Faults.{first_fault};
 ghost use Rattle.reglang.specs.Forms as forms;
 ghost use Rattle.reglang.specs.Grammar.{Spells};
@@ -12,7 +12,7 @@ ghost use Rattle.reglang.specs.Sources.{contents_of};
 use crate::draft::Draft;
 use crate::forms::read_line;
 use crate::lines::split_line;
-use crate::refusals::{NO_MEMORY, Refusal};
+use crate::refusals::{LineRefusal, NO_MEMORY};
 use crate::source::Source;
 use std::alloc::Global;
 use thiserror::Error;
@@ -59,24 +59,24 @@ pub fn read_source(alloc: Global, text: &[u8]) -> Result<Source, ReadFault>
 }
 
 /// Takes the next line of the text.
-fn next(alloc: Global, draft: Draft, line: &[u8]) -> Result<Draft, Refusal>
+fn next(alloc: Global, draft: Draft, line: &[u8]) -> Result<Draft, LineRefusal>
     requires { ReadingFits (reading_of draft) }
-    ensures { Answers (take_read (reading_of draft) (forms.read_line line.now)) result }
+    ensures { Answers (take_if_said (reading_of draft) (forms.read_line line.now)) result }
 {
     match read_line(line) {
         Ok(Some(line)) => draft.take(alloc, line),
         Ok(None) => Ok(draft),
-        Err(code) => Err(Refusal::Fault(code)),
+        Err(code) => Err(LineRefusal::Fault(code)),
     }
 }
 
 /// The fault of a line that was not taken.
-fn fault(line: u64, refusal: Refusal) -> ReadFault
+fn fault(line: u64, refusal: LineRefusal) -> ReadFault
     ensures { IsFaultOf line refusal result }
 {
     let code = match refusal {
-        Refusal::Fault(code) => code,
-        Refusal::Memory => NO_MEMORY,
+        LineRefusal::Fault(code) => code,
+        LineRefusal::Memory => NO_MEMORY,
     };
     ReadFault { line, code }
 }

@@ -31,31 +31,31 @@ pub const NO_MEMORY: u8 = 9;
 
 /// Why a line was not taken.
 #[derive(Clone, Copy, PartialEq, Eq, Debug)]
-pub enum Refusal {
+pub enum LineRefusal {
     /// Its fault has this code, 1 to 8.
     Fault(u8),
     /// A request for memory was refused.
     Memory,
 }
 
-impl From<AllocError> for Refusal {
+impl From<AllocError> for LineRefusal {
     ghost use Rattle.std.specs.Prelude.{◌≡◌};
-    ghost use Rattle.reglang.specs.declared.refusals.Refusal.TheVariants.{Memory};
+    ghost use Rattle.reglang.specs.declared.refusals.LineRefusal.TheVariants.{Memory};
 
     ghost from_gives = { λ _ refusal. refusal ≡ Memory };
 
-    fn from(_error: AllocError) -> Refusal {
-        Refusal::Memory
+    fn from(_error: AllocError) -> LineRefusal {
+        LineRefusal::Memory
     }
 }
 
-impl<T: Drop> From<AllocFailed<T>> for Refusal {
+impl<T: Drop> From<AllocFailed<T>> for LineRefusal {
     ghost use Rattle.std.specs.Prelude.{◌≡◌};
-    ghost use Rattle.reglang.specs.declared.refusals.Refusal.TheVariants.{Memory};
+    ghost use Rattle.reglang.specs.declared.refusals.LineRefusal.TheVariants.{Memory};
 
     ghost from_gives = { λ _ refusal. refusal ≡ Memory };
 
-    fn from(_error: AllocFailed<T>) -> Refusal {
-        Refusal::Memory
+    fn from(_error: AllocFailed<T>) -> LineRefusal {
+        LineRefusal::Memory
     }
 }

@@ -1,6 +1,7 @@
 //! Sources: 1 to 8 processes over the same registers, and the properties asked of their outcomes.
 
 ghost use Rattle.std.specs.Prelude.{◌≡◌, ◌<◌, ◌≤◌, All, length, true};
+ghost use Rattle.regmodel.specs.declared.limits.TheConstants.{MOST_CHECKS, MOST_PROCESSES, MOST_REGISTERS};
 ghost use Rattle.reglang.specs.Contents.{clause_fits, is_over};
 
 use crate::copies::copy_block;
@@ -31,7 +32,7 @@ impl Process {
         match self {
             Process::Text(prog) => {
                 let body = copy_block(alloc, prog.body())?;
-                Ok(Prog::new(prog.registers(), body).unwrap())
+                Ok(Prog::of(prog.registers(), body))
             }
             Process::Use(kind) => match expand(alloc, kind, registers) {
                 Ok(prog) => Ok(prog),
@@ -48,10 +49,10 @@ pub struct Source {
     processes: Vec<Process>,
     clauses: Clauses,
     ghost some_register: { 0 < registers },
-    ghost few_registers: { registers ≤ 64 },
+    ghost few_registers: { registers ≤ MOST_REGISTERS },
     ghost some_process: { 0 < length processes.items },
-    ghost few_processes: { length processes.items ≤ 8 },
-    ghost few_clauses: { length clauses ≤ 16 },
+    ghost few_processes: { length processes.items ≤ MOST_PROCESSES },
+    ghost few_clauses: { length clauses ≤ MOST_CHECKS },
     ghost clauses_fit: { All (λ clause. clause_fits clause ≡ true) clauses },
     ghost fit: { All (λ p. is_over registers p ≡ true) processes.items },
 }
@@ -61,16 +62,16 @@ impl Source {
     ghost use Rattle.regmodel.specs.OfProg.{program_of};
     ghost use Rattle.regmodel.specs.Limits.{IsWithin};
     ghost use Rattle.std.specs.Prelude.{IfSome, MatchOption, map};
-    ghost use Rattle.reglang.specs.Contents.{Kind, IsText, AreWithin, body_of};
-    ghost use Rattle.reglang.specs.Sources.{contents_of, registers_of, programs_of};
+    ghost use Rattle.reglang.specs.Contents.{Kind, IsText, IsSourceWithin, body_of};
+    ghost use Rattle.reglang.specs.Sources.{contents_of, registers_of, source_programs};
 
     /// The source of these processes and clauses.
     pub(crate) fn new(registers: u32, processes: Vec<Process>, clauses: Clauses) -> Source
         requires some_register { 0 < registers }
-        requires few_registers { registers ≤ 64 }
+        requires few_registers { registers ≤ MOST_REGISTERS }
         requires some { 0 < length processes.items }
-        requires few { length processes.items ≤ 8 }
-        requires few_clauses { length clauses ≤ 16 }
+        requires few { length processes.items ≤ MOST_PROCESSES }
+        requires few_clauses { length clauses ≤ MOST_CHECKS }
         requires clauses_fit { All (λ clause. clause_fits clause ≡ true) clauses }
         requires fit { All (λ p. is_over registers p ≡ true) processes.items }
         ensures { contents_of result ≡ record { registers = registers; processes = map body_of processes.items; clauses = clauses } }
@@ -85,18 +86,18 @@ impl Source {
     /// How many registers there are, 1 to 64.
     pub fn registers(&self) -> u32
         ensures value { result ≡ registers_of self.now }
-        ensures programs { All (λ p. IsWithin p × (p.registers ≡ result)) (programs_of self.now) }
-        ensures some { 0 < length (programs_of self.now) }
-        ensures few { length (programs_of self.now) ≤ 8 }
+        ensures programs { All (λ p. IsWithin p × (p.registers ≡ result)) (source_programs self.now) }
+        ensures some { 0 < length (source_programs self.now) }
+        ensures few { length (source_programs self.now) ≤ MOST_PROCESSES }
     {
         self.registers
     }
 
     /// How many processes there are, 1 to 8.
     pub fn processes(&self) -> usize
-        ensures value { length (programs_of self.now) ≡ result }
+        ensures value { length (source_programs self.now) ≡ result }
         ensures some { 0 < result }
-        ensures few { result ≤ 8 }
+        ensures few { result ≤ MOST_PROCESSES }
     {
         self.processes.len()
     }
@@ -111,14 +112,14 @@ impl Source {
     /// The clauses, in the order of their lines.
     pub fn clauses(&self) -> &Clauses
         ensures value { result.now ≡ (contents_of self.now).clauses }
-        ensures within { AreWithin (contents_of self.now) }
+        ensures within { IsSourceWithin (contents_of self.now) }
     {
         &self.clauses
     }
 
     /// The use line of process p, counted from 0. None where it has statements of its own.
     pub fn use_of(&self, p: usize) -> Option<&Use>
-        requires { p < length (programs_of self.now) }
+        requires { p < length (source_programs self.now) }
         ensures { MatchOption result (IfSome (slice_get (contents_of self.now).processes p) IsText) (λ kind. slice_get (contents_of self.now).processes p ≡ Some (Kind kind.now)) }
     {
         match &self.processes[p] {
@@ -130,8 +131,8 @@ impl Source {
     /// The program of process p, counted from 0: a copy of its own, or its expansion.
     /// An error where a request for memory was refused.
     pub fn prog(&self, alloc: Global, p: usize) -> Result<Prog, OutOfMemory>
-        requires { p < length (programs_of self.now) }
-        ensures { IfOk result (λ prog. slice_get (programs_of self.now) p ≡ Some (program_of prog)) }
+        requires { p < length (source_programs self.now) }
+        ensures { IfOk result (λ prog. slice_get (source_programs self.now) p ≡ Some (program_of prog)) }
     {
         self.processes[p].prog(alloc, self.registers())
     }

@@ -1,9 +1,10 @@
 //! Uses: processes that stand for a program of their kind.
 
 ghost use Rattle.std.specs.Prelude.{◌≡◌, ◌^◌, ◌-◌, ◌≤◌, IsTrue};
+ghost use Rattle.regmodel.specs.declared.limits.TheConstants.{MOST_LEVELS};
 ghost use Rattle.reglang.specs.Uses as spec;
 
-use crate::words::GREATEST;
+use regmodel::limits::{GREATEST_VALUE, MOST_LEVELS, MOST_REGISTERS, MOST_ROWS, MOST_SLOTS};
 
 /// What a use line says: a kind, and its numbers in the order of the line.
 ///
@@ -17,7 +18,7 @@ pub enum Use {
     /// A binary tree of splitters: BASE; DEPTH, 1 to 4 levels; ID; VALUE, what the process leaves where it stops. It takes
     /// 4 * (2^DEPTH - 1) registers.
     Tree(u32, u32, u32, u32),
-    /// A choice of names: BASE; SLOTS, 1 to 8; SLOT, that of the process, below SLOTS. It takes SLOTS registers.
+    /// A renaming: BASE; SLOTS, 1 to 8; SLOT, that of the process, below SLOTS. It takes SLOTS registers.
     Name(u32, u32, u32),
 }
 
@@ -29,7 +30,7 @@ impl Use {
     pub fn fits(&self, registers: u32) -> bool
         ensures { result ≡ use_fits self.now registers }
     {
-        if !is_between(1, 64, registers) {
+        if !is_between(1, MOST_REGISTERS, registers) {
             return false;
         }
         if !numbers_fit(self) {
@@ -50,7 +51,7 @@ fn is_between(first: u32, last: u32, n: u32) -> bool
 fn is_mark(n: u32) -> bool
     ensures { result ≡ spec.is_mark n }
 {
-    is_between(1, GREATEST, n)
+    is_between(1, GREATEST_VALUE, n)
 }
 
 /// Whether the numbers after BASE are within the limits of their kind.
@@ -59,11 +60,11 @@ fn numbers_fit(kind: &Use) -> bool
 {
     match *kind {
         Use::Split(_, id) => is_mark(id),
-        Use::Grid(_, side, id) => is_between(1, 7, side) && is_mark(id),
+        Use::Grid(_, side, id) => is_between(1, MOST_ROWS, side) && is_mark(id),
         Use::Tree(_, depth, id, value) => {
-            is_between(1, 4, depth) && is_mark(id) && is_mark(value)
+            is_between(1, MOST_LEVELS, depth) && is_mark(id) && is_mark(value)
         }
-        Use::Name(_, slots, slot) => is_between(1, 8, slots) && slot < slots,
+        Use::Name(_, slots, slot) => is_between(1, MOST_SLOTS, slots) && slot < slots,
     }
 }
 
@@ -82,7 +83,7 @@ fn registers_end(kind: &Use) -> u64
 
 /// How many vertices a binary tree of this depth has.
 pub(crate) fn vertices(depth: u32) -> u32
-    requires { depth ≤ 4 }
+    requires { depth ≤ MOST_LEVELS }
     ensures { result ≡ 2 ^ depth - 1 }
 {
     (1 << depth) - 1

@@ -6,9 +6,7 @@ ghost use Rattle.std.specs.Str.Parse.{digits_value};
 ghost use Rattle.reglang.specs.Words as spec;
 
 use regmodel::Op;
-
-/// The greatest number of a source.
-pub(crate) const GREATEST: u32 = 1_000_000_000;
+use regmodel::limits::{CELLS, GREATEST_VALUE, VARIABLES};
 
 /// The first words of lines, as they are spelled.
 const KEYWORDS: [(&[u8], Keyword); 15] = [
@@ -164,8 +162,8 @@ fn value_of(digits: &[u8]) -> u32
     let mut value = 0u32;
     for digit in digits {
         let more = u64::from(value) * 10 + u64::from(*digit - b'0');
-        if more > u64::from(GREATEST) {
-            return GREATEST + 1;
+        if more > u64::from(GREATEST_VALUE) {
+            return GREATEST_VALUE + 1;
         }
         value = more as u32;
     }
@@ -183,8 +181,8 @@ fn number_of(word: &[u8]) -> Option<u32>
 }
 
 /// The number if it is below the limit.
-fn below(limit: u8, number: Option<u32>) -> Option<u8>
-    ensures { result ≡ spec.below limit number }
+fn only_below(limit: u8, number: Option<u32>) -> Option<u8>
+    ensures { result ≡ spec.only_below limit number }
 {
     match number {
         Some(n) if n < u32::from(limit) => Some(n as u8),
@@ -197,7 +195,7 @@ fn variable_of(word: &[u8]) -> Option<u8>
     ensures { result ≡ spec.variable_of word.now }
 {
     match word {
-        [b'v', index @ ..] => below(16, number_of(index)),
+        [b'v', index @ ..] => only_below(VARIABLES, number_of(index)),
         _ => None,
     }
 }
@@ -224,7 +222,7 @@ fn cell_word(word: &[u8]) -> Word
     let Some(index) = in_brackets(word) else {
         return Word::Other;
     };
-    if let Some(i) = below(32, number_of(index)) {
+    if let Some(i) = only_below(CELLS, number_of(index)) {
         return Word::Cell(i);
     }
     match variable_of(index) {

@@ -1,15 +1,18 @@
 -- What a program does on a whole list of replies.
 use Rattle.std.specs.Prelude.{ℕ, zero, suc, List, [], ◌∷◌, ◌++◌, Result, Ok, Err, nat_lt, if◌then◌else◌, length}
+use Rattle.regmodel.specs.Reply.{Replies}
 use Rattle.regmodel.specs.declared.accesses.Access.{Access}
 use Rattle.regmodel.specs.declared.accesses.Access.TheVariants as access
 use Rattle.regmodel.specs.declared.accesses.Pending.{Pending}
 use Rattle.regmodel.specs.declared.accesses.Pending.TheVariants as pending
-use Rattle.regmodel.specs.Values.{Env, Place, start_env, below, and_then, operand_value, expr_value, place_of, store}
+use Rattle.regmodel.specs.declared.limits.TheConstants.{MOST_NUMBERS, MOST_TURNS}
+use Rattle.regmodel.specs.declared.faults.TheConstants.{TOO_MANY_NUMBERS, TOO_MANY_TURNS}
+use Rattle.regmodel.specs.Values.{Env, Place, start_env, below_or_fault, and_then, operand_value, expr_value, target_place, store}
 use Rattle.regmodel.specs.Program.{Block, Program, Stop, Assign, Read, Write, If, Repeat, Emit, Halt}
 
 -- what a block leads to: it goes on with what is left of the replies, wants an access, is done with numbers, or is at fault
 pub data Flow : Type 0 where
-  GoesOn : (env : Env) (replies : List ℕ) → Flow
+  GoesOn : (env : Env) (replies : Replies) → Flow
   Wants : (access : Access) → Flow
   Ends : (numbers : List ℕ) → Flow
   Faults : (code : ℕ) → Flow
@@ -20,21 +23,21 @@ with_value (Ok x) go = go x
 with_value (Err code) go = Faults code
 
 -- one after another
-abbrev pub then_do : Flow → (Env → List ℕ → Flow) → Flow
+abbrev pub then_do : Flow → (Env → Replies → Flow) → Flow
 then_do (GoesOn env replies) go = go env replies
 then_do (Wants a) go = Wants a
 then_do (Ends numbers) go = Ends numbers
 then_do (Faults code) go = Faults code
 
 -- a read stores the next reply, or wants its access where none is left
-abbrev pub take_read : Env → Place → ℕ → List ℕ → Flow
-take_read env place r [] = Wants (access.Read r)
-take_read env place r (reply ∷ replies) = GoesOn (store env place reply) replies
+abbrev pub answer_read : Env → Place → ℕ → Replies → Flow
+answer_read env place r [] = Wants (access.Read r)
+answer_read env place r (reply ∷ replies) = GoesOn (store env place reply) replies
 
 -- a write uses up the next reply, or wants its access
-abbrev pub take_write : Env → ℕ → ℕ → List ℕ → Flow
-take_write env r v [] = Wants (access.Write r v)
-take_write env r v (reply ∷ replies) = GoesOn env replies
+abbrev pub answer_write : Env → ℕ → ℕ → Replies → Flow
+answer_write env r v [] = Wants (access.Write r v)
+answer_write env r v (reply ∷ replies) = GoesOn env replies
 
 -- the second where the value is 0
 abbrev pub choose : ℕ → Flow → Flow → Flow
@@ -42,45 +45,45 @@ choose zero first second = second
 choose (suc n) first second = first
 
 -- a block so many times
-abbrev pub times : ℕ → (Env → List ℕ → Flow) → Env → List ℕ → Flow
+abbrev pub times : ℕ → (Env → Replies → Flow) → Env → Replies → Flow
 times zero block env replies = GoesOn env replies
 times (suc n) block env replies = then_do (block env replies) (times n block)
 
--- a block as often as its count, or fault 3 above 99
-abbrev pub repeated : ℕ → (Env → List ℕ → Flow) → Env → List ℕ → Flow
-repeated n block env replies = if nat_lt 99 n then Faults 3 else times n block env replies
+-- a block as often as its count, or a fault above the most turns
+abbrev pub times_or_fault : ℕ → (Env → Replies → Flow) → Env → Replies → Flow
+times_or_fault n block env replies = if nat_lt MOST_TURNS n then Faults TOO_MANY_TURNS else times n block env replies
 
--- a number appended to the result, or fault 4 where 8 stand
-abbrev pub emit : Env → ℕ → List ℕ → Flow
-emit env v replies = if nat_lt (length env.emitted) 8 then GoesOn (record env { emitted = env.emitted ++ v ∷ [] }) replies else Faults 4
+-- a number appended to the result, or a fault where there are as many as may be
+abbrev pub emit : Env → ℕ → Replies → Flow
+emit env v replies = if nat_lt (length env.emitted) MOST_NUMBERS then GoesOn (record env { emitted = env.emitted ++ v ∷ [] }) replies else Faults TOO_MANY_NUMBERS
 
 -- a block over so many registers, from an environment, on a list of replies
-abbrev pub exec : Block → ℕ → Env → List ℕ → Flow
+abbrev pub exec : Block → ℕ → Env → Replies → Flow
 exec Stop registers env replies = GoesOn env replies
 exec (Assign t e rest) registers env replies =
-    with_value (expr_value env e) (λ v. with_value (place_of env t) (λ place. exec rest registers (store env place v) replies))
+    with_value (expr_value env e) (λ v. with_value (target_place env t) (λ place. exec rest registers (store env place v) replies))
 exec (Read t a rest) registers env replies =
-    with_value (and_then (operand_value env a) (below registers)) (λ r. with_value (place_of env t) (λ place.
-    then_do (take_read env place r replies) (exec rest registers)))
+    with_value (and_then (operand_value env a) (below_or_fault registers)) (λ r. with_value (target_place env t) (λ place.
+    then_do (answer_read env place r replies) (exec rest registers)))
 exec (Write a e rest) registers env replies =
-    with_value (and_then (operand_value env a) (below registers)) (λ r. with_value (expr_value env e) (λ v.
-    then_do (take_write env r v replies) (exec rest registers)))
+    with_value (and_then (operand_value env a) (below_or_fault registers)) (λ r. with_value (expr_value env e) (λ v.
+    then_do (answer_write env r v replies) (exec rest registers)))
 exec (If e first second rest) registers env replies =
     with_value (expr_value env e) (λ v.
     then_do (choose v (exec first registers env replies) (exec second registers env replies)) (exec rest registers))
 exec (Repeat e body rest) registers env replies =
-    with_value (expr_value env e) (λ n. then_do (repeated n (exec body registers) env replies) (exec rest registers))
+    with_value (expr_value env e) (λ n. then_do (times_or_fault n (exec body registers) env replies) (exec rest registers))
 exec (Emit e rest) registers env replies =
     with_value (expr_value env e) (λ v. then_do (emit env v replies) (exec rest registers))
 exec (Halt rest) registers env replies = Ends env.emitted
 
 -- how a flow shows from outside: going on past the end is done
-abbrev pub stands : Flow → Pending
-stands (GoesOn env replies) = pending.Done (record { items = env.emitted })
-stands (Wants a) = pending.Wants a
-stands (Ends numbers) = pending.Done (record { items = numbers })
-stands (Faults code) = pending.Fault code
+abbrev pub flow_pending : Flow → Pending
+flow_pending (GoesOn env replies) = pending.Done (record { items = env.emitted })
+flow_pending (Wants a) = pending.Wants a
+flow_pending (Ends numbers) = pending.Done (record { items = numbers })
+flow_pending (Faults code) = pending.Fault code
 
 -- what a program does from its start on these replies
-abbrev pub act_of : Program → List ℕ → Pending
-act_of program replies = stands (exec program.body program.registers start_env replies)
+abbrev pub act_of : Program → Replies → Pending
+act_of program replies = flow_pending (exec program.body program.registers start_env replies)

@@ -15,7 +15,7 @@ use Rattle.regmodel.specs.declared.programs.Target.TheVariants as target
 use Rattle.regmodel.specs.Program.{Block, Program, Stop, Assign, Read, Write, If, Repeat, Emit}
 use Rattle.regmodel.specs.Act.{act_of}
 use Rattle.regmodel.specs.AllSchedules.{all_schedules}
-use Rattle.regmodel.specs.Letters.{letter_at, letters_of}
+use Rattle.regmodel.specs.Letters.{letter_at, all_letters}
 use Rattle.regmodel.specs.Outcomes.{outcome_of}
 use Rattle.regmodel.specs.PlainReport.{Findings}
 use Rattle.regmodel.specs.Summary.{first_refused}
@@ -130,7 +130,7 @@ one_writer = refl
 
 -- ---- letters by their numbers
 
-pub letters_of_two : map (letter_at 2) (0 ∷ 1 ∷ 2 ∷ 3 ∷ []) ≡ letters_of 2
+pub letters_of_two : map (letter_at 2) (0 ∷ 1 ∷ 2 ∷ 3 ∷ []) ≡ all_letters 2
 letters_of_two = refl
 
 -- ---- the text of schedules

@@ -3,7 +3,7 @@ pub mod AllSchedules
 pub mod Asleep
 pub mod AsleepExamples
 pub mod Balance
-pub mod Bounds
+pub mod Settings
 pub mod Classes
 pub mod Conflict
 pub mod ConflictExamples
@@ -12,8 +12,8 @@ pub mod Examples
 pub mod Lawful
 pub mod Letters
 pub mod Limits
-pub mod Meeting
-pub mod MeetingExamples
+pub mod Judging
+pub mod JudgingExamples
 pub mod OfProg
 pub mod Outcomes
 pub mod PlainReport
@@ -22,6 +22,7 @@ pub mod Program
 pub mod Reduced
 pub mod ReducedExamples
 pub mod Replies
+pub mod Reply
 pub mod ReportText
 pub mod ScheduleText
 pub mod Schedules

@@ -1,5 +1,6 @@
 -- The limits of a program. What faults only when it is run is no such limit.
 use Rattle.std.specs.Prelude.{ℕ, ◌+◌, ◌<◌, ◌≤◌, Bool, true, ◌&&◌, IsTrue, max, nat_lt, nat_le}
+use Rattle.regmodel.specs.declared.limits.TheConstants.{CELLS, GREATEST_VALUE, MOST_OPEN_BLOCKS, MOST_OPEN_REPEATS, MOST_REGISTERS, MOST_STATEMENTS, VARIABLES}
 use Rattle.regmodel.specs.declared.programs.Target.{Target}
 use Rattle.regmodel.specs.declared.programs.Target.TheVariants as target
 use Rattle.regmodel.specs.declared.programs.Operand.{Operand}
@@ -10,17 +11,18 @@ use Rattle.regmodel.specs.Program.{Block, Program, Stop, Assign, Read, Write, If
 
 -- 16 variables and 32 cells
 abbrev pub target_fits : Target → Bool
-target_fits (target.Var i) = nat_lt i 16
-target_fits (target.Cell i) = nat_lt i 32
-target_fits (target.CellOf i) = nat_lt i 16
+target_fits (target.Var i) = nat_lt i VARIABLES
+target_fits (target.Cell i) = nat_lt i CELLS
+target_fits (target.CellOf i) = nat_lt i VARIABLES
 
 -- and numbers up to 1000000000
 abbrev pub operand_fits : Operand → Bool
-operand_fits (operand.Number n) = nat_le n 1000000000
-operand_fits (operand.Var i) = nat_lt i 16
-operand_fits (operand.Cell i) = nat_lt i 32
-operand_fits (operand.CellOf i) = nat_lt i 16
+operand_fits (operand.Number n) = nat_le n GREATEST_VALUE
+operand_fits (operand.Var i) = nat_lt i VARIABLES
+operand_fits (operand.Cell i) = nat_lt i CELLS
+operand_fits (operand.CellOf i) = nat_lt i VARIABLES
 
+-- each operand is within its limit
 abbrev pub expr_fits : Expr → Bool
 expr_fits (One a) = operand_fits a
 expr_fits (Two a op b) = operand_fits a && operand_fits b
@@ -72,8 +74,8 @@ open_repeats (Halt rest) = open_repeats rest
 -- a program within the limits
 pub record IsWithin (program : Program) : Type 0 where
   pub some_register : 0 < program.registers
-  pub registers : program.registers ≤ 64
+  pub registers : program.registers ≤ MOST_REGISTERS
   pub operands : IsTrue (operands_fit program.body)
-  pub statements : statements program.body ≤ 200
-  pub open_blocks : open_blocks program.body ≤ 16
-  pub open_repeats : open_repeats program.body ≤ 3
+  pub statements : statements program.body ≤ MOST_STATEMENTS
+  pub open_blocks : open_blocks program.body ≤ MOST_OPEN_BLOCKS
+  pub open_repeats : open_repeats program.body ≤ MOST_OPEN_REPEATS

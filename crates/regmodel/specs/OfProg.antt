@@ -2,5 +2,6 @@
 use Rattle.regmodel.specs.declared.programs.Prog.{Prog}
 use Rattle.regmodel.specs.Program.{Program, block_of}
 
+-- the program as plain data
 abbrev pub program_of : Prog → Program
 program_of prog = record { registers = prog.registers; body = block_of prog.body.items }

@@ -6,6 +6,7 @@ use Rattle.regmodel.specs.declared.programs.Expr.{Expr}
 use Rattle.regmodel.specs.declared.programs.Stmt.{Stmt, Row_of-Stmt, end_of-Stmt, more_of-Stmt}
 use Rattle.regmodel.specs.declared.programs.Stmt.TheVariants as stmt
 
+-- statements, each with the rest of its block
 pub data Block : Type 0 where
   Stop : Block
   Assign : (to : Target) (value : Expr) (rest : Block) → Block

@@ -1,6 +1,7 @@
 -- The text of a schedule.
 use Rattle.std.specs.Prelude.{ℕ, ◌+◌, List, [], ◌∷◌, codes}
 use Rattle.std.specs.List.{join_by}
+use Rattle.regmodel.specs.Letters.{Schedule}
 use Rattle.regmodel.specs.declared.letters.Letter.{Letter}
 use Rattle.regmodel.specs.declared.letters.Letter.TheVariants.{Run, Crash}
 
@@ -10,6 +11,6 @@ letter_text (Run p) = 82 ∷ (48 + p) ∷ []
 letter_text (Crash p) = 67 ∷ (48 + p) ∷ []
 
 -- a dot for no letters, else the letters parted by one space
-abbrev pub schedule_text : List Letter → List ℕ
+abbrev pub schedule_text : Schedule → List ℕ
 schedule_text [] = codes "."
 schedule_text (a ∷ w) = join_by letter_text (codes " ") (a ∷ w)

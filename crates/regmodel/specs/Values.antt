@@ -1,5 +1,7 @@
 -- What expressions are worth: left to right, a value or the code of a fault.
 use Rattle.std.specs.Prelude.{ℕ, ◌+◌, ◌-◌, ◌*◌, List, [], Result, Ok, Err, nat_lt, nat_le, ◌==◌, if◌then◌else◌, slice_index, slice_set, replicate}
+use Rattle.regmodel.specs.declared.limits.TheConstants.{CELLS, GREATEST_VALUE, VARIABLES}
+use Rattle.regmodel.specs.declared.faults.TheConstants.{NO_PLACE, NO_VALUE}
 use Rattle.regmodel.specs.declared.programs.Target.{Target}
 use Rattle.regmodel.specs.declared.programs.Target.TheVariants as target
 use Rattle.regmodel.specs.declared.programs.Operand.{Operand}
@@ -17,35 +19,37 @@ pub record Env : Type 0 where
 
 -- 16 variables and 32 cells of 0, and nothing emitted
 abbrev pub start_env : Env
-start_env = record { vars = replicate 16 0; cells = replicate 32 0; emitted = [] }
+start_env = record { vars = replicate VARIABLES 0; cells = replicate CELLS 0; emitted = [] }
 
--- a value within the limit, or fault 1
+-- a value up to the greatest one, or its fault
 abbrev pub within : ℕ → Result ℕ ℕ
-within n = if nat_le n 1000000000 then Ok n else Err 1
+within n = if nat_le n GREATEST_VALUE then Ok n else Err NO_VALUE
 
--- a number below a limit, or fault 2
-abbrev pub below : ℕ → ℕ → Result ℕ ℕ
-below limit n = if nat_lt n limit then Ok n else Err 2
+-- a number below a limit, or the fault of a place that is not there
+abbrev pub below_or_fault : ℕ → ℕ → Result ℕ ℕ
+below_or_fault limit n = if nat_lt n limit then Ok n else Err NO_PLACE
 
 -- goes on with a value, or keeps the fault
 abbrev pub and_then : Result ℕ ℕ → (ℕ → Result ℕ ℕ) → Result ℕ ℕ
 and_then (Ok n) f = f n
 and_then (Err code) f = Err code
 
+-- the value of an operand, or the fault of a cell that is not there
 abbrev pub operand_value : Env → Operand → Result ℕ ℕ
 operand_value env (operand.Number n) = Ok n
 operand_value env (operand.Var i) = Ok (slice_index env.vars i)
 operand_value env (operand.Cell i) = Ok (slice_index env.cells i)
-operand_value env (operand.CellOf i) = and_then (below 32 (slice_index env.vars i)) (λ j. Ok (slice_index env.cells j))
+operand_value env (operand.CellOf i) = and_then (below_or_fault CELLS (slice_index env.vars i)) (λ j. Ok (slice_index env.cells j))
 
--- the comparisons give 1 or 0; a value above the limit or below 0 is fault 1
+-- the comparisons give 1 or 0; a value above the greatest or below 0 is a fault
 abbrev pub apply_op : Op → ℕ → ℕ → Result ℕ ℕ
 apply_op Add a b = within (a + b)
-apply_op Sub a b = if nat_lt a b then Err 1 else Ok (a - b)
+apply_op Sub a b = if nat_lt a b then Err NO_VALUE else Ok (a - b)
 apply_op Mul a b = within (a * b)
 apply_op Equal a b = Ok (if a == b then 1 else 0)
 apply_op Less a b = Ok (if nat_lt a b then 1 else 0)
 
+-- the value of an expression, operands from left to right, or its first fault
 abbrev pub expr_value : Env → Expr → Result ℕ ℕ
 expr_value env (One a) = operand_value env a
 expr_value env (Two a op b) = and_then (operand_value env a) (λ x. and_then (operand_value env b) (λ y. apply_op op x y))
@@ -55,11 +59,11 @@ pub data Place : Type 0 where
   InVar : (index : ℕ) → Place
   InCell : (index : ℕ) → Place
 
--- the place of a target, or fault 2
-abbrev pub place_of : Env → Target → Result Place ℕ
-place_of env (target.Var i) = Ok (InVar i)
-place_of env (target.Cell i) = Ok (InCell i)
-place_of env (target.CellOf i) = if nat_lt (slice_index env.vars i) 32 then Ok (InCell (slice_index env.vars i)) else Err 2
+-- the place of a target, or the fault of a cell that is not there
+abbrev pub target_place : Env → Target → Result Place ℕ
+target_place env (target.Var i) = Ok (InVar i)
+target_place env (target.Cell i) = Ok (InCell i)
+target_place env (target.CellOf i) = if nat_lt (slice_index env.vars i) CELLS then Ok (InCell (slice_index env.vars i)) else Err NO_PLACE
 
 -- the environment with a value at a place
 abbrev pub store : Env → Place → ℕ → Env

@@ -20,7 +20,7 @@ pub enum Clause {
     SelfSeen,
     /// No process is running.
     Ended,
-    /// No process is at fault.
+    /// No process is at fault. It is the default because `ArrayVec` asks for one.
     #[default]
     NoFault,
 }
@@ -34,18 +34,20 @@ pub struct Clauses {
 impl Model for Clauses {
     ghost use Rattle.std.specs.Prelude.{List, ◌≤◌, length};
     ghost use Rattle.regmodel.specs.declared.clauses.Clause.{Clause};
+    ghost use Rattle.regmodel.specs.declared.limits.TheConstants.{MOST_CHECKS};
 
     ghost Value = { List Clause };
 
     ghost view = { λ c. c.list.items };
 
-    ghost invariant = { λ c. length c.list.items ≤ 16 };
+    ghost invariant = { λ c. length c.list.items ≤ MOST_CHECKS };
 
     ghost inverse = { λ clauses. record { list = record { items = clauses } } };
 }
 
 impl Clauses {
     ghost use Rattle.std.specs.Prelude.{◌≡◌, ◌≤◌, length};
+    ghost use Rattle.regmodel.specs.declared.limits.TheConstants.{MOST_CHECKS};
 
     /// These clauses.
     pub fn new(list: ArrayVec<Clause, 16>) -> Clauses
@@ -57,7 +59,7 @@ impl Clauses {
     /// The clauses, in their order; at most 16.
     pub fn list(&self) -> &[Clause]
         ensures value { result.now ≡ self.now }
-        ensures few { length self.now ≤ 16 }
+        ensures few { length self.now ≤ MOST_CHECKS }
     {
         self.list.as_slice()
     }

@@ -2,7 +2,8 @@
 
 ghost use Rattle.std.specs.Prelude.{◌≡◌, ◌≤◌, ◌+◌, ◌*◌, ◌==◌, ◌&&◌, not, length, count_by, nat_le};
 ghost use Rattle.std.specs.List.{list_all, list_any};
-ghost use Rattle.regmodel.specs.Meeting.{are_different, has_if_done, is_faulty, is_running, meets, meets_all, name_of, names, see_themselves, started};
+ghost use Rattle.regmodel.specs.declared.limits.TheConstants.{MOST_PROCESSES};
+ghost use Rattle.regmodel.specs.Judging.{are_different, has_if_done, is_faulty, is_running, meets, meets_all, name_of, names, see_themselves, count_started};
 
 use crate::clauses::{Clause, Clauses};
 use crate::outcomes::{End, Judge, Outcome, ProcEnd};
@@ -59,8 +60,8 @@ fn are_within(ends: &[ProcEnd], low: u32, high: u32) -> bool
 }
 
 /// How many processes took a step.
-fn started(ends: &[ProcEnd]) -> usize
-    ensures value { result ≡ started ends.now }
+fn count_started(ends: &[ProcEnd]) -> usize
+    ensures value { result ≡ count_started ends.now }
     ensures few { result ≤ length ends.now }
 {
     ends.iter().filter(|end| end.started).count()
@@ -85,7 +86,7 @@ fn has_if_done(fate: &End, m: u32) -> bool
 
 /// Whether each process that took a step and is done has its number and 1 among its numbers; the first of these is process p.
 fn see_themselves(p: usize, ends: &[ProcEnd]) -> bool
-    requires { p + length ends.now ≤ 8 }
+    requires { p + length ends.now ≤ MOST_PROCESSES }
     ensures { result ≡ see_themselves p ends.now }
 {
     let Some((end, more)) = ends.split_first() else {
@@ -99,10 +100,10 @@ fn see_themselves(p: usize, ends: &[ProcEnd]) -> bool
 
 /// Whether each name m is at least 1, and m + 1 at most twice the number of processes that took a step.
 fn are_adaptive(ends: &[ProcEnd]) -> bool
-    requires { length ends.now ≤ 8 }
-    ensures { result ≡ list_all (λ m. nat_le 1 m && nat_le (m + 1) (2 * started ends.now)) (names ends.now) }
+    requires { length ends.now ≤ MOST_PROCESSES }
+    ensures { result ≡ list_all (λ m. nat_le 1 m && nat_le (m + 1) (2 * count_started ends.now)) (names ends.now) }
 {
-    let most = 2 * started(ends) as u64;
+    let most = 2 * count_started(ends) as u64;
     ends.iter()
         .filter_map(name_of)
         .all(|m| 1 <= m && u64::from(m) + 1 <= most)
@@ -110,10 +111,10 @@ fn are_adaptive(ends: &[ProcEnd]) -> bool
 
 /// Whether each name m is at least 1, and 2m at most k(k + 1), where k processes took a step.
 fn are_in_triangle(ends: &[ProcEnd]) -> bool
-    requires { length ends.now ≤ 8 }
-    ensures { result ≡ list_all (λ m. nat_le 1 m && nat_le (2 * m) (started ends.now * (started ends.now + 1))) (names ends.now) }
+    requires { length ends.now ≤ MOST_PROCESSES }
+    ensures { result ≡ list_all (λ m. nat_le 1 m && nat_le (2 * m) (count_started ends.now * (count_started ends.now + 1))) (names ends.now) }
 {
-    let k = started(ends) as u64;
+    let k = count_started(ends) as u64;
     let most = k * (k + 1);
     ends.iter()
         .filter_map(name_of)
@@ -152,7 +153,7 @@ fn meets(clause: &Clause, outcome: &Outcome) -> bool
 }
 
 impl Judge for Clauses {
-    ghost use Rattle.regmodel.specs.Meeting.{meets_all};
+    ghost use Rattle.regmodel.specs.Judging.{meets_all};
 
     ghost accepts = { λ clauses ends. meets_all clauses ends };
 

@@ -9,6 +9,7 @@ pub enum Letter {
     Crash(u8),
 }
 
+// `ArrayVec` asks for a default; nothing else uses it.
 impl Default for Letter {
     ghost use Rattle.std.specs.Prelude.{◌≡◌};
     ghost use Rattle.regmodel.specs.declared.letters.Letter.TheVariants.{Run};

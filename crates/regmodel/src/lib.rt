@@ -1,22 +1,23 @@
 //! The model: programs over shared registers, schedules of their steps, and what comes out.
 #![tactic(auto)]
 
-pub mod accesses;
-pub mod bounds;
-pub mod clauses;
+mod accesses;
+mod clauses;
+pub mod faults;
+mod fitting;
 mod judging;
 pub mod laws;
-pub mod letters;
-mod limits;
-pub mod memory;
-pub mod outcomes;
-pub mod programs;
+mod letters;
+pub mod limits;
+mod memory;
+mod outcomes;
+mod programs;
 pub mod reductions;
-pub mod schedule_texts;
-pub mod schedules;
+mod schedule_texts;
+mod schedules;
+mod settings;
 
 pub use accesses::{Access, Numbers, Pending};
-pub use bounds::{SettingFault, Settings};
 pub use clauses::{Clause, Clauses};
 pub use letters::Letter;
 pub use memory::OutOfMemory;
@@ -24,6 +25,7 @@ pub use outcomes::{End, Judge, Outcome, ProcEnd};
 pub use programs::{Expr, Op, Operand, Prog, Stmt, Target};
 pub use schedule_texts::{read_schedule, write_schedule};
 pub use schedules::Prefix;
+pub use settings::{SettingFault, Settings};
 
 #[cfg(test)]
 mod tests;

@@ -1,129 +1,61 @@
-//! Whether statements are within the limits of a program.
+//! The limits of the model and of an exploration: each number that something may not pass stands here, once.
 
-ghost use Rattle.std.specs.Prelude.{◌≡◌, ◌+◌, ◌<◌, ◌≤◌, ◌↔◌, IsTrue, MatchOption};
-ghost use Rattle.regmodel.specs.Program.{block_of, with_stmt, Stop};
-ghost use Rattle.regmodel.specs.Limits as spec;
+/// The greatest value of a register, a variable, a cell, a number of a program, and the numbers of a check.
+pub const GREATEST_VALUE: u32 = 1_000_000_000;
 
-use crate::programs::Stmt;
+/// The most registers of a program.
+pub const MOST_REGISTERS: u32 = 64;
 
-/// Whether each target and operand of a block is within its limit.
-#[cycle(fits)]
-pub fn operands_fit(block: &[Stmt]) -> bool
-    ensures { result ≡ spec.operands_fit (block_of block.now) }
-{
-    for stmt in block {
-        if !stmt_fits(stmt) {
-            return false;
-        }
-    }
-    true
-}
+/// The most letters of a schedule.
+pub const MOST_LETTERS: u32 = 64;
 
-/// Whether each target and operand of a statement is within its limit.
-#[cycle(fits)]
-fn stmt_fits(stmt: &Stmt) -> bool
-    ensures { result ≡ spec.operands_fit (with_stmt stmt.now Stop) }
-{
-    match stmt {
-        Stmt::Assign(target, expr) => target.fits() && expr.fits(),
-        Stmt::Read(target, operand) => target.fits() && operand.fits(),
-        Stmt::Write(operand, expr) => operand.fits() && expr.fits(),
-        Stmt::If(expr, first, second) => {
-            if !expr.fits() {
-                return false;
-            }
-            if !operands_fit(first.as_slice()) {
-                return false;
-            }
-            operands_fit(second.as_slice())
-        }
-        Stmt::Repeat(expr, body) => {
-            if !expr.fits() {
-                return false;
-            }
-            operands_fit(body.as_slice())
-        }
-        Stmt::Emit(expr) => expr.fits(),
-        Stmt::Halt => true,
-    }
-}
+/// The most processes of a source.
+pub const MOST_PROCESSES: usize = 8;
 
-/// Whether `if` and `repeat` are nested at most so deep in a block, and `repeat` alone at most so deep.
-#[cycle(nests)]
-pub fn nests_within(block: &[Stmt], blocks: u32, repeats: u32) -> bool
-    ensures { IsTrue result ↔ ((spec.open_blocks (block_of block.now) ≤ blocks) × (spec.open_repeats (block_of block.now) ≤ repeats)) }
-{
-    for stmt in block {
-        if !stmt_nests_within(stmt, blocks, repeats) {
-            return false;
-        }
-    }
-    true
-}
+/// The number of the last process that a letter can name.
+pub const LAST_PROCESS: u8 = 7;
 
-/// The same of one statement.
-#[cycle(nests)]
-fn stmt_nests_within(stmt: &Stmt, blocks: u32, repeats: u32) -> bool
-    ensures { IsTrue result ↔ ((spec.open_blocks (with_stmt stmt.now Stop) ≤ blocks) × (spec.open_repeats (with_stmt stmt.now Stop) ≤ repeats)) }
-{
-    match stmt {
-        Stmt::If(_, first, second) => {
-            if blocks == 0 {
-                return false;
-            }
-            if !nests_within(first.as_slice(), blocks - 1, repeats) {
-                return false;
-            }
-            nests_within(second.as_slice(), blocks - 1, repeats)
-        }
-        Stmt::Repeat(_, body) => {
-            if blocks == 0 || repeats == 0 {
-                return false;
-            }
-            nests_within(body.as_slice(), blocks - 1, repeats - 1)
-        }
-        Stmt::Assign(_, _) => true,
-        Stmt::Read(_, _) => true,
-        Stmt::Write(_, _) => true,
-        Stmt::Emit(_) => true,
-        Stmt::Halt => true,
-    }
-}
+/// The most processes that may crash.
+pub const MOST_CRASHES: u32 = 8;
 
-/// What is left of a number after the statements of a block are taken from it, those of inner blocks counted. None where they are more.
-#[cycle(counts)]
-pub fn room_after(block: &[Stmt], room: u32) -> Option<u32>
-    ensures { MatchOption result (room < spec.statements (block_of block.now)) (λ left. left + spec.statements (block_of block.now) ≡ room) }
-{
-    let mut left = room;
-    for stmt in block {
-        match room_after_stmt(stmt, left) {
-            Some(fewer) => left = fewer,
-            None => return None,
-        }
-    }
-    Some(left)
-}
+/// The most workers of an exploration.
+pub const MOST_WORKERS: u32 = 16;
 
-/// The same of one statement.
-#[cycle(counts)]
-fn room_after_stmt(stmt: &Stmt, room: u32) -> Option<u32>
-    ensures { MatchOption result (room < spec.statements (with_stmt stmt.now Stop)) (λ left. left + spec.statements (with_stmt stmt.now Stop) ≡ room) }
-{
-    if room == 0 {
-        return None;
-    }
-    let inner = room - 1;
-    match stmt {
-        Stmt::If(_, first, second) => match room_after(first.as_slice(), inner) {
-            Some(left) => room_after(second.as_slice(), left),
-            None => None,
-        },
-        Stmt::Repeat(_, body) => room_after(body.as_slice(), inner),
-        Stmt::Assign(_, _) => Some(inner),
-        Stmt::Read(_, _) => Some(inner),
-        Stmt::Write(_, _) => Some(inner),
-        Stmt::Emit(_) => Some(inner),
-        Stmt::Halt => Some(inner),
-    }
-}
+/// The greatest length below which a piece may be split.
+pub const GREATEST_CUT: u32 = 16;
+
+/// The most pieces that a worker may hand on.
+pub const GREATEST_ROOM: u32 = 65536;
+
+/// How many variables a process has.
+pub const VARIABLES: u8 = 16;
+
+/// How many cells a process has.
+pub const CELLS: u8 = 32;
+
+/// The most statements of a process, those of inner blocks counted.
+pub const MOST_STATEMENTS: u32 = 200;
+
+/// The most blocks of a process that are open at a place, `if` and `repeat` together.
+pub const MOST_OPEN_BLOCKS: u32 = 16;
+
+/// The most repeats among them.
+pub const MOST_OPEN_REPEATS: u32 = 3;
+
+/// The most turns of a `repeat`.
+pub const MOST_TURNS: u32 = 99;
+
+/// The most numbers that a process emits.
+pub const MOST_NUMBERS: usize = 8;
+
+/// The most rows and columns of a grid.
+pub const MOST_ROWS: u32 = 7;
+
+/// The most levels of a tree.
+pub const MOST_LEVELS: u32 = 4;
+
+/// The most slots of a renaming.
+pub const MOST_SLOTS: u32 = 8;
+
+/// The most checks of a source.
+pub const MOST_CHECKS: usize = 16;

@@ -13,7 +13,7 @@ pub enum End {
     Fault(u8),
     /// It has crashed, whatever it wanted.
     Crashed,
-    /// It still wants an access.
+    /// It still wants an access. It is the default because `ArrayVec` asks for one.
     #[default]
     Running,
 }
@@ -46,6 +46,7 @@ impl Model for Outcome {
 
 impl Outcome {
     ghost use Rattle.std.specs.Prelude.{◌≡◌, ◌≤◌, length};
+    ghost use Rattle.regmodel.specs.declared.limits.TheConstants.{MOST_PROCESSES};
 
     /// The outcome of these ends.
     pub fn new(ends: ArrayVec<ProcEnd, 8>) -> Outcome
@@ -61,10 +62,17 @@ impl Outcome {
         self.ends.as_slice()
     }
 
+    /// The same outcome. It takes no memory, which a clone might be refused.
+    pub fn copy(&self) -> Outcome
+        ensures { result ≡ self.now }
+    {
+        self.clone().unwrap()
+    }
+
     /// How each process stands; at most 8.
     pub(crate) fn few_ends(&self) -> &[ProcEnd]
         ensures value { result.now ≡ self.now }
-        ensures few { length result.now ≤ 8 }
+        ensures few { length result.now ≤ MOST_PROCESSES }
     {
         self.ends.as_slice()
     }

@@ -2,9 +2,14 @@
 
 ghost use Rattle.std.specs.Prelude.{◌≡◌, ◌<◌, ◌≤◌, ◌↔◌, IsTrue, IfSome, IsSome};
 ghost use Rattle.regmodel.specs.Program.{block_of};
+ghost use Rattle.regmodel.specs.declared.limits.TheConstants.{MOST_OPEN_BLOCKS, MOST_OPEN_REPEATS, MOST_REGISTERS, MOST_STATEMENTS};
 ghost use Rattle.regmodel.specs.Limits.{operands_fit, statements, open_blocks, open_repeats, IsWithin};
 
-use crate::limits;
+use crate::fitting;
+use crate::limits::{
+    CELLS, GREATEST_VALUE, MOST_OPEN_BLOCKS, MOST_OPEN_REPEATS, MOST_REGISTERS, MOST_STATEMENTS,
+    VARIABLES,
+};
 
 /// Where a value is stored.
 #[derive(Clone, Copy, PartialEq, Eq, Debug)]
@@ -55,9 +60,9 @@ impl Target {
         ensures { result ≡ target_fits self.now }
     {
         match self {
-            Target::Var(i) => *i < 16,
-            Target::Cell(i) => *i < 32,
-            Target::CellOf(i) => *i < 16,
+            Target::Var(i) => *i < VARIABLES,
+            Target::Cell(i) => *i < CELLS,
+            Target::CellOf(i) => *i < VARIABLES,
         }
     }
 }
@@ -70,10 +75,10 @@ impl Operand {
         ensures { result ≡ operand_fits self.now }
     {
         match self {
-            Operand::Number(n) => *n <= 1000000000,
-            Operand::Var(i) => *i < 16,
-            Operand::Cell(i) => *i < 32,
-            Operand::CellOf(i) => *i < 16,
+            Operand::Number(n) => *n <= GREATEST_VALUE,
+            Operand::Var(i) => *i < VARIABLES,
+            Operand::Cell(i) => *i < CELLS,
+            Operand::CellOf(i) => *i < VARIABLES,
         }
     }
 }
@@ -117,11 +122,11 @@ pub struct Prog {
     registers: u32,
     body: Vec<Stmt>,
     ghost some_register: { 0 < registers },
-    ghost few_registers: { registers ≤ 64 },
+    ghost few_registers: { registers ≤ MOST_REGISTERS },
     ghost operands: { IsTrue (operands_fit (block_of body.items)) },
-    ghost statements: { statements (block_of body.items) ≤ 200 },
-    ghost open_blocks: { open_blocks (block_of body.items) ≤ 16 },
-    ghost open_repeats: { open_repeats (block_of body.items) ≤ 3 },
+    ghost statements: { statements (block_of body.items) ≤ MOST_STATEMENTS },
+    ghost open_blocks: { open_blocks (block_of body.items) ≤ MOST_OPEN_BLOCKS },
+    ghost open_repeats: { open_repeats (block_of body.items) ≤ MOST_OPEN_REPEATS },
 }
 
 impl Prog {
@@ -133,20 +138,28 @@ impl Prog {
         ensures value { IfSome result (λ p. program_of p ≡ record { registers = registers; body = block_of body.items }) }
         ensures limits { IsSome result ↔ IsWithin (record { registers = registers; body = block_of body.items }) }
     {
-        if registers == 0 || registers > 64 {
+        if registers == 0 || registers > MOST_REGISTERS {
             return None;
         }
         let block = body.as_slice();
-        if !limits::operands_fit(block) {
+        if !fitting::operands_fit(block) {
             return None;
         }
-        if !limits::nests_within(block, 16, 3) {
+        if !fitting::nests_within(block, MOST_OPEN_BLOCKS, MOST_OPEN_REPEATS) {
             return None;
         }
-        if limits::room_after(block, 200).is_none() {
+        if fitting::room_after(block, MOST_STATEMENTS).is_none() {
             return None;
         }
-        Some(Prog { registers, body })
+        Some(Prog::of(registers, body))
+    }
+
+    /// The program of these statements over so many registers, which are within the limits.
+    pub fn of(registers: u32, body: Vec<Stmt>) -> Prog
+        requires { IsWithin (record { registers = registers; body = block_of body.items }) }
+        ensures { program_of result ≡ record { registers = registers; body = block_of body.items } }
+    {
+        Prog { registers, body }
     }
 
     /// How many registers there are.

@@ -1,10 +1,10 @@
 //! Does what was asked, and gives the status.
 
 ghost use Rattle.std.specs.Prelude.{◌≡◌, ◌≤◌, All, IfErr, IfOk, IfSome, IsNone, if◌then◌else◌, length, map, option_and_then};
-ghost use Rattle.regmodel.specs.Meeting.{meets_all};
+ghost use Rattle.regmodel.specs.Judging.{meets_all};
 ghost use Rattle.regmodel.specs.PlainReport.{IsPlainReport};
-ghost use Rattle.reglang.specs.Sources.{contents_of, programs_of};
-ghost use Rattle.explorer.specs.Appending.{Writes, fault_of};
+ghost use Rattle.reglang.specs.Sources.{contents_of, source_programs};
+ghost use Rattle.explorer.specs.Appending.{Writes, write_fault_of};
 ghost use Rattle.regtry.specs.Findings.{IsAnswered, IsFoundBy, IsRefusedBy, IsRunFault, finding_text, has_failing};
 ghost use Rattle.regtry.specs.Statuses.{status_of};
 
@@ -47,7 +47,7 @@ impl Finding {
 
     /// Writes the text of what was found.
     fn write<W: Write>(&self, out: &mut W) -> Result<(), WriteFault>
-        ensures { Writes (W.contents out.old) (W.contents out.new) (finding_text self.now) (fault_of result) }
+        ensures { Writes (W.contents out.old) (W.contents out.new) (finding_text self.now) (write_fault_of result) }
     {
         match self {
             Finding::Report(report) => write_report(report, out),
@@ -167,9 +167,9 @@ fn report_of<H: Threads + Wait + Sync>(
     lists: Vec<Vec<Box<dyn Machine + Send>>>,
 ) -> Result<Report, u8>
     requires lists { length lists.items ≡ settings.workers }
-    requires machines { All (λ list. map program list.items ≡ programs_of source.now) lists.items }
-    ensures report { IfOk result (λ r. IsPlainReport (programs_of source.now) settings.length settings.crashes (meets_all (contents_of source.now).clauses) r) }
-    ensures code { IfErr result (IsRunFault (programs_of source.now) settings) }
+    requires machines { All (λ list. map program list.items ≡ source_programs source.now) lists.items }
+    ensures report { IfOk result (λ r. IsPlainReport (source_programs source.now) settings.length settings.crashes (meets_all (contents_of source.now).clauses) r) }
+    ensures code { IfErr result (IsRunFault (source_programs source.now) settings) }
 {
     match run(
         rt,

@@ -2,7 +2,7 @@
 
 ghost use Rattle.std.specs.Prelude.{◌≡◌, ◌<◌, ◌↔◌, IfErr, IfOk, IsOk, IsTrue, Some, length, slice_get};
 ghost use Rattle.reglang.specs.Expansions.{expansion};
-ghost use Rattle.reglang.specs.Sources.{programs_of};
+ghost use Rattle.reglang.specs.Sources.{source_programs};
 ghost use Rattle.reglang.specs.Uses.{use_fits};
 ghost use Rattle.regtry.specs.declared.machines.ProcessMachine.TheVariants as process;
 
@@ -77,8 +77,8 @@ pub fn machine_of(
     p: usize,
     native: bool,
 ) -> Result<ProcessMachine, Refusal>
-    requires { p < length (programs_of source.now) }
-    ensures program { IfOk result (λ m. slice_get (programs_of source.now) p ≡ Some (⟦<ProcessMachine as Machine>⟧.program m)) }
+    requires { p < length (source_programs source.now) }
+    ensures program { IfOk result (λ m. slice_get (source_programs source.now) p ≡ Some (⟦<ProcessMachine as Machine>⟧.program m)) }
     ensures err { IfErr result (λ refusal. refusal ≡ Refusal.Memory) }
 {
     match source.use_of(p) {
@@ -89,8 +89,8 @@ pub fn machine_of(
 
 /// An interpreter of the program of process p.
 fn interpreter_of(alloc: Global, source: &Source, p: usize) -> Result<ProcessMachine, Refusal>
-    requires { p < length (programs_of source.now) }
-    ensures program { IfOk result (λ m. slice_get (programs_of source.now) p ≡ Some (⟦<ProcessMachine as Machine>⟧.program m)) }
+    requires { p < length (source_programs source.now) }
+    ensures program { IfOk result (λ m. slice_get (source_programs source.now) p ≡ Some (⟦<ProcessMachine as Machine>⟧.program m)) }
     ensures err { IfErr result (λ refusal. refusal ≡ Refusal.Memory) }
 {
     let prog = source.prog(alloc, p)?;

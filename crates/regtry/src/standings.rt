@@ -3,7 +3,7 @@
 ghost use Rattle.std.specs.Prelude.{◌≡◌, ◌≤◌, IfErr, IfOk, map};
 ghost use Rattle.regmodel.specs.Outcomes.{outcome_of};
 ghost use Rattle.regmodel.specs.Schedules.{IsSchedule};
-ghost use Rattle.reglang.specs.Sources.{programs_of, registers_of};
+ghost use Rattle.reglang.specs.Sources.{source_programs, registers_of};
 ghost use Rattle.world.specs.Sound.{IsSoundWorld, letters_of, register_count_of, world_programs};
 ghost use Rattle.regtry.specs.Standings.{IsLetterRefused, values_after};
 
@@ -32,11 +32,11 @@ pub fn standing_after(
     machines: Vec<Box<dyn Machine + Send>>,
     schedule: &Prefix,
 ) -> Result<Standing, BadLetter>
-    requires { map program machines.items ≡ programs_of source.now }
-    ensures schedule { IfOk result (λ standing. IsSchedule (programs_of source.now) 8 schedule.now) }
-    ensures outcome { IfOk result (λ standing. standing.outcome ≡ outcome_of (programs_of source.now) schedule.now) }
-    ensures registers { IfOk result (λ standing. standing.registers.items ≡ values_after (programs_of source.now) schedule.now (registers_of source.now)) }
-    ensures refused { IfErr result (λ letter. IsLetterRefused (programs_of source.now) 8 schedule.now letter.place) }
+    requires { map program machines.items ≡ source_programs source.now }
+    ensures schedule { IfOk result (λ standing. IsSchedule (source_programs source.now) 8 schedule.now) }
+    ensures outcome { IfOk result (λ standing. standing.outcome ≡ outcome_of (source_programs source.now) schedule.now) }
+    ensures registers { IfOk result (λ standing. standing.registers.items ≡ values_after (source_programs source.now) schedule.now (registers_of source.now)) }
+    ensures refused { IfErr result (λ letter. IsLetterRefused (source_programs source.now) 8 schedule.now letter.place) }
 {
     let mut world = World::new(machines, source.registers(), CRASHES);
     match world.replay(schedule) {

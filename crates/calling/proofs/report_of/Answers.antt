@@ -1,7 +1,7 @@
 use Rattle.std.proofs.Common.{◌≡◌, inl, refl, ap, ◌∙◌}
 use Rattle.regmodel.specs.Program.{Program}
 use denote.Param.Object.{read_made}
-use Rattle.reglang.specs.Sources.{programs_of}
+use Rattle.reglang.specs.Sources.{source_programs}
 use Rattle.regmodel.proofs.Members.{map-take_push}
 use Rattle.calling.proofs.report_of.OwnLists.{own-1}
 use Rattle.calling.proofs.report_of.Goals as goal
@@ -9,7 +9,7 @@ use Rattle.calling.proofs.report_of.Goals as goal
 -- one machine more: the boxed one is of the next process's program
 pub loop-p-preserved : goal.loop-p-preserved
 loop-p-preserved c =
-    let programs = programs_of c.args.source.now in
+    let programs = source_programs c.args.source.now in
     let program = (own-1.entry (inl tt)).1.program c.in_ok-player.player in
     let boxed = c.into_dyn_box.result in
     let same : (own-1.entry boxed.vtable).1.program boxed.value ≡ program =

@@ -1,6 +1,7 @@
-//! The expansion of a choice of names.
+//! The expansion of a renaming.
 
 ghost use Rattle.std.specs.Prelude.{◌≡◌, ◌≤◌, ◌<◌, IfOk};
+ghost use Rattle.regmodel.specs.declared.limits.TheConstants.{MOST_REGISTERS, MOST_SLOTS};
 ghost use Rattle.regmodel.specs.Program.{block_of};
 ghost use Rattle.reglang.specs.Expansions.{name_body, name_round, name_slot, name_other, name_rank, name_turn, name_next, name_held};
 
@@ -8,27 +9,28 @@ use regmodel::Expr::{One, Two};
 use regmodel::Op::{Add, Equal, Less, Sub};
 use regmodel::Operand::{CellOf, Number, Var};
 use regmodel::Stmt::{Assign, Emit, Halt, If, Read, Repeat, Write};
+use regmodel::limits::MOST_TURNS;
 use regmodel::{OutOfMemory, Stmt, Target};
 use std::alloc::Global;
 
-/// The statements of a choice of names, whose slots begin at register `base`, for the process of this slot.
+/// The statements of a renaming, whose slots begin at register `base`, for the process of this slot.
 pub fn name_block(alloc: Global, base: u32, slots: u32, slot: u32) -> Result<Vec<Stmt>, OutOfMemory>
-    requires base { base ≤ 64 }
-    requires slots { slots ≤ 8 }
+    requires base { base ≤ MOST_REGISTERS }
+    requires slots { slots ≤ MOST_SLOTS }
     requires slot { slot < slots }
     ensures { IfOk result (λ block. block_of block.items ≡ name_body base slots slot) }
 {
     let round = round(alloc, base, slots, slot)?;
     Ok(vec![in alloc;
         Assign(Target::Var(0), One(Number(1))),
-        Repeat(One(Number(99)), round),
+        Repeat(One(Number(MOST_TURNS)), round),
     ]?)
 }
 
 /// Writes the proposal, reads the other slots, and keeps the proposal or makes the next one.
 fn round(alloc: Global, base: u32, slots: u32, slot: u32) -> Result<Vec<Stmt>, OutOfMemory>
-    requires base { base ≤ 64 }
-    requires slots { slots ≤ 8 }
+    requires base { base ≤ MOST_REGISTERS }
+    requires slots { slots ≤ MOST_SLOTS }
     requires slot { slot < slots }
     ensures { IfOk result (λ block. block_of block.items ≡ name_round base slots slot) }
 {

@@ -1,6 +1,7 @@
 //! The expansion of a splitter.
 
 ghost use Rattle.std.specs.Prelude.{◌≡◌, ◌≤◌, IfOk};
+ghost use Rattle.regmodel.specs.declared.limits.TheConstants.{MOST_REGISTERS};
 ghost use Rattle.regmodel.specs.Program.{block_of};
 ghost use Rattle.reglang.specs.Expansions.{split_right, split_body};
 
@@ -13,7 +14,7 @@ use std::alloc::Global;
 
 /// The statements of a splitter whose registers are `base` and the next, for the process with this number.
 pub fn split_block(alloc: Global, base: u32, id: u32) -> Result<Vec<Stmt>, OutOfMemory>
-    requires { base ≤ 64 }
+    requires { base ≤ MOST_REGISTERS }
     ensures { IfOk result (λ block. block_of block.items ≡ split_body base id) }
 {
     let door = base + 1;

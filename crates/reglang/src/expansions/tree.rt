@@ -1,6 +1,7 @@
 //! The expansion of a tree.
 
 ghost use Rattle.std.specs.Prelude.{◌≡◌, ◌≤◌, IfOk};
+ghost use Rattle.regmodel.specs.declared.limits.TheConstants.{MOST_LEVELS};
 ghost use Rattle.regmodel.specs.Program.{block_of};
 ghost use Rattle.reglang.specs.Expansions.{tree_body, tree_descend, tree_visit, tree_right, tree_down, tree_collect, tree_look, tree_marked};
 
@@ -20,7 +21,7 @@ pub fn tree_block(
     id: u32,
     value: u32,
 ) -> Result<Vec<Stmt>, OutOfMemory>
-    requires { depth ≤ 4 }
+    requires { depth ≤ MOST_LEVELS }
     ensures { IfOk result (λ block. block_of block.items ≡ tree_body base depth id value) }
 {
     let descend = descend(alloc, base, id)?;

@@ -1,6 +1,7 @@
 //! Words, as they are written.
 
 ghost use Rattle.std.specs.Prelude.{◌≡◌, ◌++◌, OnOk, decimal};
+ghost use Rattle.reglang.specs.Spelling as spelling;
 ghost use Rattle.reglang.specs.Writing as spec;
 
 use crate::words::{Keyword, Kind, Property, Word};
@@ -9,7 +10,7 @@ use regmodel::{Op, OutOfMemory};
 
 /// The text of a first word of a line.
 fn keyword_text(key: Keyword) -> &'static [u8]
-    ensures { result.now ≡ spec.keyword_text key }
+    ensures { result.now ≡ spelling.keyword_text key }
 {
     match key {
         Keyword::Registers => b"registers",
@@ -32,7 +33,7 @@ fn keyword_text(key: Keyword) -> &'static [u8]
 
 /// The text of an operator.
 fn operator_text(op: Op) -> &'static [u8]
-    ensures { result.now ≡ spec.operator_text op }
+    ensures { result.now ≡ spelling.operator_text op }
 {
     match op {
         Op::Add => b"+",
@@ -45,7 +46,7 @@ fn operator_text(op: Op) -> &'static [u8]
 
 /// The text of a kind.
 fn kind_text(kind: Kind) -> &'static [u8]
-    ensures { result.now ≡ spec.kind_text kind }
+    ensures { result.now ≡ spelling.kind_text kind }
 {
     match kind {
         Kind::Split => b"split",
@@ -57,7 +58,7 @@ fn kind_text(kind: Kind) -> &'static [u8]
 
 /// The text of a property.
 fn property_text(property: Property) -> &'static [u8]
-    ensures { result.now ≡ spec.property_text property }
+    ensures { result.now ≡ spelling.property_text property }
 {
     match property {
         Property::Distinct => b"distinct",

@@ -1,5 +1,5 @@
 use Rattle.std.proofs.Common.{rules, ◌+◌, [], ◌∷◌, drop, get_or, Ok, refl, ap, sym, subst, ◌∙◌, arith}
-use Rattle.regmodel.specs.Act.{exec, take_read, take_write, times}
+use Rattle.regmodel.specs.Act.{exec, answer_read, answer_write, times}
 use Rattle.regmodel.specs.Program.{with_stmt, block_of}
 use Rattle.regmodel.specs.Limits.{open_blocks}
 use Rattle.machine.specs.declared.run.Frame.{Frame}
@@ -90,7 +90,7 @@ resume_stmt-returns-in-Reading-clause-flow t c = λ rest s.
     let n = c.args.registers in
     let env = env_of c.args.store.now in
     ap (λ p. part_flow p n (with_stmt c.args.stmt.now rest) (resume n (drop (c.args.depth + 1) c.args.frames.now)) env (c.args.reply ∷ s)) w.is
-    ∙ access_flow-with_stmt c.args.stmt.now n rest (take_read env (as_place w.place) w.field-0 (c.args.reply ∷ s))
+    ∙ access_flow-with_stmt c.args.stmt.now n rest (answer_read env (as_place w.place) w.field-0 (c.args.reply ∷ s))
     ∙ ap (λ x. exec rest n x s) (sym c.put.ensures)
 
 pub resume_stmt-returns-in-Writing-clause-flow : goal.resume_stmt-returns-in-Writing-clause-flow
@@ -99,7 +99,7 @@ resume_stmt-returns-in-Writing-clause-flow t c = λ rest s.
     let n = c.args.registers in
     let env = env_of c.args.store.now in
     ap (λ p. part_flow p n (with_stmt c.args.stmt.now rest) (resume n (drop (c.args.depth + 1) c.args.frames.now)) env (c.args.reply ∷ s)) w.is
-    ∙ access_flow-with_stmt c.args.stmt.now n rest (take_write env w.field-0 w.field-1 (c.args.reply ∷ s))
+    ∙ access_flow-with_stmt c.args.stmt.now n rest (answer_write env w.field-0 w.field-1 (c.args.reply ∷ s))
 
 pub resume_stmt-resume_block-exit-requires : goal.resume_stmt-resume_block-exit-requires
 resume_stmt-resume_block-exit-requires t c =

@@ -39,15 +39,15 @@ pub run_stmt-run_block-exit-requires : goal.run_stmt-run_block-exit-requires
 run_stmt-run_block-exit-requires t c =
     let w = c.in-If in
     let h = open_blocks_if _ _ _ _ w.is in
-    let told = arm_block c.taken-arm.result c.block_of_arm-block.ensures c.as_slice.ensures.value c.as_slice-in-If.ensures.value in
-    let b = open_blocks-arm c.taken-arm.result _ _ _ told in
+    let told = arm_block c.arm_at-arm.result c.block_of_arm-block.ensures c.as_slice.ensures.value c.as_slice-in-If.ensures.value in
+    let b = open_blocks-arm c.arm_at-arm.result _ _ _ told in
     (omega arith, (c.requires.small, omega (arith, h, b)))
 
 pub run_stmt-returns-in_ok-expr-in-If-clause-flow : goal.run_stmt-returns-in_ok-expr-in-If-clause-flow
 run_stmt-returns-in_ok-expr-in-If-clause-flow t c = λ rest s.
     let w = c.in-If in
     let n = c.args.registers in
-    let arm = c.taken-arm.result in
+    let arm = c.arm_at-arm.result in
     let first = block_of w.first.items in
     let second = block_of w.second.items in
     let whole = with_stmt c.args.stmt.now rest in
@@ -56,7 +56,7 @@ run_stmt-returns-in_ok-expr-in-If-clause-flow t c = λ rest s.
     let env = env_of c.run_block-exit.new.store in
     let told = arm_block _ c.block_of_arm-block.ensures c.as_slice.ensures.value c.as_slice-in-If.ensures.value in
     let seen = if_block _ _ _ _ rest w.is in
-    exec-if w.test block first second rest whole n (env_of c.args.store.now) s c.in_ok-expr-in-If.field-0 arm (block_flow c.run_block-exit.result n fs block env s) seen c.in_ok-expr-in-If.ensures c.taken-arm.ensures told (c.run_block-exit.ensures.flow s)
+    exec-if w.test block first second rest whole n (env_of c.args.store.now) s c.in_ok-expr-in-If.field-0 arm (block_flow c.run_block-exit.result n fs block env s) seen c.in_ok-expr-in-If.ensures c.arm_at-arm.ensures told (c.run_block-exit.ensures.flow s)
     ∙ then_exit c.run_block-exit.result (Within arm) n fs block whole rest env s (arm_part (Within arm) arm n whole w.test block first second rest (resume n fs) env s _ refl seen told refl)
     ∙ ap (λ r. stmt_flow r n fs whole rest env s) (sym c.stmt_exit.ensures)
 
@@ -64,7 +64,7 @@ pub run_stmt-returns-in_ok-expr-in-If-clause-asks : goal.run_stmt-returns-in_ok-
 run_stmt-returns-in_ok-expr-in-If-clause-asks t c = λ rest.
     let w = c.in-If in
     let n = c.args.registers in
-    let arm = c.taken-arm.result in
+    let arm = c.arm_at-arm.result in
     let whole = with_stmt c.args.stmt.now rest in
     let block = block_of c.block_of_arm-block.result.now in
     let fs = drop (c.args.depth + 1) c.run_block-exit.new.frames in
@@ -73,8 +73,8 @@ run_stmt-returns-in_ok-expr-in-If-clause-asks t c = λ rest.
     let seen = if_block _ _ _ _ rest w.is in
     rw c.stmt_exit.ensures (exit_asks c.run_block-exit.result (Within arm) n fs block whole rest env (arm_part (Within arm) arm n whole w.test block (block_of w.first.items) (block_of w.second.items) rest (resume n fs) env [] _ refl seen told refl) c.run_block-exit.ensures.asks)
 
-pub run_stmt-returns-else-turns-gt99-clause-flow : goal.run_stmt-returns-else-turns-gt99-clause-flow
-run_stmt-returns-else-turns-gt99-clause-flow t c = λ rest s.
+pub run_stmt-returns-else-turns-gt-MOST_TURNS-clause-flow : goal.run_stmt-returns-else-turns-gt-MOST_TURNS-clause-flow
+run_stmt-returns-else-turns-gt-MOST_TURNS-clause-flow t c = λ rest s.
     let w = c.in-Repeat in
     let n = c.args.registers in
     let old = env_of c.args.store.now in
@@ -86,8 +86,8 @@ run_stmt-returns-else-turns-gt99-clause-flow t c = λ rest s.
     ∙ c.run_turns.ensures.flow w.count rest s
     ∙ ap (λ x. stmt_flow c.run_turns.result n fs x rest (env_of c.run_turns.new.store) s) (sym seen)
 
-pub run_stmt-returns-else-turns-gt99-clause-asks : goal.run_stmt-returns-else-turns-gt99-clause-asks
-run_stmt-returns-else-turns-gt99-clause-asks t c = λ rest.
+pub run_stmt-returns-else-turns-gt-MOST_TURNS-clause-asks : goal.run_stmt-returns-else-turns-gt-MOST_TURNS-clause-asks
+run_stmt-returns-else-turns-gt-MOST_TURNS-clause-asks t c = λ rest.
     let w = c.in-Repeat in
     rw (repeat_block _ _ _ _ rest w.is c.as_slice-in-Repeat.ensures.value) (c.run_turns.ensures.asks w.count rest)
 

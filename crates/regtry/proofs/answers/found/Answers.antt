@@ -3,14 +3,14 @@ use Rattle.std.proofs.lemmas.List.Elements.{All-contains, Contains-append_right}
 use Rattle.regmodel.specs.Program.{Program}
 use Rattle.std.proofs.lemmas.Result.{err_from_is_err_and}
 use denote.Param.Object.{read_made}
-use Rattle.reglang.specs.Sources.{contents_of, programs_of}
+use Rattle.reglang.specs.Sources.{contents_of, source_programs}
 use Rattle.regmodel.proofs.Members.{map-take_push}
 use Rattle.regtry.proofs.answers.found.OwnLists.{own-1}
 use Rattle.regtry.proofs.answers.found.Goals as goal
 
 pub loop-p-preserved : goal.loop-p-preserved
 loop-p-preserved g c =
-    let programs = programs_of c.in-Ok.source in
+    let programs = source_programs c.in-Ok.source in
     let program = (own-1.entry (inl tt)).1.program c.in_ok-machine.machine in
     let boxed = c.into_dyn_box.result in
     let same : (own-1.entry boxed.vtable).1.program boxed.value ≡ program =
@@ -40,4 +40,4 @@ last_has P x xs ys e h = All-contains P ys x h (subst (λ zs. Contains zs x) (sy
 
 pub standing_after-requires : goal.standing_after-requires
 standing_after-requires g c =
-    last_has (λ list. map (λ b. (own-1.entry b.vtable).1.program b.value) list.items ≡ programs_of c.in-Ok.source) c.in-Some.machines c.pop.new.self.items c.loop-list.lists.items c.in-Some.ensures.items c.loop-list.invariant.machines
+    last_has (λ list. map (λ b. (own-1.entry b.vtable).1.program b.value) list.items ≡ source_programs c.in-Ok.source) c.in-Some.machines c.pop.new.self.items c.loop-list.lists.items c.in-Some.ensures.items c.loop-list.invariant.machines

@@ -5,12 +5,12 @@ use Rattle.reglang.specs.Drafts.{contents_before, is_turn}
 use Rattle.reglang.proofs.Taken.{answered, entered_repeat, no_more_turns}
 use Rattle.reglang.proofs.open_process.OpenProcess.enter_repeat.Goals as goal
 
-pub returns-then-open_repeats-ge-MOST_REPEATS : goal.returns-then-open_repeats-ge-MOST_REPEATS
-returns-then-open_repeats-ge-MOST_REPEATS c =
+pub returns-then-open_repeats : goal.returns-then-open_repeats
+returns-then-open_repeats c =
     let process = c.args.self in
     let count = c.open_repeats.ensures ∙ ap (count_by is_turn) c.as_slice.ensures.value in
     no_more_turns (contents_before process.before) process.blocks.items (block_of process.block.items) process.statements c.args.count
-    (sym c.may_enter.ensures ∙ c.if-not-may_enter.false) (sym c.fits.ensures ∙ c.if-not-fits.false) (omega (arith, count, c.if-open_repeats-ge-MOST_REPEATS.true))
+    (sym c.may_enter.ensures ∙ c.if-not-may_enter.false) (sym c.fits.ensures ∙ c.if-not-fits.false) (omega (arith, count, c.if-open_repeats.true))
 
 pub returns : goal.returns
 returns c =
@@ -18,4 +18,4 @@ returns c =
     let count = c.open_repeats.ensures ∙ ap (count_by is_turn) c.as_slice.ensures.value in
     answered _ _ _ c.enter.ensures.ok c.enter.ensures.err
     (entered_repeat (contents_before process.before) process.blocks.items (block_of process.block.items) process.statements c.args.count
-    (sym c.may_enter.ensures ∙ c.if-not-may_enter.false) (sym c.fits.ensures ∙ c.if-not-fits.false) (omega (arith, count, c.if-open_repeats-ge-MOST_REPEATS.false)))
+    (sym c.may_enter.ensures ∙ c.if-not-may_enter.false) (sym c.fits.ensures ∙ c.if-not-fits.false) (omega (arith, count, c.if-open_repeats.false)))

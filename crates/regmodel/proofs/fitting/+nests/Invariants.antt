@@ -1,7 +1,7 @@
 use Rattle.std.proofs.Common.{◌≤◌, drop}
 use Rattle.regmodel.specs.Program.{block_of}
 use Rattle.regmodel.specs.Limits.{open_blocks, open_repeats}
-use Rattle.regmodel.proofs.limits.+nests.Given as goal
+use Rattle.regmodel.proofs.fitting.+nests.Given as goal
 
 abbrev pub invariant-nests_within-loop-stmt : goal.invariant-nests_within-loop-stmt
 invariant-nests_within-loop-stmt l = record {

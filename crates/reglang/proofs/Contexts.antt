@@ -9,11 +9,11 @@ use Rattle.regmodel.specs.Limits.{target_fits, operand_fits, expr_fits}
 use Rattle.regmodel.specs.Program as program
 use Rattle.regmodel.specs.Program.{Block}
 use Rattle.reglang.specs.Contents.{Contents, Text, Kind}
-use Rattle.reglang.specs.Drafts.{Frame, First, Second, Turn, opened_of, Reading, Empty, Between, Inside, Used, ◌⊕◌, turns, enter, enter_else, leave, leave_if, leave_repeat, take_line, take_read, finished, read_from, faulty_at, goes_on}
+use Rattle.reglang.specs.Drafts.{Frame, First, Second, Turn, opened_of, Reading, Empty, Between, Inside, Used, ◌⊕◌, turns, enter, enter_else, leave, leave_if, leave_repeat, take_line, take_if_said, contents_at_end, read_from, faulty_at, goes_on}
 use Rattle.reglang.specs.Faults as faults
-use Rattle.reglang.specs.Faults.{Standing, at_start, stands_after, stands_after_all, standing_after, line_fault, fault_of, end_fault, at_line, or_later, fault_from, first_fault}
+use Rattle.reglang.specs.Faults.{Context, at_start, context_after_line, context_after_lines, context_after, line_fault, fault_of_line, end_fault, at_line, or_later, fault_from, first_fault}
 use Rattle.reglang.specs.Forms.{read_line}
-use Rattle.reglang.specs.Grammar.{said, told}
+use Rattle.reglang.specs.Grammar.{lines_said, line_said}
 use Rattle.reglang.specs.Uses.{is_between, use_fits}
 use Rattle.reglang.specs.declared.forms.Line.{Line}
 use Rattle.reglang.specs.declared.forms.Line.TheVariants as line
@@ -21,18 +21,18 @@ use Rattle.reglang.specs.declared.reader.ReadFault.{ReadFault}
 use Rattle.reglang.specs.declared.uses.Use.{Use}
 
 -- where the next line stands
-abbrev pub standing_of : Reading → Standing
-standing_of Empty = at_start
-standing_of (Between before) = record { registers = Some before.registers; processes = length before.processes; checks = length before.clauses; place = faults.Outside }
-standing_of (Inside before frames block n) = record { registers = Some before.registers; processes = suc (length before.processes); checks = length before.clauses; place = faults.Inside (map opened_of frames) n }
-standing_of (Used before kind) = record { registers = Some before.registers; processes = suc (length before.processes); checks = length before.clauses; place = faults.Used }
+abbrev pub context_of : Reading → Context
+context_of Empty = at_start
+context_of (Between before) = record { registers = Some before.registers; processes = length before.processes; checks = length before.clauses; place = faults.Outside }
+context_of (Inside before frames block n) = record { registers = Some before.registers; processes = suc (length before.processes); checks = length before.clauses; place = faults.Inside (map opened_of frames) n }
+context_of (Used before kind) = record { registers = Some before.registers; processes = suc (length before.processes); checks = length before.clauses; place = faults.Used }
 
 -- what was taken had no fault, and leads where its line leads; what was not had just this fault
 abbrev Steps : Reading → Line → Result Reading ℕ → Type 0
-Steps reading line (Ok next) = (line_fault (standing_of reading) line ≡ None) × (standing_of next ≡ stands_after line (standing_of reading))
-Steps reading line (Err code) = line_fault (standing_of reading) line ≡ Some code
+Steps reading line (Ok next) = (line_fault (context_of reading) line ≡ None) × (context_of next ≡ context_after_line line (context_of reading))
+Steps reading line (Err code) = line_fault (context_of reading) line ≡ Some code
 
-limited : (reading : Reading) (line : Line) (next : Reading) (t : Bool) → line_fault (standing_of reading) line ≡ (if not t then Some 6 else None) → standing_of next ≡ stands_after line (standing_of reading) → Steps reading line (if t then Ok next else Err 6)
+limited : (reading : Reading) (line : Line) (next : Reading) (t : Bool) → line_fault (context_of reading) line ≡ (if not t then Some 6 else None) → context_of next ≡ context_after_line line (context_of reading) → Steps reading line (if t then Ok next else Err 6)
 limited reading line next true f s = (f, s)
 limited reading line next false f s = f
 
@@ -56,7 +56,7 @@ begins line.Halt = refl
 begins (line.Use kind) = refl
 begins (line.Check clause) = refl
 
-abbrev outside : ℕ → ℕ → ℕ → Standing
+abbrev outside : ℕ → ℕ → ℕ → Context
 outside registers processes checks = record { registers = Some registers; processes = processes; checks = checks; place = faults.Outside }
 
 no_clause : (before : Contents) (t : Bool) → nat_lt (length before.clauses) 16 ≡ t → Steps (Between before) (line.Check None) (if t then Err 8 else Err 6)
@@ -87,8 +87,8 @@ between before (line.Use kind) = refl
 between before (line.Check clause) = checked before clause
 
 entered : (before : Contents) (frames : List Frame) (block : Block) (n : ℕ) (l : Line) (frame : Frame) (fits : Bool) →
-    line_fault (standing_of (Inside before frames block n)) l ≡ (if not (nat_lt n 200 && fits && nat_lt (length (map opened_of frames)) 16) then Some 6 else None) →
-    standing_of (Inside before (frame ∷ frames) program.Stop (suc n)) ≡ stands_after l (standing_of (Inside before frames block n)) →
+    line_fault (context_of (Inside before frames block n)) l ≡ (if not (nat_lt n 200 && fits && nat_lt (length (map opened_of frames)) 16) then Some 6 else None) →
+    context_of (Inside before (frame ∷ frames) program.Stop (suc n)) ≡ context_after_line l (context_of (Inside before frames block n)) →
     Steps (Inside before frames block n) l (enter before frame frames n fits)
 entered before frames block n l frame fits f s =
     limited (Inside before frames block n) l _ (nat_lt n 200 && fits && nat_lt (length frames) 16)
@@ -168,39 +168,39 @@ steps (Used before kind) l = used before kind l
 
 -- the same of a line as it was read
 abbrev StepsRead : Reading → Result (Option Line) ℕ → Result Reading ℕ → Type 0
-StepsRead reading read (Ok next) = (fault_of (standing_of reading) read ≡ None) × (standing_of next ≡ stands_after_all (told read) (standing_of reading))
-StepsRead reading read (Err code) = fault_of (standing_of reading) read ≡ Some code
+StepsRead reading read (Ok next) = (fault_of_line (context_of reading) read ≡ None) × (context_of next ≡ context_after_lines (line_said read) (context_of reading))
+StepsRead reading read (Err code) = fault_of_line (context_of reading) read ≡ Some code
 
 read_as : (reading : Reading) (l : Line) (result : Result Reading ℕ) → Steps reading l result → StepsRead reading (Ok (Some l)) result
 read_as reading l (Ok next) h = h
 read_as reading l (Err code) h = h
 
-steps_read : (reading : Reading) (read : Result (Option Line) ℕ) → StepsRead reading read (take_read reading read)
+steps_read : (reading : Reading) (read : Result (Option Line) ℕ) → StepsRead reading read (take_if_said reading read)
 steps_read reading (Ok (Some l)) = read_as reading l (take_line reading l) (steps reading l)
 steps_read reading (Ok None) = (refl, refl)
 steps_read reading (Err code) = refl
 
-after_append : (xs ys : List Line) (standing : Standing) → stands_after_all (xs ++ ys) standing ≡ stands_after_all ys (stands_after_all xs standing)
-after_append [] ys standing = refl
-after_append (x ∷ xs) ys standing = after_append xs ys (stands_after x standing)
+after_append : (xs ys : List Line) (context : Context) → context_after_lines (xs ++ ys) context ≡ context_after_lines ys (context_after_lines xs context)
+after_append [] ys context = refl
+after_append (x ∷ xs) ys context = after_append xs ys (context_after_line x context)
 
 -- one line more before the next
-standing_more : (before : List (List ℕ)) (l : List ℕ) → standing_after (before ++ l ∷ []) ≡ stands_after_all (told (read_line l)) (standing_after before)
-standing_more before l =
-    ap (λ lines. stands_after_all lines at_start) (flat_map-append (λ l. told (read_line l)) before (l ∷ []))
-    ∙ (after_append (said before) (told (read_line l) ++ []) at_start
-    ∙ ap (λ lines. stands_after_all lines (standing_after before)) (append-nil (told (read_line l))))
+context_more : (before : List (List ℕ)) (l : List ℕ) → context_after (before ++ l ∷ []) ≡ context_after_lines (line_said (read_line l)) (context_after before)
+context_more before l =
+    ap (λ lines. context_after_lines lines at_start) (flat_map-append (λ l. line_said (read_line l)) before (l ∷ []))
+    ∙ (after_append (lines_said before) (line_said (read_line l) ++ []) at_start
+    ∙ ap (λ lines. context_after_lines lines (context_after before)) (append-nil (line_said (read_line l))))
 
 -- what was read at the end, or the end's fault
 abbrev Ends : Reading → Result Contents ℕ → Type 0
-Ends reading (Ok contents) = end_fault (standing_of reading) ≡ None
-Ends reading (Err code) = end_fault (standing_of reading) ≡ Some code
+Ends reading (Ok contents) = end_fault (context_of reading) ≡ None
+Ends reading (Err code) = end_fault (context_of reading) ≡ Some code
 
 ends_between : (before : Contents) (t : Bool) → nat_lt 0 (length before.processes) ≡ t → Ends (Between before) (if t then Ok before else Err 6)
 ends_between before true h = ap (λ t. if t then None else Some 6) h
 ends_between before false h = ap (λ t. if t then None else Some 6) h
 
-ends : (reading : Reading) → Ends reading (finished reading)
+ends : (reading : Reading) → Ends reading (contents_at_end reading)
 ends Empty = refl
 ends (Between before) = ends_between before (nat_lt 0 (length before.processes)) refl
 ends (Inside before frames block n) = refl
@@ -211,21 +211,21 @@ abbrev pub Agrees : Result Contents ReadFault → Option ReadFault → Type 0
 Agrees (Ok contents) fault = fault ≡ None
 Agrees (Err f) fault = fault ≡ Some f
 
-end_agrees : (reading : Reading) (n number : ℕ) (standing : Standing) → standing_of reading ≡ standing → n ≡ number → (result : Result Contents ℕ) → Ends reading result → Agrees (faulty_at (max 1 n) result) (at_line (max 1 number) (end_fault standing))
-end_agrees reading n number standing s e (Ok contents) h = rw (← s, h) refl
-end_agrees reading n number standing s e (Err code) h = rw (← s, h, ← e) refl
+end_agrees : (reading : Reading) (n number : ℕ) (context : Context) → context_of reading ≡ context → n ≡ number → (result : Result Contents ℕ) → Ends reading result → Agrees (faulty_at (max 1 n) result) (at_line (max 1 number) (end_fault context))
+end_agrees reading n number context s e (Ok contents) h = rw (← s, h) refl
+end_agrees reading n number context s e (Err code) h = rw (← s, h, ← e) refl
 
-reads_on : (reading : Reading) (before : List (List ℕ)) (n : ℕ) (l : List ℕ) (lines : List (List ℕ)) → standing_of reading ≡ standing_after before → n ≡ length before →
-    ((next : Reading) → standing_of next ≡ standing_after (before ++ l ∷ []) → Agrees (read_from next (suc n) lines) (fault_from (before ++ l ∷ []) lines)) →
+reads_on : (reading : Reading) (before : List (List ℕ)) (n : ℕ) (l : List ℕ) (lines : List (List ℕ)) → context_of reading ≡ context_after before → n ≡ length before →
+    ((next : Reading) → context_of next ≡ context_after (before ++ l ∷ []) → Agrees (read_from next (suc n) lines) (fault_from (before ++ l ∷ []) lines)) →
     (result : Result Reading ℕ) → StepsRead reading (read_line l) result →
-    Agrees (goes_on (faulty_at (suc n) result) (λ next. read_from next (suc n) lines)) (or_later (at_line (suc (length before)) (fault_of (standing_after before) (read_line l))) (fault_from (before ++ l ∷ []) lines))
+    Agrees (goes_on (faulty_at (suc n) result) (λ next. read_from next (suc n) lines)) (or_later (at_line (suc (length before)) (fault_of_line (context_after before) (read_line l))) (fault_from (before ++ l ∷ []) lines))
 reads_on reading before n l lines s e later (Ok next) h =
-    rw (← s, h.0) (later next (h.1 ∙ (ap (stands_after_all (told (read_line l))) s ∙ sym (standing_more before l))))
+    rw (← s, h.0) (later next (h.1 ∙ (ap (context_after_lines (line_said (read_line l))) s ∙ sym (context_more before l))))
 reads_on reading before n l lines s e later (Err code) h = rw (← s, h, ← e) refl
 
 -- reading by whole values finds the first fault, where it stands as the lines before say
-pub reads_first : (reading : Reading) (before : List (List ℕ)) (n : ℕ) (lines : List (List ℕ)) → standing_of reading ≡ standing_after before → n ≡ length before → Agrees (read_from reading n lines) (fault_from before lines)
-reads_first reading before n [] s e = end_agrees reading n (length before) (standing_after before) s e (finished reading) (ends reading)
+pub reads_first : (reading : Reading) (before : List (List ℕ)) (n : ℕ) (lines : List (List ℕ)) → context_of reading ≡ context_after before → n ≡ length before → Agrees (read_from reading n lines) (fault_from before lines)
+reads_first reading before n [] s e = end_agrees reading n (length before) (context_after before) s e (contents_at_end reading) (ends reading)
 reads_first reading before n (l ∷ lines) s e =
     reads_on reading before n l lines s e (λ next t. reads_first next (before ++ l ∷ []) (suc n) lines t (ap suc e ∙ sym (one_more before l)))
-    (take_read reading (read_line l)) (steps_read reading (read_line l))
+    (take_if_said reading (read_line l)) (steps_read reading (read_line l))

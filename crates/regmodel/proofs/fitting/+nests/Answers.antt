@@ -2,7 +2,7 @@ use Rattle.std.proofs.Common.{ap, refl, arith}
 use Rattle.regmodel.specs.Limits.{open_blocks, open_repeats}
 use Rattle.regmodel.specs.Program.{block_of}
 use Rattle.regmodel.proofs.Blocks.{open_blocks-step, open_repeats-step, open_blocks-drop, open_repeats-drop, with_stmt_if, with_stmt_repeat}
-use Rattle.regmodel.proofs.limits.+nests.Goals as goal
+use Rattle.regmodel.proofs.fitting.+nests.Goals as goal
 
 pub nests_within-returns-then-not-stmt_nests_within : goal.nests_within-returns-then-not-stmt_nests_within
 nests_within-returns-then-not-stmt_nests_within t c =

@@ -21,8 +21,8 @@ abbrev pub names : List ProcEnd → List ℕ
 names ends = filter_map name_of ends
 
 -- how many processes took a step
-abbrev pub started : List ProcEnd → ℕ
-started ends = count_by (λ end. end.started) ends
+abbrev pub count_started : List ProcEnd → ℕ
+count_started ends = count_by (λ end. end.started) ends
 
 -- numbers are pairwise different
 abbrev pub are_different : List ℕ → Bool
@@ -51,8 +51,8 @@ abbrev pub meets : Clause → List ProcEnd → Bool
 meets Distinct ends = are_different (names ends)
 meets (AtMost name count) ends = nat_le (count_by (λ m. m == name) (names ends)) count
 meets (Within low high) ends = list_all (λ m. nat_le low m && nat_le m high) (names ends)
-meets Adaptive ends = list_all (λ m. nat_le 1 m && nat_le (m + 1) (2 * started ends)) (names ends)
-meets Triangle ends = list_all (λ m. nat_le 1 m && nat_le (2 * m) (started ends * (started ends + 1))) (names ends)
+meets Adaptive ends = list_all (λ m. nat_le 1 m && nat_le (m + 1) (2 * count_started ends)) (names ends)
+meets Triangle ends = list_all (λ m. nat_le 1 m && nat_le (2 * m) (count_started ends * (count_started ends + 1))) (names ends)
 meets SelfSeen ends = see_themselves 0 ends
 meets Ended ends = not (list_any is_running ends)
 meets NoFault ends = not (list_any is_faulty ends)

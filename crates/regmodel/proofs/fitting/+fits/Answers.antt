@@ -3,7 +3,7 @@ use Rattle.std.proofs.Math.Bool.{and-true}
 use Rattle.regmodel.specs.Limits.{operands_fit}
 use Rattle.regmodel.specs.Program.{block_of}
 use Rattle.regmodel.proofs.Blocks.{operands_fit-step, with_stmt_if, with_stmt_repeat}
-use Rattle.regmodel.proofs.limits.+fits.Goals as goal
+use Rattle.regmodel.proofs.fitting.+fits.Goals as goal
 
 -- tests one after another, as `operands_fit` writes them
 and_first : (a b c : Bool) → false ≡ b → a ≡ true → false ≡ ((a && b) && c) && true

@@ -2,7 +2,7 @@ use Rattle.std.proofs.Common.{◌≡◌, ℕ, ◌+◌, ◌<◌, Option, Some, No
 use Rattle.regmodel.specs.Limits.{statements}
 use Rattle.regmodel.specs.Program.{block_of}
 use Rattle.regmodel.proofs.Blocks.{statements-step, statements_some, with_stmt_if, with_stmt_repeat}
-use Rattle.regmodel.proofs.limits.+counts.Goals as goal
+use Rattle.regmodel.proofs.fitting.+counts.Goals as goal
 
 -- what was left of a smaller number by fewer statements
 wider : (o : Option ℕ) (room inner n m more : ℕ) → MatchOption o (inner < n) (λ left. left + n ≡ inner) → room ≡ inner + more → m ≡ n + more → MatchOption o (room < m) (λ left. left + m ≡ room)

@@ -4,7 +4,7 @@ use Rattle.regmodel.specs.declared.clauses.Clause.TheVariants as clause
 use Rattle.regmodel.specs.declared.outcomes.End.{End}
 use Rattle.regmodel.specs.declared.outcomes.End.TheVariants as end
 use Rattle.regmodel.specs.declared.outcomes.ProcEnd.{ProcEnd}
-use Rattle.regmodel.specs.Meeting.{meets, meets_all}
+use Rattle.regmodel.specs.Judging.{meets, meets_all}
 
 -- a process that took a step, and is done with these numbers
 abbrev done : List ℕ → ProcEnd

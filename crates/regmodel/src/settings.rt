@@ -1,8 +1,9 @@
 //! How far an exploration goes.
 
 ghost use Rattle.std.specs.Prelude.{◌≡◌, ◌↔◌, IsOk, IfOk, IfErr};
-ghost use Rattle.regmodel.specs.Bounds.{AreWithin, bound_fault};
+ghost use Rattle.regmodel.specs.Settings.{AreSettingsWithin, setting_fault};
 
+use crate::limits::{GREATEST_CUT, GREATEST_ROOM, MOST_CRASHES, MOST_LETTERS, MOST_WORKERS};
 use std::marker::Model;
 use thiserror::Error;
 
@@ -17,16 +18,31 @@ pub struct Settings {
 }
 
 impl Model for Settings {
-    ghost use Rattle.regmodel.specs.Bounds.{Bounds, AreWithin};
+    ghost use Rattle.regmodel.specs.Settings.{Bounds, AreSettingsWithin};
 
     ghost Value = { Bounds };
 
     ghost view = { λ s. record { length = s.length; crashes = s.crashes; workers = s.workers; cut = s.cut; room = s.room } };
 
-    ghost invariant = { λ s. AreWithin (record { length = s.length; crashes = s.crashes; workers = s.workers; cut = s.cut; room = s.room }) };
+    ghost invariant = { λ s. AreSettingsWithin (record { length = s.length; crashes = s.crashes; workers = s.workers; cut = s.cut; room = s.room }) };
 
     ghost inverse = { λ b. record { length = b.length; crashes = b.crashes; workers = b.workers; cut = b.cut; room = b.room } };
 }
+
+/// The code of a length past its limit.
+pub const LENGTH_PAST_LIMIT: u8 = 1;
+
+/// The code of a number of crashes past its limit.
+pub const CRASHES_PAST_LIMIT: u8 = 2;
+
+/// The code of no workers, or too many.
+pub const WORKERS_PAST_LIMIT: u8 = 3;
+
+/// The code of a cut past its limit.
+pub const CUT_PAST_LIMIT: u8 = 4;
+
+/// The code of a room past its limit.
+pub const ROOM_PAST_LIMIT: u8 = 5;
 
 /// A setting past its limit, the lowest that applies: 1 length, 2 crashes, 3 workers, 4 cut, 5 room.
 #[derive(Clone, Copy, PartialEq, Eq, Debug, Error)]
@@ -46,23 +62,33 @@ impl Settings {
         room: u32,
     ) -> Result<Settings, SettingFault>
         ensures value { IfOk result (λ s. s ≡ record { length = length; crashes = crashes; workers = workers; cut = cut; room = room }) }
-        ensures fits { IsOk result ↔ AreWithin (record { length = length; crashes = crashes; workers = workers; cut = cut; room = room }) }
-        ensures lowest { IfErr result (λ e. e.code ≡ bound_fault (record { length = length; crashes = crashes; workers = workers; cut = cut; room = room })) }
+        ensures fits { IsOk result ↔ AreSettingsWithin (record { length = length; crashes = crashes; workers = workers; cut = cut; room = room }) }
+        ensures lowest { IfErr result (λ e. e.code ≡ setting_fault (record { length = length; crashes = crashes; workers = workers; cut = cut; room = room })) }
     {
-        if length > 64 {
-            return Err(SettingFault { code: 1 });
+        if length > MOST_LETTERS {
+            return Err(SettingFault {
+                code: LENGTH_PAST_LIMIT,
+            });
         }
-        if crashes > 8 {
-            return Err(SettingFault { code: 2 });
+        if crashes > MOST_CRASHES {
+            return Err(SettingFault {
+                code: CRASHES_PAST_LIMIT,
+            });
         }
-        if workers == 0 || workers > 16 {
-            return Err(SettingFault { code: 3 });
+        if workers == 0 || workers > MOST_WORKERS {
+            return Err(SettingFault {
+                code: WORKERS_PAST_LIMIT,
+            });
         }
-        if cut > 16 {
-            return Err(SettingFault { code: 4 });
+        if cut > GREATEST_CUT {
+            return Err(SettingFault {
+                code: CUT_PAST_LIMIT,
+            });
         }
-        if room > 65536 {
-            return Err(SettingFault { code: 5 });
+        if room > GREATEST_ROOM {
+            return Err(SettingFault {
+                code: ROOM_PAST_LIMIT,
+            });
         }
         Ok(Settings {
             length,
@@ -76,7 +102,7 @@ impl Settings {
     /// How many letters a schedule has at most, 0 to 64.
     pub fn length(&self) -> u32
         ensures value { result ≡ self.now.length }
-        ensures within { AreWithin self.now }
+        ensures within { AreSettingsWithin self.now }
     {
         self.length
     }
@@ -84,7 +110,7 @@ impl Settings {
     /// How many processes may crash, 0 to 8.
     pub fn crashes(&self) -> u32
         ensures value { result ≡ self.now.crashes }
-        ensures within { AreWithin self.now }
+        ensures within { AreSettingsWithin self.now }
     {
         self.crashes
     }
@@ -92,7 +118,7 @@ impl Settings {
     /// How many workers explore, 1 to 16.
     pub fn workers(&self) -> u32
         ensures value { result ≡ self.now.workers }
-        ensures within { AreWithin self.now }
+        ensures within { AreSettingsWithin self.now }
     {
         self.workers
     }
@@ -100,7 +126,7 @@ impl Settings {
     /// Below which length a piece is split, 0 to 16.
     pub fn cut(&self) -> u32
         ensures value { result ≡ self.now.cut }
-        ensures within { AreWithin self.now }
+        ensures within { AreSettingsWithin self.now }
     {
         self.cut
     }
@@ -108,7 +134,7 @@ impl Settings {
     /// How many pieces a worker may hand on, 0 to 65536.
     pub fn room(&self) -> u32
         ensures value { result ≡ self.now.room }
-        ensures within { AreWithin self.now }
+        ensures within { AreSettingsWithin self.now }
     {
         self.room
     }

@@ -1,0 +1,45 @@
+-- Worked examples of where a program stands: the definitions compute.
+use Rattle.std.specs.Prelude.{◌≡◌, List, [], ◌∷◌, refl}
+use Rattle.regmodel.specs.declared.accesses.Access.TheVariants as access
+use Rattle.regmodel.specs.declared.accesses.Pending.TheVariants as pending
+use Rattle.regmodel.specs.declared.programs.Expr.TheVariants.{One}
+use Rattle.regmodel.specs.declared.programs.Operand.TheVariants as operand
+use Rattle.regmodel.specs.declared.programs.Target.TheVariants as target
+use Rattle.regmodel.specs.Program.{Program, Stop, Read, Write, Repeat, Emit}
+use Rattle.regmodel.specs.Values.{start_env}
+use Rattle.machine.specs.declared.run.Frame.{Frame}
+use Rattle.machine.specs.declared.run.Part.TheVariants.{Reading, Writing, Turn}
+use Rattle.machine.specs.declared.values.Place.TheVariants as place
+use Rattle.machine.specs.Rest.{from_place, rest_from}
+
+-- ---- register 0 is written, read into variable 0, and that is emitted
+abbrev pub write_and_read : Program
+write_and_read = record { registers = 1; body = Write (operand.Number 0) (One (operand.Number 5)) (Read (target.Var 0) (operand.Number 0) (Emit (One (operand.Var 0)) Stop)) }
+
+-- one frame leads to the read, which is statement 1
+abbrev pub at_the_read : List Frame
+at_the_read = record { at = 1; part = Reading 0 (place.Var 0) } ∷ []
+
+pub the_read_is_wanted : from_place write_and_read at_the_read start_env [] ≡ pending.Wants (access.Read 0)
+the_read_is_wanted = refl
+
+pub its_reply_is_emitted : from_place write_and_read at_the_read start_env (7 ∷ []) ≡ pending.Done (record { items = 7 ∷ [] })
+its_reply_is_emitted = refl
+
+-- ---- three turns of a write
+abbrev pub three_writes : Program
+three_writes = record { registers = 1; body = Repeat (One (operand.Number 3)) (Write (operand.Number 0) (One (operand.Number 5)) Stop) Stop }
+
+-- a frame for the turn, after which one is left, and one for the write in it
+abbrev pub in_the_second_turn : List Frame
+in_the_second_turn = record { at = 0; part = Turn 1 } ∷ record { at = 0; part = Writing 0 5 } ∷ []
+
+pub one_more_write : from_place three_writes in_the_second_turn start_env (0 ∷ []) ≡ pending.Wants (access.Write 0 5)
+one_more_write = refl
+
+pub no_more_write : from_place three_writes in_the_second_turn start_env (0 ∷ 0 ∷ []) ≡ pending.Done (record { items = [] })
+no_more_write = refl
+
+-- what is over stays so, whatever comes
+pub a_fault_stays : rest_from (pending.Fault 2) (from_place write_and_read at_the_read start_env) (7 ∷ []) ≡ pending.Fault 2
+a_fault_stays = refl
