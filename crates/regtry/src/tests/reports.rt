@@ -6,7 +6,25 @@ use super::sources::{
 };
 
 /// Sources, the length and the crashes, and the report.
-const REPORTS: [(&[u8], &str, &str, &[u8]); 21] = [
+const REPORTS: [(&[u8], &str, &str, &[u8]); 24] = [
+    (
+        b"registers 2\nprocess\nuse split 0 1\nend\nprocess\nuse split 0 2\nend\ncheck atmost 1 1\n",
+        "8",
+        "0",
+        b"processes 2\nlength 8\ncrashes 0\ntried 10\noutcomes 6\noutcome done 1; done 2\noutcome done 1; done 3\noutcome done 2; done 1\noutcome done 2; done 3\noutcome done 3; done 1\noutcome done 3; done 2\nleast none\n",
+    ),
+    (
+        b"registers 2\nprocess\nuse name 0 2 0\nend\nprocess\nuse name 0 2 1\nend\ncheck distinct\ncheck adaptive\n",
+        "8",
+        "0",
+        b"processes 2\nlength 8\ncrashes 0\ntried 7\noutcomes 3\noutcome done 1; done 3\noutcome done 2; done 1\noutcome done 2; done 3\nleast none\n",
+    ),
+    (
+        b"registers 6\nprocess\nuse grid 0 2 1\nend\nprocess\nuse grid 0 2 2\nend\ncheck distinct\ncheck triangle\n",
+        "16",
+        "0",
+        b"processes 2\nlength 16\ncrashes 0\ntried 10\noutcomes 6\noutcome done 1; done 2\noutcome done 1; done 3\noutcome done 2; done 1\noutcome done 2; done 3\noutcome done 3; done 1\noutcome done 3; done 2\nleast none\n",
+    ),
     (
         b"registers 1\nprocess\nhalt\nend\ncheck selfseen\n",
         "0",
@@ -136,7 +154,13 @@ const REPORTS: [(&[u8], &str, &str, &[u8]); 21] = [
 ];
 
 /// Sources of which a schedule fails, the length and the crashes, and the report.
-const FAILING: [(&[u8], &str, &str, &[u8]); 4] = [
+const FAILING: [(&[u8], &str, &str, &[u8]); 5] = [
+    (
+        b"registers 2\nprocess\nuse name 0 2 0\nend\nprocess\nuse name 0 2 1\nend\ncheck within 1 2\n",
+        "8",
+        "0",
+        b"processes 2\nlength 8\ncrashes 0\ntried 7\noutcomes 3\noutcome done 1; done 3\noutcome done 2; done 1\noutcome done 2; done 3\nleast R0 R0 R1 R1 R1 R1\nfails done 1; done 3\n",
+    ),
     (
         b"registers 1\nprocess\nrepeat 8\nemit 1\ndone\nend\ncheck adaptive\n",
         "0",
