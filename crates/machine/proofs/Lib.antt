@@ -1,4 +1,5 @@
 pub mod Blocks
 pub mod Flows
+pub mod KeptStates
 pub mod Places
 pub mod Wanting

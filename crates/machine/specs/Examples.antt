@@ -1,5 +1,5 @@
 -- Worked examples of where a program stands: the definitions compute.
-use Rattle.std.specs.Prelude.{◌≡◌, List, [], ◌∷◌, refl}
+use Rattle.std.specs.Prelude.{◌≡◌, List, [], ◌∷◌, Ok, refl, replicate}
 use Rattle.regmodel.specs.declared.accesses.Access.TheVariants as access
 use Rattle.regmodel.specs.declared.accesses.Pending.TheVariants as pending
 use Rattle.regmodel.specs.declared.programs.Expr.TheVariants.{One}
@@ -7,10 +7,14 @@ use Rattle.regmodel.specs.declared.programs.Operand.TheVariants as operand
 use Rattle.regmodel.specs.declared.programs.Target.TheVariants as target
 use Rattle.regmodel.specs.Program.{Program, Stop, Read, Write, Repeat, Emit}
 use Rattle.regmodel.specs.Values.{start_env}
+use Rattle.machine.specs.declared.run.BlockExit.TheVariants as block
 use Rattle.machine.specs.declared.run.Frame.{Frame}
 use Rattle.machine.specs.declared.run.Part.TheVariants.{Reading, Writing, Turn}
 use Rattle.machine.specs.declared.values.Place.TheVariants as place
-use Rattle.machine.specs.Rest.{from_place, rest_from}
+use Rattle.machine.specs.declared.values.Store.{Store}
+use Rattle.machine.specs.declared.states.Kept.{Kept}
+use Rattle.machine.specs.Rest.{Asks, from_place, rest_from}
+use Rattle.machine.specs.Keeping.{IsStart, LeadsTo, state_at}
 
 -- ---- register 0 is written, read into variable 0, and that is emitted
 abbrev pub write_and_read : Program
@@ -43,3 +47,25 @@ no_more_write = refl
 -- what is over stays so, whatever comes
 pub a_fault_stays : rest_from (pending.Fault 2) (from_place write_and_read at_the_read start_env) (7 ∷ []) ≡ pending.Fault 2
 a_fault_stays = refl
+
+-- ---- what is kept of the first program after the reply to its write: the write, and the read to which that reply leads
+abbrev pub empty_store : Store
+empty_store = record { vars = replicate 16 0; cells = replicate 32 0; emitted = record { places = []; count = 0 } }
+
+abbrev pub at_the_write : List Frame
+at_the_write = record { at = 0; part = Writing 0 5 } ∷ []
+
+abbrev pub kept_at_the_read : List Kept
+kept_at_the_read =
+    record { reply = 0; state = record { store = empty_store; frames = at_the_write; exit = Ok (block.Wants (access.Write 0 5)) } }
+    ∷ record { reply = 0; state = record { store = empty_store; frames = at_the_read; exit = Ok (block.Wants (access.Read 0)) } }
+    ∷ []
+
+pub the_write_is_the_start : IsStart write_and_read (state_at kept_at_the_read 0)
+the_write_is_the_start = λ s. refl
+
+pub its_reply_leads_to_the_read : LeadsTo write_and_read (state_at kept_at_the_read 0) 0 (state_at kept_at_the_read 1)
+its_reply_leads_to_the_read = λ s. refl
+
+pub the_read_asks : Asks write_and_read (state_at kept_at_the_read 1)
+the_read_asks = refl

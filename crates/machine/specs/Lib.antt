@@ -1,5 +1,6 @@
 pub mod Examples
 pub mod Exits
+pub mod Keeping
 pub mod Paths
 pub mod Rest
 pub mod Stores

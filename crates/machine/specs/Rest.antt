@@ -1,5 +1,5 @@
 -- Inside the crate: what an interpreter does on further replies.
-use Rattle.std.specs.Prelude.{ℕ, List, Result, Ok, Err}
+use Rattle.std.specs.Prelude.{◌≡◌, ℕ, List, [], Result, Ok, Err}
 use Rattle.regmodel.specs.Reply.{Replies}
 use Rattle.regmodel.specs.Values.{Env}
 use Rattle.regmodel.specs.Act.{flow_pending}
@@ -9,7 +9,9 @@ use Rattle.regmodel.specs.declared.accesses.Pending.TheVariants as pending
 use Rattle.machine.specs.declared.run.Frame.{Frame}
 use Rattle.machine.specs.declared.run.BlockExit.{BlockExit}
 use Rattle.machine.specs.declared.run.BlockExit.TheVariants as block
+use Rattle.machine.specs.declared.states.State.{State}
 use Rattle.machine.specs.Paths.{resume}
+use Rattle.machine.specs.Stores.{env_of}
 
 -- a program that stands at the place to which the frames lead, on further replies
 abbrev pub from_place : Program → List Frame → Env → Replies → Pending
@@ -27,3 +29,15 @@ pending_of (Ok block.GoesOn) env = pending.Done (record { items = env.emitted })
 pending_of (Ok (block.Wants a)) env = pending.Wants a
 pending_of (Ok block.Halts) env = pending.Done (record { items = env.emitted })
 pending_of (Err code) env = pending.Fault code
+
+-- what is pending in a state
+abbrev pub pending_in : State → Pending
+pending_in state = pending_of state.exit (env_of state.store)
+
+-- what a program does from a state on further replies
+abbrev pub rest_in : Program → State → Replies → Pending
+rest_in program state = rest_from (pending_in state) (from_place program state.frames (env_of state.store))
+
+-- the state tells what the program wants there
+abbrev pub Asks : Program → State → Type 0
+Asks program state = rest_in program state [] ≡ pending_in state

@@ -1,13 +1,18 @@
 -- Inside the crate: what a store holds.
-use Rattle.std.specs.Prelude.{ℕ, Result, Ok, Err}
+use Rattle.std.specs.Prelude.{ℕ, List, take, Result, Ok, Err}
 use Rattle.regmodel.specs.Values.{Env, Place, InVar, InCell}
+use Rattle.machine.specs.declared.emitted.Emitted.{Emitted}
 use Rattle.machine.specs.declared.values.Store.{Store}
 use Rattle.machine.specs.declared.values.Place as values
 use Rattle.machine.specs.declared.values.Place.TheVariants as place
 
+-- the numbers emitted: those in the places below their count
+abbrev pub items_of : Emitted → List ℕ
+items_of e = take e.count e.places
+
 -- the environment that a store holds
 abbrev pub env_of : Store → Env
-env_of s = record { vars = s.vars; cells = s.cells; emitted = s.emitted.items }
+env_of s = record { vars = s.vars; cells = s.cells; emitted = items_of s.emitted }
 
 -- the place that is meant
 abbrev pub as_place : values.Place → Place

@@ -1,133 +1,130 @@
 //! The interpreter: a machine that runs a program's statements.
 
-ghost use Rattle.std.specs.Prelude.{◌≡◌, ℕ, List, [], IfOk, vec_len};
+ghost use Rattle.std.specs.Prelude.{◌≡◌, ℕ, ◌+◌, ◌<◌, ◌≤◌, List, IfOk, length, true};
 ghost use Rattle.regmodel.specs.OfProg.{program_of};
-ghost use Rattle.regmodel.specs.Lawful.{IsLawful};
-ghost use Rattle.regmodel.specs.Values.{start_env};
+ghost use Rattle.regmodel.specs.Lawful.{IsLawful, IsReplyTo};
 ghost use Rattle.regmodel.specs.Act.{act_of};
-ghost use Rattle.machine.specs.Stores.{env_of};
-ghost use Rattle.machine.specs.declared.interp.TheConstants.{FRAMES};
-ghost use Rattle.machine.specs.Rest.{from_place, rest_from, pending_of};
+ghost use Rattle.machine.specs.Keeping.{IsKept, LeadsTo, kept_at, state_at};
+ghost use Rattle.machine.specs.Rest.{Asks, pending_in};
 
 use crate::Machine;
-use crate::resume::resume_block;
-use crate::run::{BlockExit, Frame, Part, run_block};
-use crate::values::Store;
-use regmodel::limits::MOST_OPEN_BLOCKS;
-use regmodel::{Numbers, OutOfMemory, Pending, Prog};
+use crate::states::{Kept, State};
+use regmodel::limits::MOST_LETTERS;
+use regmodel::{OutOfMemory, Pending, Prog};
 use std::alloc::Global;
 
-/// A frame for the program's own block, and one for each that may be open in it.
-const FRAMES: usize = MOST_OPEN_BLOCKS as usize + 1;
+/// A place for the start, and one past each reply of a schedule.
+const PLACES: usize = MOST_LETTERS as usize + 1;
 
-/// A program in progress: its values, the place where it stands as a path of frames, and what is pending there. It keeps no
-/// replies.
+/// A program in progress. It keeps the states in which it stood since its start, one past each of its first 64 replies. So after a
+/// reset it runs no statement again as long as it is fed the same replies.
 #[derive(Drop)]
 pub struct Interp {
     prog: Prog,
-    store: Store,
-    frames: Vec<Frame>,
-    pending: Pending,
-    ghost room: { vec_len frames ≡ FRAMES },
-    ghost asks: { rest_from pending (from_place (program_of prog) frames.items (env_of store)) [] ≡ pending },
-}
-
-/// The same numbers.
-fn copy_of(numbers: &Numbers) -> Numbers
-    ensures { result ≡ numbers.now }
-{
-    numbers.clone().unwrap()
-}
-
-/// What is pending once the program's own block was left so.
-fn pending_at_exit(exit: Result<BlockExit, u8>, store: &Store) -> Pending
-    ensures { result ≡ pending_of exit (env_of store.now) }
-{
-    match exit {
-        Ok(BlockExit::Wants(access)) => Pending::Wants(access),
-        Ok(BlockExit::GoesOn | BlockExit::Halts) => Pending::Done(copy_of(&store.emitted)),
-        Err(code) => Pending::Fault(code),
-    }
-}
-
-/// An empty store.
-fn empty_store() -> Store
-    ensures { env_of result ≡ start_env }
-{
-    Store {
-        vars: [0; 16],
-        cells: [0; 32],
-        emitted: Numbers::new(),
-    }
+    kept: Vec<Kept>,
+    /// The place of the present state.
+    at: usize,
+    /// How many places are known, from the start on. None is after an end, and the last one is not where more replies came than are kept: the
+    /// present state stands past them then.
+    known: usize,
+    ghost room: { at < length kept.items },
+    ghost fits: { known ≤ length kept.items },
+    ghost asks: { (place : ℕ) → Asks (program_of prog) (state_at kept.items place) },
+    ghost follows: { IsKept (program_of prog) kept.items known },
 }
 
 impl Interp {
-    /// An interpreter of this program, at its start. An error comes where memory for the frames is refused, and the program
+    /// An interpreter of this program, at its start. An error comes where memory for the kept states is refused, and the program
     /// is dropped then. No later call takes memory.
     pub fn make(alloc: Global, prog: Prog) -> Result<Interp, OutOfMemory>
         ensures same { IfOk result (λ m. ⟦<Interp as Machine>⟧.program m ≡ program_of prog) }
         ensures starts { IfOk result (λ m. (s : List ℕ) → IsLawful (act_of (program_of prog)) s → ⟦<Interp as Machine>⟧.rest m s ≡ act_of (program_of prog) s) }
     {
-        let start = Frame {
-            at: 0,
-            part: Part::Turn(0),
+        let blank = Kept {
+            reply: 0,
+            state: State::over(),
         };
-        let frames = vec![in alloc; start; FRAMES]?;
+        let kept = vec![in alloc; blank; PLACES]?;
         let mut interp = Interp {
             prog,
-            store: empty_store(),
-            frames,
-            pending: Pending::Done(Numbers::new()),
+            kept,
+            at: 0,
+            known: 0,
         };
         interp.reset();
         Ok(interp)
+    }
+
+    /// Whether the next place is known and this reply led there.
+    fn is_known(&self, reply: u32) -> bool
+        ensures { result ≡ true → (self.now.at + 1 < self.now.known) × ((kept_at self.now.kept.items (self.now.at + 1)).reply ≡ reply) }
+    {
+        let next = self.at + 1;
+        next < self.known && self.kept[next].reply == reply
+    }
+
+    /// Copies the present state to the next place, and runs past the reply there. What was known from there on is known no longer.
+    fn run_on(&mut self, reply: u32)
+        requires known { self.old.at < self.old.known }
+        requires room { self.old.at + 1 < length self.old.kept.items }
+        requires wanted { IsReplyTo (pending_in (state_at self.old.kept.items self.old.at)) reply }
+        ensures same { self.new.prog ≡ self.old.prog }
+        ensures goes_on { LeadsTo (program_of self.old.prog) (state_at self.old.kept.items self.old.at) reply (state_at self.new.kept.items self.new.at) }
+    {
+        let state = self.kept[self.at].state;
+        self.at += 1;
+        self.known = self.at + 1;
+        let next = &mut self.kept[self.at];
+        *next = Kept { reply, state };
+        next.state.go_on(&self.prog, reply);
+    }
+
+    /// Runs past the reply at the present place, which is known no longer.
+    fn run_in_place(&mut self, reply: u32)
+        requires wanted { IsReplyTo (pending_in (state_at self.old.kept.items self.old.at)) reply }
+        ensures same { self.new.prog ≡ self.old.prog }
+        ensures goes_on { LeadsTo (program_of self.old.prog) (state_at self.old.kept.items self.old.at) reply (state_at self.new.kept.items self.new.at) }
+    {
+        self.known = self.known.min(self.at);
+        self.kept[self.at].state.go_on(&self.prog, reply);
     }
 }
 
 impl Machine for Interp {
     ghost use Rattle.std.specs.Prelude.{ℕ, List};
     ghost use Rattle.regmodel.specs.OfProg.{program_of};
-    ghost use Rattle.machine.specs.Stores.{env_of};
-    ghost use Rattle.machine.specs.Rest.{from_place, rest_from};
+    ghost use Rattle.machine.specs.Keeping.{state_at};
+    ghost use Rattle.machine.specs.Rest.{rest_in};
 
     ghost program = { λ m. program_of m.prog };
 
-    ghost rest = { λ m. rest_from m.pending (from_place (program_of m.prog) m.frames.items (env_of m.store)) };
+    ghost rest = { λ m. rest_in (program_of m.prog) (state_at m.kept.items m.at) };
 
     fn reset(&mut self) {
-        self.store = empty_store();
-        let exit = run_block(
-            self.prog.body(),
-            0,
-            self.prog.registers(),
-            0,
-            &mut self.store,
-            self.frames.as_mut_slice(),
-        );
-        self.pending = pending_at_exit(exit, &self.store);
-    }
-
-    fn pending(&self) -> Pending {
-        match &self.pending {
-            Pending::Wants(access) => Pending::Wants(*access),
-            Pending::Done(numbers) => Pending::Done(copy_of(numbers)),
-            Pending::Fault(code) => Pending::Fault(*code),
+        self.at = 0;
+        if self.known == 0 {
+            self.kept[0].state.start(&self.prog);
+            self.known = 1;
         }
     }
 
+    fn pending(&self) -> Pending {
+        self.kept[self.at].state.pending()
+    }
+
     fn feed(&mut self, reply: u32) {
-        let exit = resume_block(
-            self.prog.body(),
-            reply,
-            self.prog.registers(),
-            0,
-            &mut self.store,
-            self.frames.as_mut_slice(),
-        );
-        self.pending = pending_at_exit(exit, &self.store);
+        if self.is_known(reply) {
+            self.at += 1;
+        } else if self.at < self.known && self.at + 1 < self.kept.len() {
+            self.run_on(reply);
+        } else {
+            self.run_in_place(reply);
+        }
     }
 
     fn end(&mut self) {
-        self.pending = Pending::Done(Numbers::new());
+        self.at = 0;
+        self.known = 0;
+        self.kept[0].state = State::over();
     }
 }

@@ -9,9 +9,11 @@ ghost use Rattle.regmodel.specs.Act.{act_of};
 ghost use Rattle.regmodel.specs.Lawful.{IsReplyTo, IsLawful};
 ghost use Rattle.regmodel.specs.Reply.{Replies};
 
+mod emitted;
 mod interp;
 mod resume;
 mod run;
+mod states;
 #[cfg(test)]
 mod tests;
 mod values;

@@ -5,16 +5,17 @@ ghost use Rattle.regmodel.specs.Values.{within, below_or_fault, operand_value, e
 ghost use Rattle.regmodel.specs.declared.limits.TheConstants.{CELLS};
 ghost use Rattle.machine.specs.Stores.{env_of, as_place, as_place_or_fault};
 
+use crate::emitted::Emitted;
 use regmodel::faults::{NO_PLACE, NO_VALUE};
 use regmodel::limits::{CELLS, GREATEST_VALUE};
-use regmodel::{Expr, Numbers, Op, Operand, Target};
+use regmodel::{Expr, Op, Operand, Target};
 
 /// The variables, the cells and the numbers emitted so far.
-#[derive(Drop)]
+#[derive(Clone, Copy)]
 pub struct Store {
     pub vars: [u32; 16],
     pub cells: [u32; 32],
-    pub emitted: Numbers,
+    pub emitted: Emitted,
 }
 
 /// Where a value is stored: in the variable or the cell with this number.

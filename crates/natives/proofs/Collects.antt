@@ -6,7 +6,7 @@ use Rattle.regmodel.specs.declared.accesses.Pending.{Pending}
 use Rattle.regmodel.specs.declared.accesses.Pending.TheVariants as pending
 use Rattle.regmodel.specs.Values.{Env}
 use Rattle.regmodel.specs.Act.{Flow, GoesOn, Wants, Faults, exec, times, flow_pending, then_do}
-use Rattle.reglang.specs.Expansions.{tree_collect, tree_look}
+use Rattle.uses.specs.Expansions.{tree_collect, tree_look}
 use Rattle.std.proofs.lemmas.Bool.{cases_lt}
 use Rattle.std.proofs.lemmas.List.{get_or-map, map-set}
 use Rattle.natives.specs.Bits.{bit}

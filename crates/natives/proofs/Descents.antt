@@ -7,8 +7,8 @@ use Rattle.regmodel.specs.declared.accesses.Pending.TheVariants as pending
 use Rattle.regmodel.specs.Values.{Env}
 use Rattle.regmodel.specs.Act.{Flow, GoesOn, Wants, Faults, exec, times, flow_pending, then_do, act_of}
 use Rattle.regmodel.specs.Program.{Stop}
-use Rattle.reglang.specs.Expansions.{tree_after, tree_leave, tree_descend, tree_collect, expansion}
-use Rattle.reglang.specs.declared.uses.Use.TheVariants as kind
+use Rattle.uses.specs.Expansions.{tree_after, tree_leave, tree_descend, tree_collect, expansion}
+use Rattle.uses.specs.declared.kinds.Use.TheVariants as kind
 use Rattle.natives.specs.Bits.{bit}
 use Rattle.natives.specs.Trees.{on_way, from_vertex, from_stop, from_past}
 use Rattle.natives.proofs.Collects.{IsTree, collect_with, turns-alike}

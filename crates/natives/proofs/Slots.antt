@@ -7,7 +7,7 @@ use Rattle.regmodel.specs.declared.accesses.Pending.{Pending}
 use Rattle.regmodel.specs.declared.accesses.Pending.TheVariants as pending
 use Rattle.regmodel.specs.Values.{Env}
 use Rattle.regmodel.specs.Act.{Flow, GoesOn, Wants, Faults, exec, times, flow_pending, then_do}
-use Rattle.reglang.specs.Expansions.{name_slot, name_held, name_turn, name_round}
+use Rattle.uses.specs.Expansions.{name_slot, name_held, name_turn, name_round}
 use Rattle.std.proofs.lemmas.Bool.{cases_eq}
 use Rattle.natives.specs.Names.{holds, number_from, cells_of, rounds_from, turns_from, from_round, from_after, from_slot, at_slot, name_after}
 use Rattle.natives.proofs.Steps.{le_yes, lt_yes, lt_no, eq_yes, eq_no}

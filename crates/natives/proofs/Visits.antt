@@ -6,7 +6,7 @@ use Rattle.regmodel.specs.declared.accesses.Pending.TheVariants as pending
 use Rattle.regmodel.specs.Values.{Env}
 use Rattle.regmodel.specs.Act.{Flow, GoesOn, Wants, Ends, exec, times, flow_pending, then_do}
 use Rattle.regmodel.specs.declared.accesses.Pending.{Pending}
-use Rattle.reglang.specs.Expansions.{grid_visit}
+use Rattle.uses.specs.Expansions.{grid_visit}
 use Rattle.natives.specs.Grids.{grid_from}
 use Rattle.natives.proofs.Steps.{le_yes, lt_yes, lt_no, eq_yes, eq_no}
 

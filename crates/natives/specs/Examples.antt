@@ -2,7 +2,7 @@
 use Rattle.std.specs.Prelude.{◌≡◌, true, false, Bool, List, [], ◌∷◌, refl, replicate, slice_set}
 use Rattle.regmodel.specs.declared.accesses.Access.TheVariants.{Read, Write}
 use Rattle.regmodel.specs.declared.accesses.Pending.TheVariants.{Wants, Done, Fault}
-use Rattle.reglang.specs.Expansions.{split_program}
+use Rattle.uses.specs.Expansions.{split_program}
 use Rattle.natives.specs.declared.split.Stage.TheVariants as split
 use Rattle.natives.specs.Splits.{split_rest}
 use Rattle.natives.specs.Grids.{grid_from}

@@ -4,7 +4,7 @@ use Rattle.regmodel.specs.declared.accesses.Pending.{Pending}
 use Rattle.regmodel.specs.declared.accesses.Pending.TheVariants.{Done}
 use Rattle.regmodel.specs.Values.{Env}
 use Rattle.regmodel.specs.Act.{exec, times, flow_pending}
-use Rattle.reglang.specs.Expansions.{grid_visit}
+use Rattle.uses.specs.Expansions.{grid_visit}
 use Rattle.natives.specs.declared.grid.Stage.{Stage}
 use Rattle.natives.specs.declared.grid.Stage.TheVariants.{Marks, Tries, Closes, Looks, Stopped, Over}
 

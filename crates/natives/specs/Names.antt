@@ -8,7 +8,7 @@ use Rattle.regmodel.specs.declared.programs.Expr.TheVariants.{One, Two}
 use Rattle.regmodel.specs.Values.{Env}
 use Rattle.regmodel.specs.Act.{Flow, exec, times, then_do, flow_pending}
 use Rattle.regmodel.specs.Program.{Block, Stop, If, Repeat, Emit, Halt}
-use Rattle.reglang.specs.Expansions.{◌▸◌, set, name_round, name_slot, name_turn}
+use Rattle.uses.specs.Expansions.{◌▸◌, set, name_round, name_slot, name_turn}
 use Rattle.natives.specs.Bits.{bit}
 use Rattle.natives.specs.declared.names.Reading.{Reading}
 use Rattle.natives.specs.declared.names.Stage.{Stage}

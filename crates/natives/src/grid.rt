@@ -3,9 +3,9 @@
 ghost use Rattle.std.specs.Prelude.{◌≡◌, ℕ, ◌+◌, ◌-◌, ◌*◌, ◌<◌, ◌≤◌, ◌↔◌, List, false, Err, IfOk, IsOk, IsTrue};
 ghost use Rattle.regmodel.specs.Act.{act_of};
 ghost use Rattle.regmodel.specs.Lawful.{IsLawful};
-ghost use Rattle.reglang.specs.declared.uses.Use.TheVariants as kind;
-ghost use Rattle.reglang.specs.Expansions.{expansion};
-ghost use Rattle.reglang.specs.Uses.{use_fits};
+ghost use Rattle.uses.specs.declared.kinds.Use.TheVariants as kind;
+ghost use Rattle.uses.specs.Expansions.{expansion};
+ghost use Rattle.uses.specs.Uses.{use_fits};
 ghost use Rattle.natives.specs.declared.TheConstants.{PAST_LIMIT};
 ghost use Rattle.regmodel.specs.declared.limits.TheConstants.{MOST_REGISTERS, MOST_ROWS};
 ghost use Rattle.natives.specs.Grids.{grid_from};
@@ -13,8 +13,8 @@ ghost use Rattle.natives.specs.Grids.{grid_from};
 use crate::numbers::{done, done_with};
 use crate::{MakeFault, PAST_LIMIT};
 use machine::Machine;
-use reglang::Use;
 use regmodel::{Access, Pending};
+use uses::Use;
 
 /// Where a process stands in the grid.
 #[derive(Clone, Copy)]
@@ -104,8 +104,8 @@ impl Grid {
 
 impl Machine for Grid {
     ghost use Rattle.std.specs.Prelude.{ℕ, List, ◌-◌};
-    ghost use Rattle.reglang.specs.declared.uses.Use.TheVariants as kind;
-    ghost use Rattle.reglang.specs.Expansions.{expansion};
+    ghost use Rattle.uses.specs.declared.kinds.Use.TheVariants as kind;
+    ghost use Rattle.uses.specs.Expansions.{expansion};
     ghost use Rattle.natives.specs.Grids.{grid_from, grid_rest};
 
     ghost program = { λ m. expansion (kind.Grid m.base m.side m.id) m.registers };

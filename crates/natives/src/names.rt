@@ -3,9 +3,9 @@
 ghost use Rattle.std.specs.Prelude.{◌≡◌, ◌≢◌, ℕ, zero, suc, ◌+◌, ◌-◌, ◌*◌, ◌<◌, ◌≤◌, ◌↔◌, List, ◌∷◌, false, Err, IfOk, IsOk, IsTrue, length, slice_index, take};
 ghost use Rattle.regmodel.specs.Act.{act_of};
 ghost use Rattle.regmodel.specs.Lawful.{IsLawful};
-ghost use Rattle.reglang.specs.declared.uses.Use.TheVariants as kind;
-ghost use Rattle.reglang.specs.Expansions.{expansion};
-ghost use Rattle.reglang.specs.Uses.{use_fits};
+ghost use Rattle.uses.specs.declared.kinds.Use.TheVariants as kind;
+ghost use Rattle.uses.specs.Expansions.{expansion};
+ghost use Rattle.uses.specs.Uses.{use_fits};
 ghost use Rattle.natives.specs.declared.TheConstants.{PAST_LIMIT};
 ghost use Rattle.regmodel.specs.declared.limits.TheConstants.{MOST_REGISTERS, MOST_SLOTS};
 ghost use Rattle.natives.specs.declared.names.Reading.{Reading};
@@ -16,9 +16,9 @@ ghost use Rattle.natives.specs.Names.{IsRead, after_slot, at_slot, cells_of, fro
 use crate::numbers::{done, done_with};
 use crate::{MakeFault, PAST_LIMIT};
 use machine::Machine;
-use reglang::Use;
 use regmodel::limits::MOST_TURNS;
 use regmodel::{Access, Pending};
+use uses::Use;
 
 /// How many rounds there are after the first.
 const LATER: u8 = MOST_TURNS as u8 - 1;
@@ -200,8 +200,8 @@ impl NameSlots {
 
 impl Machine for NameSlots {
     ghost use Rattle.std.specs.Prelude.{ℕ, List, suc};
-    ghost use Rattle.reglang.specs.declared.uses.Use.TheVariants as kind;
-    ghost use Rattle.reglang.specs.Expansions.{expansion};
+    ghost use Rattle.uses.specs.declared.kinds.Use.TheVariants as kind;
+    ghost use Rattle.uses.specs.Expansions.{expansion};
     ghost use Rattle.natives.specs.Names.{cells_of, from_round, from_reading, name_rest};
 
     ghost program = { λ m. expansion (kind.Name m.base m.slots m.slot) m.registers };

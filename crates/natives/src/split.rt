@@ -3,17 +3,17 @@
 ghost use Rattle.std.specs.Prelude.{◌≡◌, ℕ, ◌+◌, ◌≤◌, ◌↔◌, List, false, Err, IfOk, IsOk, IsTrue};
 ghost use Rattle.regmodel.specs.Act.{act_of};
 ghost use Rattle.regmodel.specs.Lawful.{IsLawful};
-ghost use Rattle.reglang.specs.declared.uses.Use.TheVariants as kind;
-ghost use Rattle.reglang.specs.Expansions.{expansion};
-ghost use Rattle.reglang.specs.Uses.{use_fits};
+ghost use Rattle.uses.specs.declared.kinds.Use.TheVariants as kind;
+ghost use Rattle.uses.specs.Expansions.{expansion};
+ghost use Rattle.uses.specs.Uses.{use_fits};
 ghost use Rattle.natives.specs.declared.TheConstants.{PAST_LIMIT};
 ghost use Rattle.regmodel.specs.declared.limits.TheConstants.{MOST_REGISTERS};
 
 use crate::numbers::{done, done_with};
 use crate::{MakeFault, PAST_LIMIT};
 use machine::Machine;
-use reglang::Use;
 use regmodel::{Access, Pending};
+use uses::Use;
 
 /// Where a splitter stands.
 #[derive(Clone, Copy)]
@@ -70,8 +70,8 @@ impl Split {
 
 impl Machine for Split {
     ghost use Rattle.std.specs.Prelude.{ℕ, List};
-    ghost use Rattle.reglang.specs.declared.uses.Use.TheVariants as kind;
-    ghost use Rattle.reglang.specs.Expansions.{expansion};
+    ghost use Rattle.uses.specs.declared.kinds.Use.TheVariants as kind;
+    ghost use Rattle.uses.specs.Expansions.{expansion};
     ghost use Rattle.natives.specs.Splits.{split_rest};
 
     ghost program = { λ m. expansion (kind.Split m.base m.id) m.registers };

@@ -2,11 +2,11 @@
 
 use crate::{Grid, MakeFault, NameSlots, Split, Tree};
 use machine::{Interp, Machine};
-use reglang::{Use, expand};
 use regmodel::{Access, Numbers, Pending};
 use std::alloc::Global;
 use std::process::Abort;
 use std::test::Fail;
+use uses::{Use, expand};
 
 const LIMIT: u32 = 1000000000;
 

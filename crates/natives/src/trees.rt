@@ -4,9 +4,9 @@
 ghost use Rattle.std.specs.Prelude.{◌≡◌, ◌≢◌, ℕ, suc, ◌+◌, ◌-◌, ◌*◌, ◌^◌, ◌<◌, ◌≤◌, ◌↔◌, List, [], ◌∷◌, true, false, Err, IfOk, IfSome, IsOk, IsTrue, length, replicate, slice_set};
 ghost use Rattle.regmodel.specs.Act.{act_of};
 ghost use Rattle.regmodel.specs.Lawful.{IsLawful};
-ghost use Rattle.reglang.specs.declared.uses.Use.TheVariants as kind;
-ghost use Rattle.reglang.specs.Expansions.{expansion};
-ghost use Rattle.reglang.specs.Uses.{use_fits};
+ghost use Rattle.uses.specs.declared.kinds.Use.TheVariants as kind;
+ghost use Rattle.uses.specs.Expansions.{expansion};
+ghost use Rattle.uses.specs.Uses.{use_fits};
 ghost use Rattle.natives.specs.declared.TheConstants.{PAST_LIMIT};
 ghost use Rattle.regmodel.specs.declared.limits.TheConstants.{MOST_LEVELS, MOST_REGISTERS};
 ghost use Rattle.natives.specs.declared.trees.Stage.TheVariants.{Sees, Takes};
@@ -15,8 +15,8 @@ ghost use Rattle.natives.specs.Trees.{IsIn, below_reached, from_vertex, from_pas
 use crate::numbers::done;
 use crate::{MakeFault, PAST_LIMIT};
 use machine::Machine;
-use reglang::Use;
 use regmodel::{Access, Numbers, Pending};
+use uses::Use;
 
 /// Where a process stands in the tree.
 #[derive(Clone, Copy)]
@@ -211,8 +211,8 @@ impl Tree {
 
 impl Machine for Tree {
     ghost use Rattle.std.specs.Prelude.{ℕ, List, suc};
-    ghost use Rattle.reglang.specs.declared.uses.Use.TheVariants as kind;
-    ghost use Rattle.reglang.specs.Expansions.{expansion};
+    ghost use Rattle.uses.specs.declared.kinds.Use.TheVariants as kind;
+    ghost use Rattle.uses.specs.Expansions.{expansion};
     ghost use Rattle.natives.specs.Trees.{from_vertex, from_stop, from_at, tree_rest};
 
     ghost program = { λ m. expansion (kind.Tree m.base m.depth m.id m.value) m.registers };

@@ -14,11 +14,11 @@ use Rattle.reglang.specs.Faults as faults
 use Rattle.reglang.specs.Faults.{Context, at_start, context_after_line, context_after_lines, context_after, line_fault, fault_of_line, end_fault, at_line, or_later, fault_from, first_fault}
 use Rattle.reglang.specs.Forms.{read_line}
 use Rattle.reglang.specs.Grammar.{lines_said, line_said}
-use Rattle.reglang.specs.Uses.{is_between, use_fits}
+use Rattle.uses.specs.Uses.{is_between, use_fits}
 use Rattle.reglang.specs.declared.forms.Line.{Line}
 use Rattle.reglang.specs.declared.forms.Line.TheVariants as line
 use Rattle.reglang.specs.declared.reader.ReadFault.{ReadFault}
-use Rattle.reglang.specs.declared.uses.Use.{Use}
+use Rattle.uses.specs.declared.kinds.Use.{Use}
 
 -- where the next line stands
 abbrev pub context_of : Reading → Context

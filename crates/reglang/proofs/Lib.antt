@@ -4,7 +4,6 @@ mod Cuts
 mod Digits
 mod FirstWords
 mod Fits
-mod Fitting
 mod Frames
 mod Joins
 mod Leads

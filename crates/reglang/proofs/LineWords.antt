@@ -14,8 +14,8 @@ use Rattle.regmodel.specs.Limits.{target_fits, operand_fits, expr_fits}
 use Rattle.reglang.specs.Contents.{clause_fits}
 use Rattle.reglang.specs.Forms.{target_of, operand_of, expr_of, clause_of, form_of, is_known, is_no_number, or_fault, keyword_line, line_of}
 use Rattle.reglang.specs.Writing.{target_word, operand_word, expr_words, use_words, clause_words, later_words, line_words}
-use Rattle.reglang.specs.declared.uses.Use.{Use}
-use Rattle.reglang.specs.declared.uses.Use.TheVariants as use_line
+use Rattle.uses.specs.declared.kinds.Use.{Use}
+use Rattle.uses.specs.declared.kinds.Use.TheVariants as use_line
 use Rattle.reglang.specs.declared.words.Keyword.{Keyword}
 use Rattle.reglang.specs.declared.words.Keyword.TheVariants as keyword
 use Rattle.reglang.specs.declared.words.Word.{Word}

@@ -11,13 +11,13 @@ use Rattle.regmodel.specs.Program as program
 use Rattle.regmodel.specs.Program.{Block}
 use Rattle.reglang.specs.Contents.{IsSourceWithin, Body, Contents, IsBodyWithin, Kind, Text, clause_fits}
 use Rattle.reglang.specs.Grammar.{BlockSays, BodySays, Check, ElseSays, LinesSay, Part, PartSays, PartsSay, Process, Spells, clauses_in, processes_in}
-use Rattle.reglang.specs.Uses.{is_between, is_mark, use_fits}
+use Rattle.uses.specs.Uses.{is_between, is_mark, use_fits}
 use Rattle.reglang.specs.Writing.{block_lines, body_lines, check_line, else_lines, process_lines, source_lines, source_text}
-use Rattle.reglang.specs.declared.uses.Use.{Use}
-use Rattle.reglang.specs.declared.uses.Use.TheVariants as use_line
+use Rattle.uses.specs.declared.kinds.Use.{Use}
+use Rattle.uses.specs.declared.kinds.Use.TheVariants as use_line
 use Rattle.reglang.specs.declared.forms.Line.{Line}
 use Rattle.reglang.specs.declared.forms.Line.TheVariants as line
-use Rattle.reglang.proofs.Fitting.{between, fits}
+use Rattle.uses.proofs.Fitting.{between, fits}
 use Rattle.reglang.proofs.ReadAgain.{all_formed, lines_said_again}
 use Rattle.reglang.proofs.LineWords.{line_fits, numbers_small}
 

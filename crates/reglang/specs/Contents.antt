@@ -5,9 +5,9 @@ use Rattle.regmodel.specs.declared.clauses.Clause.TheVariants as clause
 use Rattle.regmodel.specs.declared.limits.TheConstants.{GREATEST_VALUE, MOST_CHECKS, MOST_PROCESSES, MOST_REGISTERS}
 use Rattle.regmodel.specs.Limits.{IsWithin}
 use Rattle.regmodel.specs.Program.{Block, Program, block_of}
-use Rattle.reglang.specs.Expansions.{expansion}
-use Rattle.reglang.specs.Uses.{use_fits}
-use Rattle.reglang.specs.declared.uses.Use.{Use}
+use Rattle.uses.specs.Expansions.{expansion}
+use Rattle.uses.specs.Uses.{use_fits}
+use Rattle.uses.specs.declared.kinds.Use.{Use}
 use Rattle.reglang.specs.declared.source.Process.{Process}
 use Rattle.reglang.specs.declared.source.Process.TheVariants as process
 

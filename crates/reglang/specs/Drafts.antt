@@ -10,7 +10,7 @@ use Rattle.regmodel.specs.Program.{Block, Stop, block_of}
 use Rattle.reglang.specs.Forms.{read_line}
 use Rattle.reglang.specs.Contents.{Text, Kind, Contents, IsBodyWithin, body_of, clause_fits}
 use Rattle.reglang.specs.Faults.{Opened, If, Else, Repeat, repeats_in}
-use Rattle.reglang.specs.Uses.{is_between, use_fits}
+use Rattle.uses.specs.Uses.{is_between, use_fits}
 use Rattle.reglang.specs.declared.parts.Parts.{Parts}
 use Rattle.reglang.specs.declared.open_process.Open.{Open}
 use Rattle.reglang.specs.declared.open_process.Open.TheVariants as opened
@@ -22,7 +22,7 @@ use Rattle.reglang.specs.declared.refusals.LineRefusal.TheVariants as refusal
 use Rattle.reglang.specs.declared.forms.Line.{Line}
 use Rattle.reglang.specs.declared.forms.Line.TheVariants as line
 use Rattle.reglang.specs.declared.reader.ReadFault.{ReadFault}
-use Rattle.reglang.specs.declared.uses.Use.{Use}
+use Rattle.uses.specs.declared.kinds.Use.{Use}
 
 -- a block, and another one after it
 infixr 5 ◌⊕◌

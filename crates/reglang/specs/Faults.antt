@@ -6,7 +6,7 @@ use Rattle.regmodel.specs.Limits.{target_fits, operand_fits, expr_fits}
 use Rattle.reglang.specs.Lines.{lines}
 use Rattle.reglang.specs.Forms.{read_line}
 use Rattle.reglang.specs.Grammar.{lines_said}
-use Rattle.reglang.specs.Uses.{is_between, use_fits}
+use Rattle.uses.specs.Uses.{is_between, use_fits}
 use Rattle.reglang.specs.declared.forms.Line.{Line}
 use Rattle.reglang.specs.declared.forms.Line.TheVariants as line
 use Rattle.reglang.specs.declared.reader.ReadFault.{ReadFault}

@@ -14,8 +14,8 @@ use Rattle.regmodel.specs.declared.clauses.Clause.{Clause}
 use Rattle.regmodel.specs.declared.clauses.Clause.TheVariants as clause
 use Rattle.reglang.specs.Lines.{words, is_printable}
 use Rattle.reglang.specs.Words.{word_of}
-use Rattle.reglang.specs.declared.uses.Use.{Use}
-use Rattle.reglang.specs.declared.uses.Use.TheVariants as use_line
+use Rattle.uses.specs.declared.kinds.Use.{Use}
+use Rattle.uses.specs.declared.kinds.Use.TheVariants as use_line
 use Rattle.reglang.specs.declared.words.Keyword.{Keyword}
 use Rattle.reglang.specs.declared.words.Keyword.TheVariants as keyword
 use Rattle.reglang.specs.declared.words.Kind.{Kind}

@@ -1,17 +1,14 @@
 pub mod Contents
 pub mod Drafts
-pub mod Expansions
 pub mod FaultExamples
 pub mod Faults
 pub mod Forms
 pub mod Grammar
 pub mod GrammarExamples
-pub mod KindExamples
 pub mod LineExamples
 pub mod Lines
 pub mod Sources
 pub mod Spelling
-pub mod Uses
 pub mod Words
 pub mod Writing
 pub mod WritingExamples

@@ -6,7 +6,7 @@ use Rattle.regmodel.specs.declared.programs.Op.TheVariants as op
 use Rattle.regmodel.specs.declared.programs.Expr.TheVariants as expr
 use Rattle.regmodel.specs.declared.clauses.Clause.TheVariants as clause
 use Rattle.reglang.specs.Forms.{read_line}
-use Rattle.reglang.specs.declared.uses.Use.TheVariants as use_line
+use Rattle.uses.specs.declared.kinds.Use.TheVariants as use_line
 use Rattle.reglang.specs.declared.forms.Line.TheVariants as line
 
 -- a tab in a comment

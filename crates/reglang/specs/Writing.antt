@@ -13,8 +13,8 @@ use Rattle.regmodel.specs.Program as program
 use Rattle.regmodel.specs.Program.{Block}
 use Rattle.reglang.specs.Spelling.{keyword_text, kind_text, operator_text, property_text}
 use Rattle.reglang.specs.Contents.{Body, Text, Kind, Contents}
-use Rattle.reglang.specs.declared.uses.Use.{Use}
-use Rattle.reglang.specs.declared.uses.Use.TheVariants as use_line
+use Rattle.uses.specs.declared.kinds.Use.{Use}
+use Rattle.uses.specs.declared.kinds.Use.TheVariants as use_line
 use Rattle.reglang.specs.declared.words.Keyword.{Keyword}
 use Rattle.reglang.specs.declared.words.Keyword.TheVariants as keyword
 use Rattle.reglang.specs.declared.words.Kind.TheVariants as kind

@@ -10,9 +10,9 @@ use crate::open_process::OpenProcess;
 use crate::parts::Parts;
 use crate::refusals::{LineRefusal, MISPLACED, NO_REGISTERS, PAST_LIMIT};
 use crate::source::Source;
-use crate::uses::Use;
 use regmodel::limits::MOST_REGISTERS;
 use std::alloc::Global;
+use uses::Use;
 
 /// What was read so far.
 #[derive(Debug, Drop)]

@@ -10,10 +10,10 @@ use crate::clauses::clause_of;
 use crate::lines::{is_printable, split_word};
 use crate::operands::{alone, expr_of, kind_of, number_in, operand_of, target_of, use_of};
 use crate::refusals::{NO_FORM, NO_NUMBER, NOT_PRINTABLE, UNKNOWN_WORD};
-use crate::uses::Use;
 use crate::words::{Keyword, Word, word_of};
 use arrayvec::ArrayVec;
 use regmodel::{Clause, Expr, Operand, Target};
+use uses::Use;
 
 /// What a line says that is not skipped.
 #[derive(Clone, Copy, PartialEq, Eq, Debug)]

@@ -4,7 +4,6 @@
 mod clauses;
 mod copies;
 mod draft;
-mod expansions;
 mod forms;
 pub mod laws;
 mod lines;
@@ -14,14 +13,12 @@ mod parts;
 mod reader;
 mod refusals;
 mod source;
-mod uses;
 mod words;
 mod writer;
 
-pub use expansions::{ExpandFault, expand};
 pub use reader::{ReadFault, read_source};
 pub use source::Source;
-pub use uses::Use;
+pub use uses::{ExpandFault, Use, expand};
 pub use writer::write_source;
 
 #[cfg(test)]

@@ -12,10 +12,10 @@ use crate::forms::Line;
 use crate::parts::Parts;
 use crate::refusals::{LineRefusal, MISPLACED, PAST_LIMIT};
 use crate::source::Process;
-use crate::uses::Use;
 use regmodel::limits::{MOST_OPEN_BLOCKS, MOST_OPEN_REPEATS, MOST_STATEMENTS};
 use regmodel::{Expr, Prog, Stmt};
 use std::alloc::Global;
+use uses::Use;
 
 /// A block that is open, with the statements before it in the block around it.
 #[derive(Debug, Drop)]

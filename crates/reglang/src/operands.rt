@@ -3,9 +3,9 @@
 ghost use Rattle.std.specs.Prelude.{◌≡◌};
 ghost use Rattle.reglang.specs.Forms as spec;
 
-use crate::uses::Use;
 use crate::words::{Kind, Word};
 use regmodel::{Expr, Op, Operand, Target};
+use uses::Use;
 
 /// What there is where no words come after.
 pub fn alone<T: Copy>(what: T, more: &[Word]) -> Option<T>

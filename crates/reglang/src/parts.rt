@@ -8,11 +8,11 @@ use crate::forms::Line;
 use crate::open_process::OpenProcess;
 use crate::refusals::{LineRefusal, MISPLACED, NO_CLAUSE, PAST_LIMIT};
 use crate::source::{Process, Source};
-use crate::uses::Use;
 use arrayvec::ArrayVec;
 use regmodel::limits::MOST_PROCESSES;
 use regmodel::{Clause, Clauses};
 use std::alloc::Global;
+use uses::Use;
 
 /// The registers, and the whole processes and checks so far.
 #[derive(Debug, Drop)]

@@ -5,10 +5,9 @@ ghost use Rattle.regmodel.specs.declared.limits.TheConstants.{MOST_CHECKS, MOST_
 ghost use Rattle.reglang.specs.Contents.{clause_fits, is_over};
 
 use crate::copies::copy_block;
-use crate::expansions::expand;
-use crate::uses::Use;
 use regmodel::{Clause, Clauses, OutOfMemory, Prog};
 use std::alloc::Global;
+use uses::{Use, expand};
 
 /// What a process runs.
 #[derive(Debug, Drop)]

@@ -1,9 +1,9 @@
 //! The machine of one process.
 
 ghost use Rattle.std.specs.Prelude.{◌≡◌, ◌<◌, ◌↔◌, IfErr, IfOk, IsOk, IsTrue, Some, length, slice_get};
-ghost use Rattle.reglang.specs.Expansions.{expansion};
+ghost use Rattle.uses.specs.Expansions.{expansion};
 ghost use Rattle.reglang.specs.Sources.{source_programs};
-ghost use Rattle.reglang.specs.Uses.{use_fits};
+ghost use Rattle.uses.specs.Uses.{use_fits};
 ghost use Rattle.regtry.specs.declared.machines.ProcessMachine.TheVariants as process;
 
 use crate::refusals::Refusal;

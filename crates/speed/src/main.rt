@@ -4,12 +4,12 @@
 
 use machine::{Interp, Machine, feed_box, pending_of_box};
 use natives::{Grid, MakeFault, NameSlots, Split, Tree};
-use reglang::{ExpandFault, Use, expand};
 use regmodel::{Access, OutOfMemory, Pending};
 use std::alloc::{AllocError, AllocFailed, Global};
 use std::io;
 use std::time::Instant;
 use thiserror::Error;
+use uses::{ExpandFault, Use, expand};
 
 /// The greatest reply.
 const LIMIT: u32 = 1000000000;

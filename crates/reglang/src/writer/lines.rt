@@ -6,10 +6,10 @@ ghost use Rattle.reglang.specs.Writing as spec;
 ghost use Rattle.reglang.specs.declared.words.Word.TheVariants as word;
 
 use crate::forms::Line;
-use crate::uses::Use;
 use crate::words::{Keyword, Kind, Property, Word};
 use crate::writer::words::push_word;
 use regmodel::{Clause, Expr, Operand, OutOfMemory, Target};
+use uses::Use;
 
 /// The word of a target.
 fn target_word(target: Target) -> Word

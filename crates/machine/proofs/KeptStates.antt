@@ -1,0 +1,55 @@
+-- What is kept, after a write to one place.
+use Rattle.std.proofs.Common.{◌≡◌, ◌≢◌, inl, inr, ℕ, ◌+◌, ◌<◌, List, length, refl, ap, sym, subst, ◌∙◌, arith}
+use Rattle.std.specs.Prelude.{replicate, slice_index_or, slice_set}
+use Rattle.std.proofs.lemmas.List.{get_or-set_same, get_or-set_other, get_or-replicate, get_or_past, get_or_default, length-replicate}
+use Rattle.std.proofs.lemmas.Bool.{cases_eq, cases_lt}
+use Rattle.regmodel.specs.Program.{Program}
+use Rattle.machine.specs.declared.states.Kept.{Kept}
+use Rattle.machine.specs.Rest.{Asks}
+use Rattle.machine.specs.Keeping.{IsKept, IsStart, LeadsTo, blank, kept_at, state_at}
+
+kept_at-same : (kept : List Kept) (place : ℕ) (x : Kept) → place < length kept → kept_at (slice_set kept place x) place ≡ x
+kept_at-same kept place x h = get_or-set_same kept place x blank h
+
+kept_at-other : (kept : List Kept) (place other : ℕ) (x : Kept) → other ≢ place → kept_at (slice_set kept place x) other ≡ kept_at kept other
+kept_at-other kept place other x h = get_or-set_other kept place other x blank h
+
+-- each state still asks what the program wants there
+pub asks_after : (p : Program) (kept : List Kept) (place : ℕ) (x : Kept) → place < length kept → ((i : ℕ) → Asks p (state_at kept i)) → Asks p x.state → (i : ℕ) → Asks p (state_at (slice_set kept place x) i)
+asks_after p kept place x h before own i = elim (cases_eq i place) [
+  | inl e ↦ subst (λ k. Asks p k.state) (sym (ap (kept_at (slice_set kept place x)) e ∙ kept_at-same kept place x h)) own
+  | inr n ↦ subst (λ k. Asks p k.state) (sym (kept_at-other kept place i x n)) (before i)
+]
+
+leads_after : (p : Program) (kept : List Kept) (at : ℕ) (x : Kept) (known : ℕ) → IsKept p kept known → at < known → at + 1 < length kept → LeadsTo p (state_at kept at) x.reply x.state → (i : ℕ) → i + 1 < at + 2 → LeadsTo p (state_at (slice_set kept (at + 1) x) i) (kept_at (slice_set kept (at + 1) x) (i + 1)).reply (state_at (slice_set kept (at + 1) x) (i + 1))
+leads_after p kept at x known before here room own i h =
+    let from : kept_at (slice_set kept (at + 1) x) i ≡ kept_at kept i = kept_at-other kept (at + 1) i x (λ e. omega (arith, e, h)) in
+    elim (cases_eq i at) [
+      | inl e ↦
+          let to : kept_at (slice_set kept (at + 1) x) (i + 1) ≡ x = ap (λ j. kept_at (slice_set kept (at + 1) x) (j + 1)) e ∙ kept_at-same kept (at + 1) x room in
+          subst (λ k. LeadsTo p (kept_at (slice_set kept (at + 1) x) i).state k.reply k.state) (sym to)
+          (subst (λ k. LeadsTo p k.state x.reply x.state) (sym (from ∙ ap (kept_at kept) e)) own)
+      | inr n ↦
+          let to : kept_at (slice_set kept (at + 1) x) (i + 1) ≡ kept_at kept (i + 1) = kept_at-other kept (at + 1) (i + 1) x (λ e. n (omega (arith, e))) in
+          let apart : i < at = omega (arith, h, n) in
+          subst (λ k. LeadsTo p (kept_at (slice_set kept (at + 1) x) i).state k.reply k.state) (sym to)
+          (subst (λ k. LeadsTo p k.state (kept_at kept (i + 1)).reply (state_at kept (i + 1))) (sym from) (before.leads i (omega (arith, apart, here))))
+    ]
+
+-- one place more is known, and none behind it
+pub kept_after : (p : Program) (kept : List Kept) (at : ℕ) (x : Kept) (known : ℕ) → IsKept p kept known → at < known → at + 1 < length kept → LeadsTo p (state_at kept at) x.reply x.state → IsKept p (slice_set kept (at + 1) x) (at + 1 + 1)
+kept_after p kept at x known before here room own = record {
+  starts = λ some. subst (λ k. IsStart p k.state) (sym (kept_at-other kept (at + 1) 0 x (λ e. omega (arith, e)))) (before.starts (omega (arith, here)));
+  leads = λ i h. leads_after p kept at x known before here room own i (omega (arith, h));
+}
+
+-- the same state everywhere, and the blank one behind it
+pub asks_all : (p : Program) (count : ℕ) (x : Kept) → Asks p x.state → (i : ℕ) → Asks p (state_at (replicate count x) i)
+asks_all p count x own i = elim (cases_lt i count) [
+  | inl h ↦ subst (λ k. Asks p k.state) (sym (get_or-replicate count i x blank h)) own
+  | inr n ↦ subst (λ k. Asks p k.state) (sym (get_or_past (replicate count x) i blank (omega (arith, length-replicate count x, n)))) refl
+]
+
+-- what an index gives
+pub kept_at-index : (kept : List Kept) (place : ℕ) (x : Kept) → place < length kept → x ≡ slice_index_or kept place x → x ≡ kept_at kept place
+kept_at-index kept place x h e = e ∙ get_or_default kept place x blank h

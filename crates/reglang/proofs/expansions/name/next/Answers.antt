@@ -1,6 +1,0 @@
-use Rattle.std.proofs.Common.{refl}
-use Rattle.regmodel.proofs.Rows.{with_stmt-If, with_stmt-Repeat}
-use Rattle.reglang.proofs.expansions.name.next.Goals as goal
-
-pub returns : goal.returns
-returns c = simp (c.in_ok-vec.ensures.items, with_stmt-If, with_stmt-Repeat, c.in_ok-held.ensures, c.in_ok-lower.ensures.items, c.new.ensures.items) refl

@@ -1,6 +1,0 @@
-use Rattle.std.proofs.Common.{refl}
-use Rattle.regmodel.proofs.Rows.{with_stmt-If}
-use Rattle.reglang.proofs.expansions.tree.down.Goals as goal
-
-pub returns : goal.returns
-returns c = simp (c.in_ok-vec.ensures.items, with_stmt-If, c.in_ok-stop.ensures.items, c.in_ok-left.ensures.items) refl

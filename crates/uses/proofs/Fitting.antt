@@ -1,0 +1,98 @@
+-- The expansion of a use line within its limits is within the limits of a program.
+use Rattle.std.proofs.Common.{◌≡◌, ℕ, ◌+◌, ◌-◌, ◌*◌, ◌^◌, ◌≤◌, true, leb, ltb, refl, arith}
+use Rattle.std.proofs.lemmas.Bool.{and_parts, leb-true, ltb-true, le-leb}
+use Rattle.std.specs.Prelude.{◌&&◌}
+use Rattle.regmodel.specs.Limits.{IsWithin}
+use Rattle.uses.specs.Expansions.{expansion}
+use Rattle.uses.specs.Uses.{is_between, use_fits, numbers_fit, registers_end}
+use Rattle.uses.specs.declared.kinds.Use.{Use}
+use Rattle.uses.specs.declared.kinds.Use.TheVariants.{Split, Grid, Tree, Name}
+
+pub between : (first last n : ℕ) → is_between first last n ≡ true → (first ≤ n) × (n ≤ last)
+between first last n h =
+    let parts = and_parts (leb first n) (leb n last) h in
+    (leb-true first n parts.0, leb-true n last parts.1)
+
+-- what the limits of a use line come to
+pub record Fits (kind : Use) (registers : ℕ) : Type 0 where
+  pub some : 1 ≤ registers
+  pub few : registers ≤ 64
+  pub numbers : numbers_fit kind ≡ true
+  pub room : registers_end kind ≤ registers
+
+pub fits : (kind : Use) (registers : ℕ) → use_fits kind registers ≡ true → Fits kind registers
+fits kind registers h =
+    let outer = and_parts (is_between 1 64 registers && numbers_fit kind) (leb (registers_end kind) registers) h in
+    let inner = and_parts (is_between 1 64 registers) (numbers_fit kind) outer.0 in
+    let count = between 1 64 registers inner.0 in
+    record { some = count.0; few = count.1; numbers = inner.1; room = leb-true (registers_end kind) registers outer.1 }
+
+fitting_split : (base id n : ℕ) → Fits (Split base id) n → IsWithin (expansion (Split base id) n)
+fitting_split base id n h =
+    let mark = between 1 1000000000 id h.numbers in
+    let room : base + 2 ≤ n = h.room in
+    let few = h.few in
+    record {
+      some_register = h.some;
+      registers = h.few;
+      operands = rw (le-leb base 1000000000 (omega arith), le-leb (base + 1) 1000000000 (omega arith), le-leb id 1000000000 mark.1) refl;
+      statements = omega arith;
+      open_blocks = omega arith;
+      open_repeats = omega arith;
+    }
+
+fitting_grid : (base side id n : ℕ) → Fits (Grid base side id) n → IsWithin (expansion (Grid base side id) n)
+fitting_grid base side id n h =
+    let numbers = and_parts (is_between 1 7 side) (is_between 1 1000000000 id) h.numbers in
+    let rows = between 1 7 side numbers.0 in
+    let mark = between 1 1000000000 id numbers.1 in
+    let room : base + side * (side + 1) ≤ n = h.room in
+    let few = h.few in
+    record {
+      some_register = h.some;
+      registers = h.few;
+      operands = rw (le-leb base 1000000000 (omega arith), le-leb side 1000000000 (omega (arith, rows.1)), le-leb id 1000000000 mark.1) refl;
+      statements = omega arith;
+      open_blocks = omega arith;
+      open_repeats = omega arith;
+    }
+
+fitting_tree : (base depth id value n : ℕ) → Fits (Tree base depth id value) n → IsWithin (expansion (Tree base depth id value) n)
+fitting_tree base depth id value n h =
+    let outer = and_parts (is_between 1 4 depth && is_between 1 1000000000 id) (is_between 1 1000000000 value) h.numbers in
+    let inner = and_parts (is_between 1 4 depth) (is_between 1 1000000000 id) outer.0 in
+    let levels = between 1 4 depth inner.0 in
+    let mark = between 1 1000000000 id inner.1 in
+    let left = between 1 1000000000 value outer.1 in
+    let room : base + 4 * (2 ^ depth - 1) ≤ n = h.room in
+    let few = h.few in
+    record {
+      some_register = h.some;
+      registers = h.few;
+      operands = rw (le-leb base 1000000000 (omega arith), le-leb depth 1000000000 (omega (arith, levels.1)), le-leb id 1000000000 mark.1, le-leb value 1000000000 left.1, le-leb (2 ^ depth - 1) 1000000000 (omega arith)) refl;
+      statements = omega arith;
+      open_blocks = omega arith;
+      open_repeats = omega arith;
+    }
+
+fitting_name : (base slots slot n : ℕ) → Fits (Name base slots slot) n → IsWithin (expansion (Name base slots slot) n)
+fitting_name base slots slot n h =
+    let numbers = and_parts (is_between 1 8 slots) (ltb slot slots) h.numbers in
+    let count = between 1 8 slots numbers.0 in
+    let own = ltb-true slot slots numbers.1 in
+    let room : base + slots ≤ n = h.room in
+    let few = h.few in
+    record {
+      some_register = h.some;
+      registers = h.few;
+      operands = rw (le-leb (base + slot) 1000000000 (omega arith), le-leb base 1000000000 (omega arith), le-leb slots 1000000000 (omega (arith, count.1)), le-leb slot 1000000000 (omega (arith, count.1)), le-leb (2 * slots - 1) 1000000000 (omega (arith, count.1))) refl;
+      statements = omega arith;
+      open_blocks = omega arith;
+      open_repeats = omega arith;
+    }
+
+pub fitting : (kind : Use) (registers : ℕ) → use_fits kind registers ≡ true → IsWithin (expansion kind registers)
+fitting (Split base id) n h = fitting_split base id n (fits (Split base id) n h)
+fitting (Grid base side id) n h = fitting_grid base side id n (fits (Grid base side id) n h)
+fitting (Tree base depth id value) n h = fitting_tree base depth id value n (fits (Tree base depth id value) n h)
+fitting (Name base slots slot) n h = fitting_name base slots slot n (fits (Name base slots slot) n h)

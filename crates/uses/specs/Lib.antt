@@ -1,0 +1,3 @@
+pub mod Expansions
+pub mod KindExamples
+pub mod Uses

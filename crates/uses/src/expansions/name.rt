@@ -1,0 +1,119 @@
+//! The expansion of a renaming.
+
+ghost use Rattle.std.specs.Prelude.{◌≡◌, ◌≤◌, ◌<◌, IfOk};
+ghost use Rattle.regmodel.specs.declared.limits.TheConstants.{MOST_REGISTERS, MOST_SLOTS};
+ghost use Rattle.regmodel.specs.Program.{block_of};
+ghost use Rattle.uses.specs.Expansions.{name_body, name_round, name_slot, name_other, name_rank, name_turn, name_next, name_held};
+
+use regmodel::Expr::{One, Two};
+use regmodel::Op::{Add, Equal, Less, Sub};
+use regmodel::Operand::{CellOf, Number, Var};
+use regmodel::Stmt::{Assign, Emit, Halt, If, Read, Repeat, Write};
+use regmodel::limits::MOST_TURNS;
+use regmodel::{OutOfMemory, Stmt, Target};
+use std::alloc::Global;
+
+/// The statements of a renaming, whose slots begin at register `base`, for the process of this slot.
+pub fn name_block(alloc: Global, base: u32, slots: u32, slot: u32) -> Result<Vec<Stmt>, OutOfMemory>
+    requires base { base ≤ MOST_REGISTERS }
+    requires slots { slots ≤ MOST_SLOTS }
+    requires slot { slot < slots }
+    ensures { IfOk result (λ block. block_of block.items ≡ name_body base slots slot) }
+{
+    let round = round(alloc, base, slots, slot)?;
+    Ok(vec![in alloc;
+        Assign(Target::Var(0), One(Number(1))),
+        Repeat(One(Number(MOST_TURNS)), round),
+    ]?)
+}
+
+/// Writes the proposal, reads the other slots, and keeps the proposal or makes the next one.
+fn round(alloc: Global, base: u32, slots: u32, slot: u32) -> Result<Vec<Stmt>, OutOfMemory>
+    requires base { base ≤ MOST_REGISTERS }
+    requires slots { slots ≤ MOST_SLOTS }
+    requires slot { slot < slots }
+    ensures { IfOk result (λ block. block_of block.items ≡ name_round base slots slot) }
+{
+    let visit = visit(alloc, base, slot)?;
+    let keep = vec![in alloc; Emit(One(Var(0))), Halt]?;
+    let turn = turn(alloc, slots)?;
+    Ok(vec![in alloc;
+        Write(Number(base + slot), One(Var(0))),
+        Assign(Target::Var(1), One(Number(0))),
+        Assign(Target::Var(2), One(Number(1))),
+        Assign(Target::Var(3), One(Number(0))),
+        Repeat(One(Number(slots)), visit),
+        If(Two(Var(1), Equal, Number(0)), keep, Vec::new(alloc)),
+        Assign(Target::Var(4), One(Number(0))),
+        Repeat(One(Number(2 * slots - 1)), turn),
+        Assign(Target::Var(0), One(Var(4))),
+    ]?)
+}
+
+/// One slot; the own one counts as empty.
+fn visit(alloc: Global, base: u32, slot: u32) -> Result<Vec<Stmt>, OutOfMemory>
+    ensures { IfOk result (λ block. block_of block.items ≡ name_slot base slot) }
+{
+    let own = vec![in alloc; Assign(Target::CellOf(3), One(Number(0)))]?;
+    let other = other(alloc, base, slot)?;
+    Ok(vec![in alloc;
+        If(Two(Var(3), Equal, Number(slot)), own, other),
+        Assign(Target::Var(3), Two(Var(3), Add, Number(1))),
+    ]?)
+}
+
+/// Reads another slot: a clash where it holds the proposal, a higher rank where it is smaller and holds something.
+fn other(alloc: Global, base: u32, slot: u32) -> Result<Vec<Stmt>, OutOfMemory>
+    ensures { IfOk result (λ block. block_of block.items ≡ name_other base slot) }
+{
+    let clash = vec![in alloc; Assign(Target::Var(1), One(Number(1)))]?;
+    let rank = rank(alloc)?;
+    Ok(vec![in alloc;
+        Assign(Target::Var(4), Two(Var(3), Add, Number(base))),
+        Read(Target::CellOf(3), Var(4)),
+        If(Two(CellOf(3), Equal, Var(0)), clash, Vec::new(alloc)),
+        If(Two(Var(3), Less, Number(slot)), rank, Vec::new(alloc)),
+    ]?)
+}
+
+/// A higher rank where a smaller slot holds something.
+fn rank(alloc: Global) -> Result<Vec<Stmt>, OutOfMemory>
+    ensures { IfOk result (λ block. block_of block.items ≡ name_rank) }
+{
+    let higher = vec![in alloc; Assign(Target::Var(2), Two(Var(2), Add, Number(1)))]?;
+    Ok(vec![in alloc; If(One(CellOf(3)), higher, Vec::new(alloc))]?)
+}
+
+/// The next number, until the rank is used up.
+fn turn(alloc: Global, slots: u32) -> Result<Vec<Stmt>, OutOfMemory>
+    ensures { IfOk result (λ block. block_of block.items ≡ name_turn slots) }
+{
+    let next = next(alloc, slots)?;
+    Ok(vec![in alloc; If(One(Var(2)), next, Vec::new(alloc))]?)
+}
+
+/// The next number; the rank falls where no other slot holds it.
+fn next(alloc: Global, slots: u32) -> Result<Vec<Stmt>, OutOfMemory>
+    ensures { IfOk result (λ block. block_of block.items ≡ name_next slots) }
+{
+    let held = held(alloc)?;
+    let lower = vec![in alloc; Assign(Target::Var(2), Two(Var(2), Sub, Number(1)))]?;
+    Ok(vec![in alloc;
+        Assign(Target::Var(4), Two(Var(4), Add, Number(1))),
+        Assign(Target::Var(5), One(Number(0))),
+        Assign(Target::Var(3), One(Number(0))),
+        Repeat(One(Number(slots)), held),
+        If(Two(Var(5), Equal, Number(0)), lower, Vec::new(alloc)),
+    ]?)
+}
+
+/// Whether a slot holds the number.
+fn held(alloc: Global) -> Result<Vec<Stmt>, OutOfMemory>
+    ensures { IfOk result (λ block. block_of block.items ≡ name_held) }
+{
+    let found = vec![in alloc; Assign(Target::Var(5), One(Number(1)))]?;
+    Ok(vec![in alloc;
+        If(Two(CellOf(3), Equal, Var(4)), found, Vec::new(alloc)),
+        Assign(Target::Var(3), Two(Var(3), Add, Number(1))),
+    ]?)
+}

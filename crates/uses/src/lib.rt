@@ -1,0 +1,8 @@
+//! Uses: processes that stand for a program of their kind, and these programs.
+#![tactic(auto)]
+
+mod expansions;
+mod kinds;
+
+pub use expansions::{ExpandFault, expand};
+pub use kinds::Use;
