@@ -14,6 +14,9 @@ use std::alloc::{AllocError, Global};
 use std::convert::AsStr;
 use std::io::Write;
 
+/// The program's version, and the toolchain that it is proved with.
+const VERSION: &str = "0.1.0, proved with rattle-kit-13b logic dac8208d650f15bf";
+
 /// What the help says of the statuses.
 const STATUSES: &str = "Statuses:
   0  explore: no schedule fails; replay: done
@@ -92,8 +95,8 @@ impl<'a> Order<'a> {
     }
 }
 
-/// Reads the words of the command line, the program's name first. Where they are refused, also where they ask for help, a
-/// setting is past its limit, or the schedule is no text of one, it prints why, and the error is the status.
+/// Reads the words of the command line, the program's name first. Where they are refused, also where they ask for help or the
+/// version, a setting is past its limit, or the schedule is no text of one, it prints why, and the error is the status.
 pub fn command<'a, S: AsStr, E: Write>(
     alloc: Global,
     words: &'a [S],
@@ -122,6 +125,7 @@ fn program<'a>(alloc: Global) -> Result<Command<'a>, AllocError> {
         .about(
             "Runs register algorithms under all bounded schedules and reports what can come out.",
         )
+        .version(VERSION)
         .after_help(STATUSES)
         .subcommand_required(true)
         .disable_help_subcommand(true)

@@ -50,6 +50,16 @@ fn words_that_say_nothing_are_refused(rt: HostRuntime) {
 }
 
 #[test]
+fn the_version_names_the_toolchain(rt: HostRuntime) {
+    let (status, err) = refused(rt.alloc(), ["regtry", "--version"].as_slice());
+    assert_eq!(rt; status, 2);
+    assert_eq!(rt;
+        err.as_slice(),
+        b"regtry 0.1.0, proved with rattle-kit-13b logic dac8208d650f15bf\n".as_slice()
+    );
+}
+
+#[test]
 fn texts_that_are_no_schedule_are_refused(rt: HostRuntime) {
     for schedule in ["", "r0", "R8", "R9", "R0 ", " R0", "R0  R0", "..", LONG] {
         let (status, err) = refused(
