@@ -4,7 +4,7 @@ ghost use Rattle.std.specs.Prelude.{◌≡◌, ◌≤◌, All, IfErr, IfOk, IfSo
 ghost use Rattle.regmodel.specs.Judging.{meets_all};
 ghost use Rattle.regmodel.specs.PlainReport.{IsPlainReport};
 ghost use Rattle.reglang.specs.Sources.{contents_of, source_programs};
-ghost use Rattle.explorer.specs.Appending.{Writes, write_fault_of};
+ghost use Rattle.report.specs.Appending.{Writes, write_fault_of};
 ghost use Rattle.regtry.specs.Findings.{IsAnswered, IsFoundBy, IsRefusedBy, IsRunFault, finding_text, has_failing};
 ghost use Rattle.regtry.specs.Statuses.{status_of};
 
