@@ -17,6 +17,35 @@ use std::io::Write;
 /// The program's version, and the toolchain that it is proved with.
 const VERSION: &str = "0.1.0, proved with rattle-kit-13b logic dac8208d650f15bf";
 
+/// The settings of an exploration: the name of each, what its number is called, and what the help says of it.
+const SETTINGS: [(&str, &str, &str); 5] = [
+    (
+        "length",
+        "L",
+        "How many letters a schedule has at most: 0 to 64",
+    ),
+    (
+        "crashes",
+        "C",
+        "How many crashes a schedule has at most: 0 to 8",
+    ),
+    (
+        "workers",
+        "W",
+        "How many workers share the exploration, each in a thread of its own: 1 to 16",
+    ),
+    (
+        "cut",
+        "D",
+        "Up to which length beginnings of schedules are split into pieces for the workers: 0 to 16",
+    ),
+    (
+        "room",
+        "M",
+        "How many pieces each worker may put up for the others: 0 to 65536",
+    ),
+];
+
 /// What the help says of the statuses.
 const STATUSES: &str = "Statuses:
   0  explore: no schedule fails; replay: done
@@ -139,41 +168,14 @@ fn explore<'a>(alloc: Global) -> Result<Command<'a>, AllocError> {
         .long("text")
         .action(ArgAction::SetTrue)
         .help("Interpret the processes with a `use` line, too, which else run as native machines");
-    Command::new(alloc, "explore")
+    let mut command = Command::new(alloc, "explore")
         .about("Explores all schedules of a source and prints a report of the outcomes.")
         .after_help(STATUSES)
-        .arg(file(alloc))?
-        .arg(number(
-            alloc,
-            "length",
-            "L",
-            "How many letters a schedule has at most: 0 to 64",
-        ))?
-        .arg(number(
-            alloc,
-            "crashes",
-            "C",
-            "How many crashes a schedule has at most: 0 to 8",
-        ))?
-        .arg(number(
-            alloc,
-            "workers",
-            "W",
-            "How many workers share the exploration, each in a thread of its own: 1 to 16",
-        ))?
-        .arg(number(
-            alloc,
-            "cut",
-            "D",
-            "Up to which length beginnings of schedules are split into pieces for the workers: 0 to 16",
-        ))?
-        .arg(number(
-            alloc,
-            "room",
-            "M",
-            "How many further pieces a worker may keep waiting: 0 to 65536 (no effect so far)",
-        ))?
-        .arg(text)
+        .arg(file(alloc))?;
+    for (name, value, help) in SETTINGS {
+        command = command.arg(number(alloc, name, value, help))?;
+    }
+    command.arg(text)
 }
 
 /// The words of `replay`.
