@@ -169,7 +169,7 @@ fn report_of<H: Threads + Wait + Sync>(
     requires lists { length lists.items ≡ settings.workers }
     requires machines { All (λ list. map program list.items ≡ source_programs source.now) lists.items }
     ensures report { IfOk result (λ r. IsPlainReport (source_programs source.now) settings.length settings.crashes (meets_all (contents_of source.now).clauses) r) }
-    ensures code { IfErr result (IsRunFault (source_programs source.now) settings) }
+    ensures code { IfErr result IsRunFault }
 {
     match run(
         rt,
