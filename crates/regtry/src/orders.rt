@@ -37,12 +37,12 @@ const SETTINGS: [(&str, &str, &str); 5] = [
     (
         "cut",
         "D",
-        "Up to which length beginnings of schedules are split into pieces for the workers: 0 to 16",
+        "Up to which length beginnings of schedules are split into pieces for the workers: 0 to 16 (3 serves well)",
     ),
     (
         "room",
         "M",
-        "How many pieces each worker may put up for the others: 0 to 65536",
+        "How many pieces each worker may put up for the others: 0 to 65536 (64 serves well)",
     ),
 ];
 
