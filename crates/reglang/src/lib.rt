@@ -13,6 +13,7 @@ mod parts;
 mod reader;
 mod refusals;
 mod source;
+mod spellings;
 mod words;
 mod writer;
 

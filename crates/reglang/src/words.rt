@@ -5,55 +5,45 @@ ghost use Rattle.std.specs.List.{list_all};
 ghost use Rattle.std.specs.Str.Parse.{digits_value};
 ghost use Rattle.reglang.specs.Words as spec;
 
+use crate::spellings::Spelled;
 use regmodel::Op;
 use regmodel::limits::{CELLS, GREATEST_VALUE, VARIABLES};
 
-/// The first words of lines, as they are spelled.
-const KEYWORDS: [(&[u8], Keyword); 15] = [
-    (b"registers", Keyword::Registers),
-    (b"process", Keyword::Process),
-    (b"end", Keyword::End),
-    (b"set", Keyword::Set),
-    (b"read", Keyword::Read),
-    (b"write", Keyword::Write),
-    (b"if", Keyword::If),
-    (b"else", Keyword::Else),
-    (b"fi", Keyword::Fi),
-    (b"repeat", Keyword::Repeat),
-    (b"done", Keyword::Done),
-    (b"emit", Keyword::Emit),
-    (b"halt", Keyword::Halt),
-    (b"use", Keyword::Use),
-    (b"check", Keyword::Check),
+/// The first words of lines.
+const KEYWORDS: [Keyword; 15] = [
+    Keyword::Registers,
+    Keyword::Process,
+    Keyword::End,
+    Keyword::Set,
+    Keyword::Read,
+    Keyword::Write,
+    Keyword::If,
+    Keyword::Else,
+    Keyword::Fi,
+    Keyword::Repeat,
+    Keyword::Done,
+    Keyword::Emit,
+    Keyword::Halt,
+    Keyword::Use,
+    Keyword::Check,
 ];
 
-/// The operators, as they are spelled.
-const OPERATORS: [(&[u8], Op); 5] = [
-    (b"+", Op::Add),
-    (b"-", Op::Sub),
-    (b"*", Op::Mul),
-    (b"=", Op::Equal),
-    (b"<", Op::Less),
-];
+/// The operators.
+const OPERATORS: [Op; 5] = [Op::Add, Op::Sub, Op::Mul, Op::Equal, Op::Less];
 
-/// The kinds of use lines, as they are spelled.
-const KINDS: [(&[u8], Kind); 4] = [
-    (b"split", Kind::Split),
-    (b"grid", Kind::Grid),
-    (b"tree", Kind::Tree),
-    (b"name", Kind::Name),
-];
+/// The kinds of use lines.
+const KINDS: [Kind; 4] = [Kind::Split, Kind::Grid, Kind::Tree, Kind::Name];
 
-/// The properties, as they are spelled.
-const PROPERTIES: [(&[u8], Property); 8] = [
-    (b"distinct", Property::Distinct),
-    (b"atmost", Property::AtMost),
-    (b"within", Property::Within),
-    (b"adaptive", Property::Adaptive),
-    (b"triangle", Property::Triangle),
-    (b"selfseen", Property::SelfSeen),
-    (b"ended", Property::Ended),
-    (b"nofault", Property::NoFault),
+/// The properties.
+const PROPERTIES: [Property; 8] = [
+    Property::Distinct,
+    Property::AtMost,
+    Property::Within,
+    Property::Adaptive,
+    Property::Triangle,
+    Property::SelfSeen,
+    Property::Ended,
+    Property::NoFault,
 ];
 
 /// A first word of a line.
@@ -122,13 +112,13 @@ pub enum Word {
     Other,
 }
 
-/// What stands beside a word in a table of spellings.
-fn spelled_in<T: Copy>(table: &[(&[u8], T)], word: &[u8]) -> Option<T>
-    ensures { result ≡ spec.spelled_in (map (λ row. (row.0.now, row.1)) table.now) word.now }
+/// The one of these that is spelled so.
+fn spelled_in<T: Spelled>(all: &[T], word: &[u8]) -> Option<T>
+    ensures { result ≡ spec.spelled_in (map (λ one. (T.spelling one, one)) all.now) word.now }
 {
-    for (text, meaning) in table {
-        if word == *text {
-            return Some(*meaning);
+    for one in all {
+        if word == one.text() {
+            return Some(*one);
         }
     }
     None

@@ -1,0 +1,92 @@
+//! How the words of the language are spelled.
+
+use crate::words::{Keyword, Kind, Property};
+use regmodel::Op;
+
+/// A word of the language that has one spelling.
+pub trait Spelled: Copy {
+    ghost use Rattle.std.specs.Prelude.{◌≡◌, ℕ, List};
+
+    /// How it is spelled.
+    ghost spelling: { Self → List ℕ };
+
+    /// How it is spelled.
+    fn text(self) -> &'static [u8]
+        ensures { result.now ≡ spelling self };
+}
+
+impl Spelled for Keyword {
+    ghost use Rattle.reglang.specs.Spelling.{keyword_text};
+
+    ghost spelling = { keyword_text };
+
+    fn text(self) -> &'static [u8] {
+        match self {
+            Keyword::Registers => b"registers",
+            Keyword::Process => b"process",
+            Keyword::End => b"end",
+            Keyword::Set => b"set",
+            Keyword::Read => b"read",
+            Keyword::Write => b"write",
+            Keyword::If => b"if",
+            Keyword::Else => b"else",
+            Keyword::Fi => b"fi",
+            Keyword::Repeat => b"repeat",
+            Keyword::Done => b"done",
+            Keyword::Emit => b"emit",
+            Keyword::Halt => b"halt",
+            Keyword::Use => b"use",
+            Keyword::Check => b"check",
+        }
+    }
+}
+
+impl Spelled for Op {
+    ghost use Rattle.reglang.specs.Spelling.{operator_text};
+
+    ghost spelling = { operator_text };
+
+    fn text(self) -> &'static [u8] {
+        match self {
+            Op::Add => b"+",
+            Op::Sub => b"-",
+            Op::Mul => b"*",
+            Op::Equal => b"=",
+            Op::Less => b"<",
+        }
+    }
+}
+
+impl Spelled for Kind {
+    ghost use Rattle.reglang.specs.Spelling.{kind_text};
+
+    ghost spelling = { kind_text };
+
+    fn text(self) -> &'static [u8] {
+        match self {
+            Kind::Split => b"split",
+            Kind::Grid => b"grid",
+            Kind::Tree => b"tree",
+            Kind::Name => b"name",
+        }
+    }
+}
+
+impl Spelled for Property {
+    ghost use Rattle.reglang.specs.Spelling.{property_text};
+
+    ghost spelling = { property_text };
+
+    fn text(self) -> &'static [u8] {
+        match self {
+            Property::Distinct => b"distinct",
+            Property::AtMost => b"atmost",
+            Property::Within => b"within",
+            Property::Adaptive => b"adaptive",
+            Property::Triangle => b"triangle",
+            Property::SelfSeen => b"selfseen",
+            Property::Ended => b"ended",
+            Property::NoFault => b"nofault",
+        }
+    }
+}
