@@ -1,27 +1,19 @@
 //! Explores register algorithms under all bounded schedules, and replays one.
 #![tactic(auto)]
 
-mod answers;
-mod machines;
-mod orders;
-mod refusals;
-mod standings;
-#[cfg(test)]
-mod tests;
-
-use refusals::Refusal;
+use cli::{Refusal, answer, command, refuse};
 use std::process::ExitCode;
 use std::{env, fs};
 
 fn main(rt: HostRuntime) -> ExitCode {
     let mut err = rt.stderr();
     let Ok(words) = words_of(&rt) else {
-        return ExitCode::from(refusals::refuse(Refusal::Memory, &mut err));
+        return ExitCode::from(refuse(Refusal::Memory, &mut err));
     };
-    let status = match orders::command(rt.alloc(), words.as_slice(), &mut err) {
+    let status = match command(rt.alloc(), words.as_slice(), &mut err) {
         Ok(order) => {
             let file = fs::open(&rt, order.path()).ok();
-            answers::answer(&rt, rt.alloc(), &order, file, &mut rt.stdout(), &mut err)
+            answer(&rt, rt.alloc(), &order, file, &mut rt.stdout(), &mut err)
         }
         Err(status) => status,
     };

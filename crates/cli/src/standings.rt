@@ -5,7 +5,7 @@ ghost use Rattle.regmodel.specs.Outcomes.{outcome_of};
 ghost use Rattle.regmodel.specs.Schedules.{IsSchedule};
 ghost use Rattle.reglang.specs.Sources.{source_programs, registers_of};
 ghost use Rattle.world.specs.Sound.{IsSoundWorld, letters_of, register_count_of, world_programs};
-ghost use Rattle.regtry.specs.Standings.{IsLetterRefused, values_after};
+ghost use Rattle.cli.specs.Standings.{IsLetterRefused, values_after};
 
 use arrayvec::ArrayVec;
 use machine::Machine;

@@ -1,7 +1,7 @@
 -- The statuses of the program.
 use Rattle.std.specs.Prelude.{ℕ}
-use Rattle.regtry.specs.declared.refusals.Refusal.{Refusal}
-use Rattle.regtry.specs.declared.refusals.Refusal.TheVariants.{Setting, Schedule, File, Source, Memory, Letter, Run, Write}
+use Rattle.cli.specs.declared.refusals.Refusal.{Refusal}
+use Rattle.cli.specs.declared.refusals.Refusal.TheVariants.{Setting, Schedule, File, Source, Memory, Letter, Run, Write}
 
 -- 2 where what was asked is refused, 3 where it could not be done
 abbrev pub status_of : Refusal → ℕ

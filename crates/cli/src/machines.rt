@@ -4,7 +4,7 @@ ghost use Rattle.std.specs.Prelude.{◌≡◌, ◌<◌, ◌↔◌, IfErr, IfOk, 
 ghost use Rattle.uses.specs.Expansions.{expansion};
 ghost use Rattle.reglang.specs.Sources.{source_programs};
 ghost use Rattle.uses.specs.Uses.{use_fits};
-ghost use Rattle.regtry.specs.declared.machines.ProcessMachine.TheVariants as process;
+ghost use Rattle.cli.specs.declared.machines.ProcessMachine.TheVariants as process;
 
 use crate::refusals::Refusal;
 use machine::{Interp, Machine};

@@ -1,6 +1,6 @@
 use Rattle.std.proofs.Common.{arith}
-use Rattle.regtry.proofs.BoundedReads.{all_read}
-use Rattle.regtry.proofs.answers.bytes_of.Goals as goal
+use Rattle.cli.proofs.BoundedReads.{all_read}
+use Rattle.cli.proofs.answers.bytes_of.Goals as goal
 
 pub returns-in-Ok : goal.returns-in-Ok
 returns-in-Ok g c =

@@ -1,7 +1,7 @@
 use Rattle.std.proofs.Common.{subst, sym, arith}
 use Rattle.world.specs.Fit.{AreFit}
 use Rattle.world.proofs.Limits.{AreFit-registers}
-use Rattle.regtry.proofs.standings.standing_after.Goals as goal
+use Rattle.cli.proofs.standings.standing_after.Goals as goal
 
 pub values_of-requires-clause-few : goal.values_of-requires-clause-few
 values_of-requires-clause-few g c =

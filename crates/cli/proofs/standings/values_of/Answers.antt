@@ -1,7 +1,7 @@
 use Rattle.std.proofs.Common.{◌≡◌, ℕ, ◌+◌, List, [], ◌∷◌, ◌++◌, map, arith}
 use Rattle.std.specs.List.{range_with_len}
 use Rattle.std.proofs.lemmas.List.FromFn.{map-range_with_len_more}
-use Rattle.regtry.proofs.standings.values_of.Goals as goal
+use Rattle.cli.proofs.standings.values_of.Goals as goal
 
 -- one value more
 grown : {X : Type 0} (f : ℕ → X) (p : ℕ) (xs ys : List X) (x : X) → xs ≡ map f (range_with_len 0 p) → x ≡ f p → ys ≡ xs ++ x ∷ [] → ys ≡ map f (range_with_len 0 (p + 1))

@@ -5,8 +5,8 @@ ghost use Rattle.regmodel.specs.Judging.{meets_all};
 ghost use Rattle.regmodel.specs.PlainReport.{IsPlainReport};
 ghost use Rattle.reglang.specs.Sources.{contents_of, source_programs};
 ghost use Rattle.report.specs.Appending.{Writes, write_fault_of};
-ghost use Rattle.regtry.specs.Findings.{IsAnswered, IsFoundBy, IsRefusedBy, IsRunFault, finding_text, has_failing};
-ghost use Rattle.regtry.specs.Statuses.{status_of};
+ghost use Rattle.cli.specs.Findings.{IsAnswered, IsFoundBy, IsRefusedBy, IsRunFault, finding_text, has_failing};
+ghost use Rattle.cli.specs.Statuses.{status_of};
 
 use crate::machines::machine_of;
 use crate::orders::{Order, Task};

@@ -1,7 +1,7 @@
 //! What the program refuses, and the status that tells it.
 
 ghost use Rattle.std.specs.Prelude.{◌≡◌, ◌⊎◌};
-ghost use Rattle.regtry.specs.Statuses.{status_of};
+ghost use Rattle.cli.specs.Statuses.{status_of};
 
 use reglang::ReadFault;
 use regmodel::OutOfMemory;
@@ -56,7 +56,7 @@ impl Refusal {
 
 impl From<OutOfMemory> for Refusal {
     ghost use Rattle.std.specs.Prelude.{◌≡◌};
-    ghost use Rattle.regtry.specs.declared.refusals.Refusal.TheVariants.{Memory};
+    ghost use Rattle.cli.specs.declared.refusals.Refusal.TheVariants.{Memory};
 
     ghost from_gives = { λ _ refusal. refusal ≡ Memory };
 
@@ -67,7 +67,7 @@ impl From<OutOfMemory> for Refusal {
 
 impl From<AllocError> for Refusal {
     ghost use Rattle.std.specs.Prelude.{◌≡◌};
-    ghost use Rattle.regtry.specs.declared.refusals.Refusal.TheVariants.{Memory};
+    ghost use Rattle.cli.specs.declared.refusals.Refusal.TheVariants.{Memory};
 
     ghost from_gives = { λ _ refusal. refusal ≡ Memory };
 
@@ -78,7 +78,7 @@ impl From<AllocError> for Refusal {
 
 impl<T: Drop> From<AllocFailed<T>> for Refusal {
     ghost use Rattle.std.specs.Prelude.{◌≡◌};
-    ghost use Rattle.regtry.specs.declared.refusals.Refusal.TheVariants.{Memory};
+    ghost use Rattle.cli.specs.declared.refusals.Refusal.TheVariants.{Memory};
 
     ghost from_gives = { λ _ refusal. refusal ≡ Memory };
 

@@ -5,8 +5,8 @@ use Rattle.std.proofs.lemmas.Result.{err_from_is_err_and}
 use denote.Param.Object.{read_made}
 use Rattle.reglang.specs.Sources.{contents_of, source_programs}
 use Rattle.regmodel.proofs.Members.{map-take_push}
-use Rattle.regtry.proofs.answers.found.OwnLists.{own-1}
-use Rattle.regtry.proofs.answers.found.Goals as goal
+use Rattle.cli.proofs.answers.found.OwnLists.{own-1}
+use Rattle.cli.proofs.answers.found.Goals as goal
 
 pub loop-p-preserved : goal.loop-p-preserved
 loop-p-preserved g c =

@@ -1,8 +1,8 @@
 -- What the words of the command line ask for.
 use Rattle.std.specs.Prelude.{◌≡◌, ℕ, Bool, false, List}
 use Rattle.regmodel.specs.ScheduleText.{schedule_text}
-use Rattle.regtry.specs.declared.orders.Task.{Task}
-use Rattle.regtry.specs.declared.orders.Task.TheVariants.{Explore, Replay}
+use Rattle.cli.specs.declared.orders.Task.{Task}
+use Rattle.cli.specs.declared.orders.Task.TheVariants.{Explore, Replay}
 
 -- to replay the schedule of this text
 abbrev pub IsReplayOf : List ℕ → Task → Type 0

@@ -4,8 +4,8 @@ ghost use Rattle.std.specs.Prelude.{◌≡◌, ◌≢◌, IfErr, IfOk, List};
 ghost use Rattle.regmodel.specs.declared.letters.Letter.{Letter};
 ghost use Rattle.regmodel.specs.Prefixes.{FitsPrefix};
 ghost use Rattle.regmodel.specs.ScheduleText.{schedule_text};
-ghost use Rattle.regtry.specs.Orders.{IsExploration, IsReplayOf};
-ghost use Rattle.regtry.specs.Statuses.{status_of};
+ghost use Rattle.cli.specs.Orders.{IsExploration, IsReplayOf};
+ghost use Rattle.cli.specs.Statuses.{status_of};
 
 use crate::refusals::{Refusal, refuse};
 use clap::{Arg, ArgAction, ArgMatches, Command, Error, value_parser};
@@ -78,7 +78,7 @@ pub enum Task {
 }
 
 impl Task {
-    ghost use Rattle.regtry.specs.Orders.{is_native, workers_of};
+    ghost use Rattle.cli.specs.Orders.{is_native, workers_of};
 
     /// How many workers do it: a replay has one.
     pub fn workers(&self) -> u32
