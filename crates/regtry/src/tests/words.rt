@@ -120,6 +120,9 @@ const NOT_TEXT: [&[&[u8]]; 3] = [
     &[b"regtry", b"\xf0\x9f", b"FILE", b"R0"],
 ];
 
+/// A command line of text.
+const TEXT: &[&[u8]] = &[b"regtry", b"replay", b"FILE", b"."];
+
 #[test]
 fn a_word_that_is_not_text_is_refused(rt: HostRuntime) {
     for words in NOT_TEXT {
@@ -136,11 +139,10 @@ fn a_word_that_is_not_text_is_refused(rt: HostRuntime) {
 
 #[test]
 fn words_of_text_are_taken_in_their_order(rt: HostRuntime) {
-    let words = &[b"regtry".as_slice(), b"replay", b"FILE", b"."];
     let mut out = Vec::new(rt.alloc());
     let mut err = Vec::new(rt.alloc());
-    let words = words_of(&(Line { words }, rt.alloc()));
-    let open = |path: &str| if path == "FILE" { Some(HALTS) } else { None };
+    let words = words_of(&(Line { words: TEXT }, rt.alloc()));
+    let open = |_path: &str| Some(HALTS);
     let status = perform(&rt, rt.alloc(), words, open, &mut out, &mut err);
     assert_eq!(rt; status, 0);
     assert_eq!(rt;
