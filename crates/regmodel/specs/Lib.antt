@@ -14,6 +14,8 @@ pub mod Letters
 pub mod Limits
 pub mod Judging
 pub mod JudgingExamples
+pub mod KeyExamples
+pub mod Keys
 pub mod OfProg
 pub mod Outcomes
 pub mod PlainReport
