@@ -2,11 +2,13 @@
 #![tactic(auto)]
 
 mod blocks;
+mod least;
 mod reports;
 mod writing;
 
+pub use least::Least;
 pub use reports::Report;
-pub use writing::{WriteFault, write_report, write_standing};
+pub use writing::{WriteFault, write_least, write_report, write_standing};
 
 #[cfg(test)]
 mod tests;
