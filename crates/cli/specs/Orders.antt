@@ -2,23 +2,28 @@
 use Rattle.std.specs.Prelude.{◌≡◌, ℕ, Bool, false, List}
 use Rattle.regmodel.specs.ScheduleText.{schedule_text}
 use Rattle.cli.specs.declared.orders.Task.{Task}
-use Rattle.cli.specs.declared.orders.Task.TheVariants.{Explore, Replay}
+use Rattle.cli.specs.declared.orders.Task.TheVariants.{Explore, Least, Replay}
 
 -- to replay the schedule of this text
 abbrev pub IsReplayOf : List ℕ → Task → Type 0
 IsReplayOf text (Explore settings native) = ⊥
+IsReplayOf text (Least settings native) = ⊥
 IsReplayOf text (Replay schedule) = schedule_text schedule ≡ text
 
+-- to explore, for a report or for the least failing schedule alone
 abbrev pub IsExploration : Task → Type 0
 IsExploration (Explore settings native) = Unit {0}
+IsExploration (Least settings native) = Unit {0}
 IsExploration (Replay schedule) = ⊥
 
 -- whether use lines run as native machines
 abbrev pub is_native : Task → Bool
 is_native (Explore settings native) = native
+is_native (Least settings native) = native
 is_native (Replay schedule) = false
 
 -- how many workers do it
 abbrev pub workers_of : Task → ℕ
 workers_of (Explore settings native) = settings.workers
+workers_of (Least settings native) = settings.workers
 workers_of (Replay schedule) = 1

@@ -2,7 +2,7 @@
 
 ghost use Rattle.std.specs.Prelude.{◌≡◌, ◌≤◌, ◌⊎◌, All, IfErr, IfOk, IsNone, None, OnErr, OnOk, if◌then◌else◌, length, map, option_and_then};
 ghost use Rattle.regmodel.specs.Judging.{meets_all};
-ghost use Rattle.regmodel.specs.PlainReport.{IsPlainReport};
+ghost use Rattle.regmodel.specs.PlainReport.{IsPlainLeast, IsPlainReport};
 ghost use Rattle.regmodel.specs.Reduced.{reduced_schedules};
 ghost use Rattle.reglang.specs.Sources.{contents_of, source_programs};
 ghost use Rattle.report.specs.Appending.{Writes, write_fault_of};
@@ -12,7 +12,9 @@ use crate::machines::machine_of;
 use crate::orders::{Order, Task};
 use crate::refusals::{Refusal, refuse};
 use crate::standings::{Standing, standing_after};
-use explorer::{NoGate, Report, WriteFault, run, write_report, write_standing};
+use explorer::{
+    Least, NoGate, Report, WriteFault, run, run_least, write_least, write_report, write_standing,
+};
 use machine::Machine;
 use reglang::{Source, read_source};
 use regmodel::Settings;
@@ -30,6 +32,8 @@ pub const MOST_BYTES: u64 = 1048576;
 enum Finding {
     /// The report of an exploration.
     Report(Report),
+    /// The least failing schedule alone.
+    Least(Least),
     /// Where a schedule leads.
     Standing(Standing),
 }
@@ -41,6 +45,7 @@ impl Finding {
     {
         match self {
             Finding::Report(report) => report.least().is_some(),
+            Finding::Least(least) => least.least().is_some(),
             Finding::Standing(_) => false,
         }
     }
@@ -51,6 +56,7 @@ impl Finding {
     {
         match self {
             Finding::Report(report) => write_report(report, out),
+            Finding::Least(least) => write_least(least, out),
             Finding::Standing(standing) => {
                 write_standing(&standing.outcome, standing.registers.as_slice(), out)
             }
@@ -163,6 +169,12 @@ fn found<H: Threads + Wait + Sync>(
                 Err(code) => Err(Refusal::Run(code)),
             }
         }
+        Task::Least { settings, .. } => {
+            match least_of(rt, alloc, &source, *settings, lists) {
+                Ok(least) => Ok(Finding::Least(least)),
+                Err(code) => Err(Refusal::Run(code)),
+            }
+        }
         Task::Replay { schedule } => {
             let Some(machines) = lists.pop() else {
                 unreachable!()
@@ -199,6 +211,27 @@ fn report_of<H: Threads + Wait + Sync>(
         &NoGate,
     ) {
         Ok(report) => Ok(report),
+        Err(fault) => Err(fault.code),
+    }
+}
+
+/// The least failing schedule of a source, by a list of its machines for each worker; or the code of the fault where nothing is known
+/// of it.
+fn least_of<H: Threads + Wait + Sync>(
+    rt: &H,
+    alloc: Global,
+    source: &Source,
+    settings: Settings,
+    lists: Vec<Vec<Box<dyn Machine + Send>>>,
+) -> Result<Least, u8>
+    requires lists { length lists.items ≡ settings.workers }
+    requires machines { All (λ list. map program list.items ≡ source_programs source.now) lists.items }
+    ensures least { IfOk result (λ l. IsPlainLeast (source_programs source.now) settings.length settings.crashes (meets_all (contents_of source.now).clauses) l) }
+    ensures code { IfErr result IsRunFault }
+{
+    let judge = source.clauses();
+    match run_least(rt, alloc, source, settings, lists, judge, &NoGate) {
+        Ok(least) => Ok(least),
         Err(fault) => Err(fault.code),
     }
 }

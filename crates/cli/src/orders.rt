@@ -73,6 +73,8 @@ Statuses:
 pub enum Task {
     /// Explore it this far, with native machines for use lines or with interpreters alone.
     Explore { settings: Settings, native: bool },
+    /// Look for its least failing schedule alone, as far and with the same machines.
+    Least { settings: Settings, native: bool },
     /// Replay this schedule.
     Replay { schedule: Prefix },
 }
@@ -86,6 +88,7 @@ impl Task {
     {
         match self {
             Task::Explore { settings, .. } => settings.workers(),
+            Task::Least { settings, .. } => settings.workers(),
             Task::Replay { .. } => 1,
         }
     }
@@ -96,6 +99,7 @@ impl Task {
     {
         match self {
             Task::Explore { native, .. } => *native,
+            Task::Least { native, .. } => *native,
             Task::Replay { .. } => false,
         }
     }
@@ -168,6 +172,12 @@ fn explore<'a>(alloc: Global) -> Result<Command<'a>, AllocError> {
         .long("text")
         .action(ArgAction::SetTrue)
         .help("Interpret the processes with a `use` line, too, which else run as native machines");
+    let least = Arg::new(alloc, "least")
+        .long("least")
+        .action(ArgAction::SetTrue)
+        .help(
+            "Look for the least failing schedule alone: no outcomes are printed, and what can hold no lower one is left out",
+        );
     let mut command = Command::new(alloc, "explore")
         .about("Explores all schedules of a source and prints a report of the outcomes.")
         .after_help(STATUSES)
@@ -175,7 +185,7 @@ fn explore<'a>(alloc: Global) -> Result<Command<'a>, AllocError> {
     for (name, value, help) in SETTINGS {
         command = command.arg(number(alloc, name, value, help))?;
     }
-    command.arg(text)
+    command.arg(text)?.arg(least)
 }
 
 /// The words of `replay`.
@@ -239,11 +249,10 @@ fn exploration_of(words: &ArgMatches<'_>) -> Result<Task, Refusal>
         number_of(words, "cut"),
         number_of(words, "room"),
     );
+    let native = !words.get_flag("text");
     match settings {
-        Ok(settings) => Ok(Task::Explore {
-            settings,
-            native: !words.get_flag("text"),
-        }),
+        Ok(settings) if words.get_flag("least") => Ok(Task::Least { settings, native }),
+        Ok(settings) => Ok(Task::Explore { settings, native }),
         Err(fault) => Err(Refusal::Setting(fault.code)),
     }
 }

@@ -3,6 +3,7 @@
 mod asking;
 mod examples;
 mod files;
+mod least;
 mod native_machines;
 mod replays;
 mod reports;

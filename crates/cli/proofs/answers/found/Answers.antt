@@ -34,6 +34,10 @@ pub returns-in-Explore-clause-refused : goal.returns-in-Explore-clause-refused
 returns-in-Explore-clause-refused g c =
     rw c.in-Explore.is (record { source = contents_of c.in-Ok.source; spelled = c.in-Ok.ensures.spelled; fault = c.in-Err-report_of.ensures.code })
 
+pub returns-in-Least-clause-refused : goal.returns-in-Least-clause-refused
+returns-in-Least-clause-refused g c =
+    rw c.in-Least.is (record { source = contents_of c.in-Ok.source; spelled = c.in-Ok.ensures.spelled; fault = c.in-Err-least_of.ensures.code })
+
 -- what all elements have, the last one has
 last_has : {X : Type 0} (P : X → Type 0) (x : X) (xs ys : List X) → ys ≡ xs ++ x ∷ [] → All P ys → P x
 last_has P x xs ys e h = All-contains P ys x h (subst (λ zs. Contains zs x) (sym e) (Contains-append_right xs (x ∷ []) x (0, omega arith, refl)))

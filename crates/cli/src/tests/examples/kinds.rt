@@ -77,7 +77,7 @@ check ended
 ];
 
 /// The status of each command line, and what it prints.
-const RUNS: [(u8, &str); 6] = [
+const RUNS: [(u8, &str); 7] = [
     (
         0,
         "$ ./regtry explore examples/splitter.reg --length 8 --crashes 0 --workers 1 --cut 0 --room 0
@@ -106,6 +106,16 @@ outcomes 3
 outcome done 1; done 1
 outcome done 1; done 3
 outcome done 3; done 1
+least R0 R0 R1 R1
+fails done 1; done 1
+",
+    ),
+    (
+        1,
+        "$ ./regtry explore examples/splitter_without_door.reg --least --length 4 --crashes 0 --workers 2 --cut 3 --room 64
+processes 2
+length 4
+crashes 0
 least R0 R0 R1 R1
 fails done 1; done 1
 ",
