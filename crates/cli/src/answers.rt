@@ -1,12 +1,12 @@
 //! Does what was asked, and gives the status.
 
-ghost use Rattle.std.specs.Prelude.{◌≡◌, ◌≤◌, All, IfErr, IfOk, IfSome, IsNone, if◌then◌else◌, length, map, option_and_then};
+ghost use Rattle.std.specs.Prelude.{◌≡◌, ◌≤◌, ◌⊎◌, All, IfErr, IfOk, IsNone, None, OnErr, OnOk, if◌then◌else◌, length, map, option_and_then};
 ghost use Rattle.regmodel.specs.Judging.{meets_all};
 ghost use Rattle.regmodel.specs.PlainReport.{IsPlainReport};
+ghost use Rattle.regmodel.specs.Reduced.{reduced_schedules};
 ghost use Rattle.reglang.specs.Sources.{contents_of, source_programs};
 ghost use Rattle.report.specs.Appending.{Writes, write_fault_of};
-ghost use Rattle.cli.specs.Findings.{IsAnswered, IsFoundBy, IsRefusedBy, IsRunFault, finding_text, has_failing};
-ghost use Rattle.cli.specs.Statuses.{status_of};
+ghost use Rattle.cli.specs.Findings.{HasBeginning, IsAnswered, IsCutShort, IsFoundBy, IsRefusal, IsRefusedBy, IsRefusedWith, IsRunFault, IsTextOf, finding_text, has_failing};
 
 use crate::machines::machine_of;
 use crate::orders::{Order, Task};
@@ -23,7 +23,7 @@ use std::sync::Wait;
 use std::thread::Threads;
 
 /// The most bytes of a source.
-const MOST_BYTES: u64 = 1048576;
+pub const MOST_BYTES: u64 = 1048576;
 
 /// What was found of a source.
 #[derive(Debug, Drop)]
@@ -59,8 +59,9 @@ impl Finding {
 }
 
 /// Does what the order asks of the source in the file, and writes what it found. The status is 0 where that is done, but 1
-/// where an explored schedule fails; 2 where the file, the source or a letter is refused, and then `out` is as before; 3 where it
-/// could not be done. At 2 and 3 a line on `err` says why. `file` is None where it could not be opened.
+/// where an explored schedule fails; 2 where the file, the source or a letter is refused; 3 where it could not be done. At 2 and 3 a line
+/// on `err` says why, and `out` is as before, unless it did not take the whole text: then it took a beginning of it, and the status is 3.
+/// `file` is None where it could not be opened.
 pub fn answer<H: Threads + Wait + Sync, R: Read + Drop, W: Write, E: Write>(
     rt: &H,
     alloc: Global,
@@ -72,7 +73,9 @@ pub fn answer<H: Threads + Wait + Sync, R: Read + Drop, W: Write, E: Write>(
     ensures no_file { IsNone file → result ≡ 2 }
     ensures status { result ≤ 3 }
     ensures answered { result ≤ 1 → IsAnswered order.now.task (option_and_then R.remaining file) (W.contents out.old) (W.contents out.new) result }
+    ensures refused { 2 ≤ result → IsRefusedWith W.contents order.now.task (option_and_then R.remaining file) out.old out.new result }
     ensures silent { result ≡ 2 → out.new ≡ out.old }
+    ensures cut_short { result ≡ 3 → (out.new ≡ out.old) ⊎ IsCutShort order.now.task (option_and_then R.remaining file) (W.contents out.old) (W.contents out.new) }
 {
     match written(rt, alloc, order.task(), file, out) {
         Ok(fails) => u8::from(fails),
@@ -90,22 +93,36 @@ fn written<H: Threads + Wait + Sync, R: Read + Drop, W: Write>(
 ) -> Result<bool, Refusal>
     ensures no_file { IsNone file → result ≡ Err Refusal.File }
     ensures answered { IfOk result (λ fails. IsAnswered task.now (option_and_then R.remaining file) (W.contents out.old) (W.contents out.new) (if fails then 1 else 0)) }
-    ensures silent { IfErr result (λ refusal. status_of refusal ≡ 2 → out.new ≡ out.old) }
+    ensures refused { IfErr result (IsRefusal W.contents task.now (option_and_then R.remaining file) out.old out.new) }
 {
     let Some(file) = file else {
         return Err(Refusal::File);
     };
     let text = bytes_of(alloc, file)?;
     let finding = found(rt, alloc, task, text.as_slice())?;
-    if finding.write(out).is_err() || out.flush().is_err() {
+    tell(&finding, out)?;
+    Ok(finding.fails())
+}
+
+/// Writes what was found, and has the writer pass it on.
+fn tell<W: Write>(finding: &Finding, out: &mut W) -> Result<(), Refusal>
+    ensures whole { OnOk result (Writes (W.contents out.old) (W.contents out.new) (finding_text finding.now) None) }
+    ensures begun { OnErr result (HasBeginning (W.contents out.old) (W.contents out.new) (finding_text finding.now)) }
+    ensures err { IfErr result (λ refusal. refusal ≡ Refusal.Write) }
+{
+    if finding.write(out).is_err() {
         return Err(Refusal::Write);
     }
-    Ok(finding.fails())
+    if out.flush().is_err() {
+        return Err(Refusal::Write);
+    }
+    Ok(())
 }
 
 /// All bytes of a file, where they are not too many.
 fn bytes_of<R: Read + Drop>(alloc: Global, file: R) -> Result<Vec<u8>, Refusal>
-    ensures { IfOk result (λ bytes. IfSome (R.remaining file) (λ known. bytes.items ≡ known)) }
+    ensures text { IfOk result (λ bytes. IsTextOf (R.remaining file) bytes.items) }
+    ensures err { IfErr result (λ refusal. (refusal ≡ Refusal.File) ⊎ (refusal ≡ Refusal.Memory)) }
 {
     let mut bytes = Vec::new(alloc);
     match file.take(MOST_BYTES + 1).read_to_end(&mut bytes) {
@@ -169,6 +186,7 @@ fn report_of<H: Threads + Wait + Sync>(
     requires lists { length lists.items ≡ settings.workers }
     requires machines { All (λ list. map program list.items ≡ source_programs source.now) lists.items }
     ensures report { IfOk result (λ r. IsPlainReport (source_programs source.now) settings.length settings.crashes (meets_all (contents_of source.now).clauses) r) }
+    ensures tried { IfOk result (λ r. r.tried ≡ length (reduced_schedules (source_programs source.now) settings.crashes settings.length)) }
     ensures code { IfErr result IsRunFault }
 {
     match run(

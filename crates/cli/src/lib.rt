@@ -4,11 +4,13 @@
 mod answers;
 mod machines;
 mod orders;
+mod performing;
 mod refusals;
 mod standings;
 
 pub use answers::answer;
 pub use orders::{Order, Task, command};
+pub use performing::{perform, words_of};
 pub use refusals::{Refusal, refuse};
 
 #[cfg(test)]

@@ -12,6 +12,9 @@ use thiserror::Error;
 /// What is refused, in one line.
 #[derive(Debug, Drop, Error)]
 pub enum Refusal {
+    /// A word of the command line that is not UTF-8.
+    #[error("a word is not UTF-8")]
+    Words,
     /// A setting past its limit, by its number.
     #[error("setting {0}")]
     Setting(u8),
@@ -44,7 +47,8 @@ impl Refusal {
         ensures { result ≡ status_of self.now }
     {
         match self {
-            Refusal::Setting(_)
+            Refusal::Words
+            | Refusal::Setting(_)
             | Refusal::Schedule
             | Refusal::File
             | Refusal::Source(_)

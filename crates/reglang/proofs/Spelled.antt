@@ -1,6 +1,6 @@
 -- Reading by whole values answers just the source that a text spells, or its first fault.
 use Rattle.std.proofs.Common.{◌≡◌, ◌≢◌, ℕ, suc, ◌+◌, List, [], ◌∷◌, ◌++◌, length, Option, Some, None, Result, Ok, Err, refl, ap, sym, subst, ◌∙◌, arith}
-use Rattle.std.specs.Prelude.{max, IsOk}
+use Rattle.std.specs.Prelude.{◌≤◌, IfSome, max, IsOk}
 use Rattle.std.specs.List.{AllByRecursion}
 use Rattle.std.proofs.lemmas.Bool.{lt-ltb}
 use Rattle.std.proofs.lemmas.List.Elements.{All-from_recursion, recursion_from_All}
@@ -95,3 +95,42 @@ left_refused text rest line after reading n refusal.Memory fault h c e told othe
 
 pub left_ended : (text rest : List ℕ) (reading : Reading) (n : ℕ) (result : Result Contents ℕ) → IsLeft text reading n rest → lines rest ≡ [] → contents_at_end reading ≡ result → read_from Empty 0 (lines text) ≡ faulty_at (max 1 n) result
 left_ended text rest reading n result h none e = h.same ∙ (ap (read_from reading n) none ∙ ap (faulty_at (max 1 n)) e)
+
+-- ---- no line that was taken has a fault
+
+-- what is told of the fault of a line, and of the lines after it, where they are read on
+fault_on : (n : ℕ) (result : Result Reading ℕ) (more : Reading → Result Contents ReadFault) (fault : ReadFault) → ((next : Reading) → more next ≡ Err fault → suc n ≤ fault.line) → goes_on (faulty_at (suc n) result) more ≡ Err fault → suc n ≤ fault.line
+fault_on n (Ok next) more fault later h = later next h
+fault_on n (Err code) more fault later h = let same : record { line = suc n; code = code } ≡ fault = cc in let number = ap (λ f. f.line) same in omega arith
+
+-- the fault of the end, where there is one
+fault_at_end : (n : ℕ) (result : Result Contents ℕ) (fault : ReadFault) → faulty_at (max 1 n) result ≡ Err fault → n ≤ fault.line
+fault_at_end n (Ok source) fault h = absurd cc
+fault_at_end n (Err code) fault h = let same : record { line = max 1 n; code = code } ≡ fault = cc in let number = ap (λ f. f.line) same in omega arith
+
+-- after so many lines the fault is on none of them, unless at the end on the last one
+fault_after : (reading : Reading) (n : ℕ) (rest : List (List ℕ)) (fault : ReadFault) → read_from reading n rest ≡ Err fault → n ≤ fault.line
+fault_after reading n [] fault h = fault_at_end n (contents_at_end reading) fault h
+fault_after reading n (l ∷ rest) fault h =
+    let later = fault_on n (take_if_said reading (read_line l)) (λ next. read_from next (suc n) rest) fault (λ next e. fault_after next (suc n) rest fault e) h in
+    omega arith
+
+-- how a text is read tells its first fault
+first_told : (m : ℕ) (result : Result Contents ReadFault) (first : Option ReadFault) → Agrees result first → ((fault : ReadFault) → result ≡ Err fault → m ≤ fault.line) → IfSome first (λ f. m ≤ f.line)
+first_told m result None agrees later = tt
+first_told m (Ok source) (Some f) agrees later = absurd cc
+first_told m (Err e) (Some f) agrees later = later f (let same : Some f ≡ Some e = agrees in cc)
+
+-- the first fault is not before the line that is read now
+pub no_fault_before : (text rest line after : List ℕ) (reading : Reading) (n : ℕ) → IsLeft text reading n rest → IsCut rest line after → IfSome (first_fault text) (λ f. n + 1 ≤ f.line)
+no_fault_before text rest line after reading n h c =
+    first_told (n + 1) (read_from Empty 0 (lines text)) (first_fault text) (read_agrees text)
+    (λ fault e.
+    let read = sym (h.same ∙ ap (read_from reading n) c.cut) ∙ e in
+    let later = fault_on n (take_if_said reading (read_line line)) (λ next. read_from next (suc n) (lines after)) fault (λ next k. fault_after next (suc n) (lines after) fault k) read in
+    omega arith)
+
+-- the line of a refusal, whatever its code
+pub line_refused : (number : ℕ) (refusal : LineRefusal) (fault : ReadFault) → IsFaultOf number refusal fault → fault.line ≡ number
+line_refused number (refusal.Fault code) fault told = ap (λ f. f.line) told
+line_refused number refusal.Memory fault told = ap (λ f. f.line) told

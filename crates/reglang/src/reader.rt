@@ -1,6 +1,6 @@
 //! The reader of texts.
 
-ghost use Rattle.std.specs.Prelude.{◌≡◌, ◌≢◌, ◌<◌, ◌≤◌, IfErr, IfOk, length, max, Some};
+ghost use Rattle.std.specs.Prelude.{◌≡◌, ◌≢◌, ◌<◌, ◌≤◌, IfErr, IfOk, IfSome, length, max, Some};
 ghost use Rattle.reglang.specs.Contents.{Contents};
 ghost use Rattle.reglang.specs.Drafts.{Answers, IsFaultOf, ReadingFits, reading_of, take_if_said};
 ghost use Rattle.reglang.specs.Faults.{first_fault};
@@ -30,11 +30,12 @@ pub struct ReadFault {
 }
 
 /// Reads the source of a text, in one pass. A refused text has the code of its first fault, 1 to 8, and its line; code 9 is
-/// answered only where a request for memory was refused, with the line then being read.
+/// answered only where a request for memory was refused, with the line then being read, and no line before it has a fault.
 pub fn read_source(alloc: Global, text: &[u8]) -> Result<Source, ReadFault>
     ensures spelled { IfOk result (λ source. Spells text.now (contents_of source)) }
     ensures first_fault { IfErr result (λ fault. fault.code ≢ 9 → first_fault text.now ≡ Some fault) }
     ensures not_spelled { IfErr result (λ fault. fault.code ≢ 9 → (source : Contents) → Spells text.now source → ⊥) }
+    ensures no_fault_before { IfErr result (λ fault. IfSome (first_fault text.now) (λ first. fault.line ≤ first.line)) }
     ensures first_line { IfErr result (λ fault. 0 < fault.line) }
     ensures last_line { IfErr result (λ fault. fault.line ≤ max 1 (length (lines text.now))) }
 {

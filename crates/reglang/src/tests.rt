@@ -1,4 +1,4 @@
-use crate::{ReadFault, Source, Use, expand, read_source};
+use crate::{ReadFault, Source, Use, expand, read_source, write_source};
 use regmodel::{Clause, Expr, Operand, Prog, Stmt};
 use std::alloc::Global;
 use std::io::Write;
@@ -158,6 +158,18 @@ fn reads_every_line(rt: HostRuntime) -> Result<(), Fail> {
             assert_eq!(rt; second.len(), 1);
         }
         _ => return Err(Fail::from("no if")),
+    }
+    Ok(())
+}
+
+#[test]
+fn a_source_is_written_or_nothing_where_memory_is_refused(rt: HostRuntime) -> Result<(), Fail> {
+    let source = read_source(rt.alloc(), EVERY_LINE).ok().ok_or("refused")?;
+    let mut out = Vec::new(rt.alloc());
+    out.extend_from_slice(b"before")?;
+    match write_source(&source, &mut out) {
+        Ok(()) => assert!(rt; out.as_slice().starts_with(b"beforeregisters 64\n")),
+        Err(_) => assert_eq!(rt; out.as_slice(), b"before".as_slice()),
     }
     Ok(())
 }

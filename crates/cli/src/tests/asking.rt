@@ -1,7 +1,8 @@
 //! How a test asks the program: by words and a file in memory.
 
-use crate::answers::answer;
 use crate::orders::command;
+use crate::performing::perform;
+use crate::refusals::Refusal;
 use std::alloc::Global;
 use std::io::{Read, Write};
 use std::sync::Wait;
@@ -44,6 +45,15 @@ pub fn asked<H: Threads + Wait + Sync + AllocGlobal, R: Read + Drop>(
     Reply { status, out, err }
 }
 
+/// The list of these words.
+fn list_of<'a>(alloc: Global, words: &[&'a str]) -> Result<Vec<&'a str>, Refusal> {
+    let mut list = Vec::new(alloc);
+    for word in words {
+        list.push(*word)?;
+    }
+    Ok(list)
+}
+
 /// The status of words on a file, where standard output and standard error are these.
 pub fn asked_to_write<H: Threads + Wait + Sync + AllocGlobal, R: Read + Drop, W: Write, E: Write>(
     rt: &H,
@@ -52,10 +62,8 @@ pub fn asked_to_write<H: Threads + Wait + Sync + AllocGlobal, R: Read + Drop, W:
     out: &mut W,
     err: &mut E,
 ) -> u8 {
-    match command(rt.alloc(), words, err) {
-        Ok(order) => answer(rt, rt.alloc(), &order, file, out, err),
-        Err(status) => status,
-    }
+    let words = list_of(rt.alloc(), words);
+    perform(rt, rt.alloc(), words, |_path: &str| file, out, err)
 }
 
 /// The status of words that are refused, 0 of others, and what is printed of them.

@@ -1,6 +1,11 @@
 //! Words of the command line that are refused.
 
 use super::asking::{WORDS, file_named_in, refused};
+use super::sources::HALTS;
+use crate::orders::{Task, command};
+use crate::performing::{perform, words_of};
+use std::env::{Env, FillError};
+use std::test::Fail;
 
 /// 65 letters; without its first three bytes, 64.
 pub const LONG: &str =
@@ -79,4 +84,105 @@ fn the_file_is_the_one_that_words_name(rt: HostRuntime) {
     ] {
         assert_eq!(rt; file_named_in(rt.alloc(), words), Some("FILE"));
     }
+}
+
+/// A command line of these words.
+#[derive(Drop)]
+struct Line {
+    words: &'static [&'static [u8]],
+}
+
+impl Env for Line {
+    fn arg(&self, i: usize, buf: &mut [u8]) -> Result<usize, FillError> {
+        let Some(word) = self.words.get(i) else {
+            return Err(FillError::NotPresent);
+        };
+        if word.len() > buf.len() {
+            return Err(FillError::TooLong);
+        }
+        buf[..word.len()].copy_from_slice(word);
+        Ok(word.len())
+    }
+
+    fn var(&self, _name: &str, _buf: &mut [u8]) -> Result<usize, FillError> {
+        Err(FillError::NotPresent)
+    }
+
+    fn var_at(&self, _i: usize, _buf: &mut [u8]) -> Result<usize, FillError> {
+        Err(FillError::NotPresent)
+    }
+}
+
+/// Command lines with a word that is not UTF-8.
+const NOT_TEXT: [&[&[u8]]; 3] = [
+    &[b"regtry", b"replay", b"FILE", b"R0\xff"],
+    &[b"regtry", b"replay", b"\xc3\x28", b"R0"],
+    &[b"regtry", b"\xf0\x9f", b"FILE", b"R0"],
+];
+
+/// A command line of text.
+const TEXT: &[&[u8]] = &[b"regtry", b"replay", b"FILE", b"."];
+
+#[test]
+fn a_word_that_is_not_text_is_refused(rt: HostRuntime) {
+    for words in NOT_TEXT {
+        let mut out = Vec::new(rt.alloc());
+        let mut err = Vec::new(rt.alloc());
+        let words = words_of(&(Line { words }, rt.alloc()));
+        let open = |_path: &str| Some(HALTS);
+        let status = perform(&rt, rt.alloc(), words, open, &mut out, &mut err);
+        assert_eq!(rt; status, 2);
+        assert!(rt; out.is_empty());
+        assert_eq!(rt; err.as_slice(), b"regtry: a word is not UTF-8\n".as_slice());
+    }
+}
+
+#[test]
+fn words_of_text_are_taken_in_their_order(rt: HostRuntime) {
+    let mut out = Vec::new(rt.alloc());
+    let mut err = Vec::new(rt.alloc());
+    let words = words_of(&(Line { words: TEXT }, rt.alloc()));
+    let open = |_path: &str| Some(HALTS);
+    let status = perform(&rt, rt.alloc(), words, open, &mut out, &mut err);
+    assert_eq!(rt; status, 0);
+    assert_eq!(rt;
+        out.as_slice(),
+        b"outcome done idle\nregisters 0\n".as_slice()
+    );
+}
+
+#[test]
+fn each_option_says_its_own_setting(rt: HostRuntime) -> Result<(), Fail> {
+    let words = [
+        "regtry",
+        "explore",
+        "FILE",
+        "--crashes",
+        "1",
+        "--length",
+        "5",
+        "--room",
+        "16",
+        "--workers",
+        "2",
+        "--cut",
+        "3",
+        "--text",
+    ];
+    for (words, interpreted) in [(words.as_slice(), true), (&words[..13], false)] {
+        let mut err = Vec::new(rt.alloc());
+        let order = command(rt.alloc(), words, &mut err)
+            .ok()
+            .ok_or("refused words")?;
+        let Task::Explore { settings, native } = order.task() else {
+            return Err(Fail::from("no exploration"));
+        };
+        assert_eq!(rt; settings.length(), 5);
+        assert_eq!(rt; settings.crashes(), 1);
+        assert_eq!(rt; settings.workers(), 2);
+        assert_eq!(rt; settings.cut(), 3);
+        assert_eq!(rt; settings.room(), 16);
+        assert_eq!(rt; *native, !interpreted);
+    }
+    Ok(())
 }

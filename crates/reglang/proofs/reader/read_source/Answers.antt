@@ -1,6 +1,6 @@
 use Rattle.std.proofs.Common.{◌≡◌, Err, length, max, ◌∙◌, ap, arith}
 use Rattle.reglang.proofs.Fits.{read_on_fits}
-use Rattle.reglang.proofs.Spelled.{IsCut, left_next, left_refused, left_ended, read_spells, read_fails}
+use Rattle.reglang.proofs.Spelled.{IsCut, left_next, left_refused, left_ended, line_refused, no_fault_before, read_spells, read_fails}
 use Rattle.reglang.proofs.reader.read_source.Goals as goal
 
 pub returns-in-Err-clause-first_fault : goal.returns-in-Err-clause-first_fault
@@ -39,3 +39,13 @@ returns-in-Err-finish-clause-first_fault c = λ other.
 pub returns-in-Err-finish-clause-not_spelled : goal.returns-in-Err-finish-clause-not_spelled
 returns-in-Err-finish-clause-not_spelled c = λ other.
     (read_fails c.args.text.now _ (left_ended _ _ _ _ _ c.loop-bytes.invariant.left c.in_default.ensures c.in-Err-finish.ensures)).1
+
+pub returns-in-Err-clause-no_fault_before : goal.returns-in-Err-clause-no_fault_before
+returns-in-Err-clause-no_fault_before c =
+    let cut : IsCut c.loop-bytes.rest.now c.in-Some.bytes.now c.in-Some.after.now = record { cut = c.in-Some.ensures.0 } in
+    rw (line_refused _ c.in-Err.refusal _ c.fault.ensures) (no_fault_before c.args.text.now _ _ _ _ _ c.loop-bytes.invariant.left cut)
+
+pub returns-in-Err-finish-clause-no_fault_before : goal.returns-in-Err-finish-clause-no_fault_before
+returns-in-Err-finish-clause-no_fault_before c =
+    let number : max 1 c.loop-bytes.line ≡ c.max.result = omega (arith, c.max.ensures) in
+    rw (read_fails c.args.text.now _ (left_ended _ _ _ _ _ c.loop-bytes.invariant.left c.in_default.ensures c.in-Err-finish.ensures ∙ ap (λ n. Err (record { line = n; code = c.in-Err-finish.code })) number)).0 (omega arith)

@@ -1,0 +1,16 @@
+use Rattle.std.proofs.Common.{◌⊎◌, inl, inr, refl}
+use Rattle.cli.proofs.performing.perform.Goals as goal
+
+pub returns-clause-answered : goal.returns-clause-answered
+returns-clause-answered g c = λ low.
+    (c.in-Ok-command.order.task, c.path.result.now, c.opener-file.result, (c.path.result, c.opener-file.ensures, refl), c.answer.ensures.answered low)
+
+-- either stays, the second one with more told of it
+or_told : {A B C : Type 0} → (B → C) → A ⊎ B → A ⊎ C
+or_told tell (inl a) = inl a
+or_told tell (inr b) = inr (tell b)
+
+pub returns-clause-cut_short : goal.returns-clause-cut_short
+returns-clause-cut_short g c = λ high.
+    or_told (λ cut. (c.in-Ok-command.order.task, c.path.result.now, c.opener-file.result, (c.path.result, c.opener-file.ensures, refl), cut))
+    (c.answer.ensures.cut_short high)
