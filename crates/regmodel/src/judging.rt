@@ -139,7 +139,7 @@ fn some_faulty(ends: &[ProcEnd]) -> bool
 fn meets(clause: &Clause, outcome: &Outcome) -> bool
     ensures { result ≡ meets clause.now outcome.now }
 {
-    let ends = outcome.few_ends();
+    let ends = outcome.ends();
     match *clause {
         Clause::Distinct => are_different(ends),
         Clause::AtMost(name, count) => count_of(ends, name) <= count as usize,

@@ -55,9 +55,10 @@ impl Outcome {
         Outcome { ends }
     }
 
-    /// How each process stands.
+    /// How each process stands; at most 8.
     pub fn ends(&self) -> &[ProcEnd]
-        ensures { result.now ≡ self.now }
+        ensures value { result.now ≡ self.now }
+        ensures few { length result.now ≤ MOST_PROCESSES }
     {
         self.ends.as_slice()
     }
@@ -67,14 +68,6 @@ impl Outcome {
         ensures { result ≡ self.now }
     {
         self.clone().unwrap()
-    }
-
-    /// How each process stands; at most 8.
-    pub(crate) fn few_ends(&self) -> &[ProcEnd]
-        ensures value { result.now ≡ self.now }
-        ensures few { length result.now ≤ MOST_PROCESSES }
-    {
-        self.ends.as_slice()
     }
 }
 
