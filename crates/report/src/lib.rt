@@ -6,6 +6,7 @@ mod least;
 mod reports;
 mod writing;
 
+pub use blocks::{BLOCK_BYTES, Block};
 pub use least::Least;
 pub use reports::Report;
 pub use writing::{WriteFault, write_least, write_report, write_standing};

@@ -1,0 +1,3 @@
+mod Growing
+mod Rows
+mod Wanted
