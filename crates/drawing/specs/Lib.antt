@@ -1,2 +1,5 @@
+pub mod Cells
+pub mod DrawingText
+pub mod Layout
 pub mod Pictures
 pub mod Registers
