@@ -1,19 +1,23 @@
 -- What is wrong with a source that is refused, in words.
-use Rattle.std.specs.Prelude.{ℕ, List, [], ◌++◌, Option, Some, None, is_some, codes, decimal}
+use Rattle.std.specs.Prelude.{ℕ, true, false, List, ◌++◌, Option, Some, None, codes, decimal}
 use Rattle.reglang.specs.Checks.{line_at}
 use Rattle.reglang.specs.Explanations.{change_text, wrong_text}
 use Rattle.reglang.specs.Misfits.{word_at_fault}
 use Rattle.reglang.specs.declared.reader.ReadFault.{ReadFault}
 use Rattle.verdict.specs.Shown.{printable_text, shown}
 
--- the word at fault, where there is one
-abbrev pub word_text : Option (List ℕ) → List ℕ
-word_text (Some word) = codes ": " ++ word
-word_text None = []
+-- what is wrong with a line of this code, and the word at fault
+abbrev pub word_fault_text : ℕ → List ℕ → List ℕ
+word_fault_text code word = wrong_text code true ++ codes ": " ++ word
+
+-- the same, where there may be no such word
+abbrev pub maybe_fault_text : ℕ → Option (List ℕ) → List ℕ
+maybe_fault_text code (Some word) = word_fault_text code word
+maybe_fault_text code None = wrong_text code false
 
 -- what is wrong with a line of this code
 abbrev pub fault_text : ℕ → List ℕ → List ℕ
-fault_text code line = wrong_text code (is_some (word_at_fault code line)) ++ word_text (word_at_fault code line)
+fault_text code line = maybe_fault_text code (word_at_fault code line)
 
 -- where the line stands, and what is wrong with it
 abbrev pub heading : List ℕ → ℕ → ℕ → List ℕ → List ℕ

@@ -1,6 +1,7 @@
 //! What is wrong with a source that is refused, put in words for a writer. No call takes memory.
 
 ghost use Rattle.std.specs.Prelude.{◌≡◌, [], ◌∷◌};
+ghost use Rattle.reglang.specs.Explanations.{change_text, wrong_text};
 ghost use Rattle.report.specs.Appending.{Puts, Writes, write_fault_of};
 ghost use Rattle.verdict.specs.ExplanationText as spec;
 ghost use Rattle.verdict.specs.Shown.{printable, printable_text};
@@ -14,7 +15,7 @@ use std::io::Write;
 /// it, the word at fault where there is one, the line itself, a question mark for each byte that is not printable ASCII, and what to change.
 /// After a fault of the writer it has taken a beginning of that.
 pub fn write_explanation<W: Write>(
-    path: &str,
+    path: &[u8],
     text: &[u8],
     fault: &ReadFault,
     out: &mut W,
@@ -30,7 +31,7 @@ pub fn write_explanation<W: Write>(
 fn put_explanation<W: Write>(
     out: &mut W,
     block: &mut Block,
-    path: &str,
+    path: &[u8],
     fault: &ReadFault,
     line: &[u8],
 ) -> Result<(), WriteFault>
@@ -39,7 +40,7 @@ fn put_explanation<W: Write>(
     put_heading(out, block, path, fault.line, fault.code, line)?;
     put_printable(out, block, line)?;
     block.put(out, b"\n")?;
-    block.put(out, what_to_change(fault.code).as_bytes())?;
+    put_change(out, block, fault.code)?;
     block.put(out, b"\n")
 }
 
@@ -47,19 +48,26 @@ fn put_explanation<W: Write>(
 fn put_heading<W: Write>(
     out: &mut W,
     block: &mut Block,
-    path: &str,
+    path: &[u8],
     number: u64,
     code: u8,
     line: &[u8],
 ) -> Result<(), WriteFault>
     ensures { Puts (W.contents out.old) block.old (W.contents out.new) block.new (spec.heading path.now number code line.now) (write_fault_of result) }
 {
-    block.put(out, path.as_bytes())?;
+    block.put(out, path)?;
     block.put(out, b":")?;
     put_digits(out, block, number)?;
     block.put(out, b": ")?;
     put_fault(out, block, code, line)?;
     block.put(out, b"\n")
+}
+
+/// Puts what to change in a line of this code.
+fn put_change<W: Write>(out: &mut W, block: &mut Block, code: u8) -> Result<(), WriteFault>
+    ensures { Puts (W.contents out.old) block.old (W.contents out.new) block.new (change_text code) (write_fault_of result) }
+{
+    block.put(out, what_to_change(code).as_bytes())
 }
 
 /// Puts what is wrong with a line of this code, and the word at fault.
@@ -71,12 +79,36 @@ fn put_fault<W: Write>(
 ) -> Result<(), WriteFault>
     ensures { Puts (W.contents out.old) block.old (W.contents out.new) block.new (spec.fault_text code line.now) (write_fault_of result) }
 {
-    let Some(word) = word_at_fault(line, code) else {
-        return block.put(out, what_is_wrong(code, false).as_bytes());
-    };
-    block.put(out, what_is_wrong(code, true).as_bytes())?;
+    match word_at_fault(line, code) {
+        Some(word) => put_fault_of(out, block, code, word),
+        None => put_wrong(out, block, code, false),
+    }
+}
+
+/// Puts what is wrong with a line of this code, of which this word is at fault.
+fn put_fault_of<W: Write>(
+    out: &mut W,
+    block: &mut Block,
+    code: u8,
+    word: &[u8],
+) -> Result<(), WriteFault>
+    ensures { Puts (W.contents out.old) block.old (W.contents out.new) block.new (spec.word_fault_text code word.now) (write_fault_of result) }
+{
+    put_wrong(out, block, code, true)?;
     block.put(out, b": ")?;
     block.put(out, word)
+}
+
+/// Puts what is wrong with a line of this code, where a word is at fault and where none is.
+fn put_wrong<W: Write>(
+    out: &mut W,
+    block: &mut Block,
+    code: u8,
+    named: bool,
+) -> Result<(), WriteFault>
+    ensures { Puts (W.contents out.old) block.old (W.contents out.new) block.new (wrong_text code named) (write_fault_of result) }
+{
+    block.put(out, what_is_wrong(code, named).as_bytes())
 }
 
 /// Puts bytes, each as a printable one.

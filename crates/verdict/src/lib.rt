@@ -4,6 +4,7 @@
 
 mod breaches;
 mod explaining;
+mod reaches;
 mod shown;
 mod telling;
 
