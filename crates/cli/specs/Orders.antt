@@ -2,28 +2,39 @@
 use Rattle.std.specs.Prelude.{◌≡◌, ℕ, Bool, false, List}
 use Rattle.regmodel.specs.ScheduleText.{schedule_text}
 use Rattle.cli.specs.declared.orders.Task.{Task}
-use Rattle.cli.specs.declared.orders.Task.TheVariants.{Explore, Least, Replay}
+use Rattle.cli.specs.declared.orders.Task.TheVariants.{Explore, Least, Replay, Show}
 
 -- to replay the schedule of this text
 abbrev pub IsReplayOf : List ℕ → Task → Type 0
 IsReplayOf text (Explore settings native) = ⊥
 IsReplayOf text (Least settings native) = ⊥
 IsReplayOf text (Replay schedule) = schedule_text schedule ≡ text
+IsReplayOf text (Show schedule all) = ⊥
+
+-- to draw the schedule of this text, with all registers or with those that fit
+abbrev pub IsShowOf : List ℕ → Bool → Task → Type 0
+IsShowOf text all (Explore settings native) = ⊥
+IsShowOf text all (Least settings native) = ⊥
+IsShowOf text all (Replay schedule) = ⊥
+IsShowOf text all (Show schedule with_all) = (schedule_text schedule ≡ text) × (with_all ≡ all)
 
 -- to explore, for a report or for the least failing schedule alone
 abbrev pub IsExploration : Task → Type 0
 IsExploration (Explore settings native) = Unit {0}
 IsExploration (Least settings native) = Unit {0}
 IsExploration (Replay schedule) = ⊥
+IsExploration (Show schedule all) = ⊥
 
 -- whether use lines run as native machines
 abbrev pub is_native : Task → Bool
 is_native (Explore settings native) = native
 is_native (Least settings native) = native
 is_native (Replay schedule) = false
+is_native (Show schedule all) = false
 
 -- how many workers do it
 abbrev pub workers_of : Task → ℕ
 workers_of (Explore settings native) = settings.workers
 workers_of (Least settings native) = settings.workers
 workers_of (Replay schedule) = 1
+workers_of (Show schedule all) = 1

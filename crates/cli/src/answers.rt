@@ -11,7 +11,8 @@ ghost use Rattle.cli.specs.Findings.{HasBeginning, IsAnswered, IsCutShort, IsFou
 use crate::machines::machine_of;
 use crate::orders::{Order, Task};
 use crate::refusals::{Refusal, refuse};
-use crate::standings::{Standing, standing_after};
+use crate::standings::{Standing, drawing_of, standing_after};
+use drawing::{Drawing, write_drawing};
 use explorer::{
     Least, NoGate, Report, WriteFault, run, run_least, write_least, write_report, write_standing,
 };
@@ -36,6 +37,8 @@ enum Finding {
     Least(Least),
     /// Where a schedule leads.
     Standing(Standing),
+    /// What a schedule does, and whether all registers are wanted.
+    Drawing(Drawing, bool),
 }
 
 impl Finding {
@@ -47,6 +50,7 @@ impl Finding {
             Finding::Report(report) => report.least().is_some(),
             Finding::Least(least) => least.least().is_some(),
             Finding::Standing(_) => false,
+            Finding::Drawing(_, _) => false,
         }
     }
 
@@ -60,6 +64,7 @@ impl Finding {
             Finding::Standing(standing) => {
                 write_standing(&standing.outcome, standing.registers.as_slice(), out)
             }
+            Finding::Drawing(drawing, all) => write_drawing(drawing, *all, out),
         }
     }
 }
@@ -182,6 +187,15 @@ fn found<H: Threads + Wait + Sync>(
             match standing_after(&source, machines, schedule) {
                 Ok(standing) => Ok(Finding::Standing(standing)),
                 Err(letter) => Err(Refusal::Letter(letter.place)),
+            }
+        }
+        Task::Show { schedule, all } => {
+            let Some(machines) = lists.pop() else {
+                unreachable!()
+            };
+            match drawing_of(&source, machines, schedule) {
+                Ok(drawing) => Ok(Finding::Drawing(drawing, *all)),
+                Err(refused) => Err(Refusal::Letter(refused.place)),
             }
         }
     }

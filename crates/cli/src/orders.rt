@@ -4,7 +4,7 @@ ghost use Rattle.std.specs.Prelude.{◌≡◌, ◌≢◌, IfErr, IfOk, List};
 ghost use Rattle.regmodel.specs.declared.letters.Letter.{Letter};
 ghost use Rattle.regmodel.specs.Prefixes.{FitsPrefix};
 ghost use Rattle.regmodel.specs.ScheduleText.{schedule_text};
-ghost use Rattle.cli.specs.Orders.{IsExploration, IsReplayOf};
+ghost use Rattle.cli.specs.Orders.{IsExploration, IsReplayOf, IsShowOf};
 ghost use Rattle.cli.specs.Statuses.{status_of};
 
 use crate::refusals::{Refusal, refuse};
@@ -48,7 +48,7 @@ const SETTINGS: [(&str, &str, &str); 5] = [
 
 /// What the help says of the statuses.
 const STATUSES: &str = "Statuses:
-  0  explore: no schedule fails; replay: done
+  0  explore: no schedule fails; replay, show: done
   1  explore: a schedule fails
   2  the words, a setting, the schedule, the file or the source is refused
   3  memory ran out, or the result could not be made or written";
@@ -68,6 +68,26 @@ Statuses:
   2  the words, the schedule, the file or the source is refused, or a letter is not possible where it stands
   3  memory ran out, or the result could not be written";
 
+/// What the help says of a drawing.
+const DRAWINGS: &str = "Letters of a schedule:
+  R0  process 0 takes a step: it does the register access that it wants, and goes on to its next one or its end
+  C0  process 0 crashes: it takes no further step
+Processes are numbered from 0, in the order of the source. A letter is possible where its process wants an access
+and has not crashed.
+
+Example: regtry show FILE 'R0 R1 C0' draws three steps.
+It prints a line a letter: in the column of its process `write 0 5` for a write of 5 into register 0, `read 0 = 5` for a read
+that found 5 there, or `crash`; then what each register holds after it, r0 first, with a star where the letter changed it. The
+line of step 0 has what they hold at the start. The last line says how each process stands after the last letter.
+
+A line is at most 80 places long where there are at most two processes, else 132. Registers are left out from the last one
+on until that holds or none is left; a line at the end then says which. With --all none is left out.
+
+Statuses:
+  0  the schedule was drawn
+  2  the words, the schedule, the file or the source is refused, or a letter is not possible where it stands
+  3  memory ran out, or the result could not be written";
+
 /// What to do with a source.
 #[derive(Debug, Drop)]
 pub enum Task {
@@ -77,30 +97,32 @@ pub enum Task {
     Least { settings: Settings, native: bool },
     /// Replay this schedule.
     Replay { schedule: Prefix },
+    /// Draw this schedule, with all registers or with those that fit into a line.
+    Show { schedule: Prefix, all: bool },
 }
 
 impl Task {
     ghost use Rattle.cli.specs.Orders.{is_native, workers_of};
 
-    /// How many workers do it: a replay has one.
+    /// How many workers do it: a replay and a drawing have one.
     pub fn workers(&self) -> u32
         ensures { result ≡ workers_of self.now }
     {
         match self {
             Task::Explore { settings, .. } => settings.workers(),
             Task::Least { settings, .. } => settings.workers(),
-            Task::Replay { .. } => 1,
+            Task::Replay { .. } | Task::Show { .. } => 1,
         }
     }
 
-    /// Whether use lines run as native machines. A replay has interpreters alone.
+    /// Whether use lines run as native machines. A replay and a drawing have interpreters alone.
     pub fn is_native(&self) -> bool
         ensures { result ≡ is_native self.now }
     {
         match self {
             Task::Explore { native, .. } => *native,
             Task::Least { native, .. } => *native,
-            Task::Replay { .. } => false,
+            Task::Replay { .. } | Task::Show { .. } => false,
         }
     }
 }
@@ -163,7 +185,8 @@ fn program<'a>(alloc: Global) -> Result<Command<'a>, AllocError> {
         .subcommand_required(true)
         .disable_help_subcommand(true)
         .subcommand(explore(alloc)?)?
-        .subcommand(replay(alloc)?)
+        .subcommand(replay(alloc)?)?
+        .subcommand(show(alloc)?)
 }
 
 /// The words of `explore`.
@@ -190,20 +213,38 @@ fn explore<'a>(alloc: Global) -> Result<Command<'a>, AllocError> {
 
 /// The words of `replay`.
 fn replay<'a>(alloc: Global) -> Result<Command<'a>, AllocError> {
-    let schedule = Arg::new(alloc, "SCHEDULE").required(true).help(
-        "The schedule, as one word: at most 64 letters parted by one space, as 'R0 R1 C0', or . for none",
-    );
     Command::new(alloc, "replay")
         .about("Replays one schedule of a source and prints where it leads.")
         .after_help(SCHEDULES)
         .arg(file(alloc))?
-        .arg(schedule)
+        .arg(schedule(alloc))
+}
+
+/// The words of `show`.
+fn show<'a>(alloc: Global) -> Result<Command<'a>, AllocError> {
+    let all = Arg::new(alloc, "all")
+        .long("all")
+        .action(ArgAction::SetTrue)
+        .help("Draw all registers, however long the lines become");
+    Command::new(alloc, "show")
+        .about("Draws one schedule of a source: what each of its letters does.")
+        .after_help(DRAWINGS)
+        .arg(file(alloc))?
+        .arg(schedule(alloc))?
+        .arg(all)
 }
 
 /// The required word that names the file.
 fn file<'a>(alloc: Global) -> Arg<'a> {
     Arg::new(alloc, "FILE").required(true).help(
         "The source: a text in the register language, at most 1048576 bytes",
+    )
+}
+
+/// The required word that is a schedule.
+fn schedule<'a>(alloc: Global) -> Arg<'a> {
+    Arg::new(alloc, "SCHEDULE").required(true).help(
+        "The schedule, as one word: at most 64 letters parted by one space, as 'R0 R1 C0', or . for none",
     )
 }
 
@@ -226,6 +267,10 @@ fn order_of<'a, E: Write>(matches: &ArgMatches<'a>, err: &mut E) -> Result<Order
     };
     let task = match name {
         "replay" => replay_of(words.get_str("SCHEDULE").unwrap_or("")),
+        "show" => show_of(
+            words.get_str("SCHEDULE").unwrap_or(""),
+            words.get_flag("all"),
+        ),
         _ => exploration_of(words),
     };
     match task {
@@ -257,14 +302,38 @@ fn exploration_of(words: &ArgMatches<'_>) -> Result<Task, Refusal>
     }
 }
 
-/// The schedule of this text, to be replayed.
+/// To replay the schedule of this text.
 fn replay_of(text: &str) -> Result<Task, Refusal>
     ensures ok { IfOk result (λ task. IsReplayOf text.now task) }
     ensures none { IfErr result (λ refusal. (w : List Letter) → FitsPrefix w → schedule_text w ≢ text.now) }
     ensures err { IfErr result (λ refusal. refusal ≡ Refusal.Schedule) }
 {
+    match schedule_of(text) {
+        Ok(schedule) => Ok(Task::Replay { schedule }),
+        Err(refusal) => Err(refusal),
+    }
+}
+
+/// To draw the schedule of this text.
+fn show_of(text: &str, all: bool) -> Result<Task, Refusal>
+    ensures ok { IfOk result (λ task. IsShowOf text.now all task) }
+    ensures none { IfErr result (λ refusal. (w : List Letter) → FitsPrefix w → schedule_text w ≢ text.now) }
+    ensures err { IfErr result (λ refusal. refusal ≡ Refusal.Schedule) }
+{
+    match schedule_of(text) {
+        Ok(schedule) => Ok(Task::Show { schedule, all }),
+        Err(refusal) => Err(refusal),
+    }
+}
+
+/// The schedule of this text.
+fn schedule_of(text: &str) -> Result<Prefix, Refusal>
+    ensures ok { IfOk result (λ schedule. schedule_text schedule ≡ text.now) }
+    ensures none { IfErr result (λ refusal. (w : List Letter) → FitsPrefix w → schedule_text w ≢ text.now) }
+    ensures err { IfErr result (λ refusal. refusal ≡ Refusal.Schedule) }
+{
     match read_schedule(text.as_bytes()) {
-        Some(schedule) => Ok(Task::Replay { schedule }),
+        Some(schedule) => Ok(schedule),
         None => Err(Refusal::Schedule),
     }
 }

@@ -82,7 +82,7 @@ impl Drawing {
     }
 
     /// What each register holds before the first letter, registers from 0.
-    pub fn start(&self) -> &[Held]
+    pub(crate) fn start(&self) -> &[Held]
         ensures value { result.now ≡ self.now.start }
         ensures few { length result.now ≤ 64 }
     {
@@ -90,7 +90,7 @@ impl Drawing {
     }
 
     /// What is drawn of each letter.
-    pub fn rows(&self) -> &[Row]
+    pub(crate) fn rows(&self) -> &[Row]
         ensures value { result.now ≡ self.now.rows }
         ensures few { length result.now ≤ 64 }
     {
@@ -98,7 +98,7 @@ impl Drawing {
     }
 
     /// How each process stands at the end, processes from 0.
-    pub fn ends(&self) -> &[ProcEnd]
+    pub(crate) fn ends(&self) -> &[ProcEnd]
         ensures value { result.now ≡ self.now.ends }
         ensures few { length result.now ≤ MOST_PROCESSES }
     {
