@@ -11,9 +11,9 @@ ghost use Rattle.cli.specs.Findings.{HasBeginning, IsAnswered, IsCutShort, IsFou
 use crate::machines::machine_of;
 use crate::orders::{Order, Task};
 use crate::refusals::{Refusal, refuse};
-use crate::wording::{explain, refuse_in_words};
-use crate::verdicts::verdict_of;
 use crate::standings::{Standing, drawing_of, standing_after};
+use crate::verdicts::verdict_of;
+use crate::wording::{explain, refuse_in_words};
 use drawing::{Drawing, write_drawing};
 use explorer::{
     Least, NoGate, Report, WriteFault, run, run_least, write_least, write_report, write_standing,
@@ -90,10 +90,10 @@ pub fn answer<H: Threads + Wait + Sync, R: Read + Drop, W: Write, E: Write>(
 ) -> u8
     ensures no_file { IsNone file → result ≡ 2 }
     ensures status { result ≤ 3 }
-    ensures answered { result ≤ 1 → IsAnswered order.now.path order.now.task (option_and_then R.remaining file) (W.contents out.old) (W.contents out.new) result }
-    ensures refused { 2 ≤ result → IsRefusedWith W.contents order.now.path order.now.task (option_and_then R.remaining file) out.old out.new result }
+    ensures answered { result ≤ 1 → IsAnswered order.now.path.now order.now.task (option_and_then R.remaining file) (W.contents out.old) (W.contents out.new) result }
+    ensures refused { 2 ≤ result → IsRefusedWith W.contents order.now.path.now order.now.task (option_and_then R.remaining file) out.old out.new result }
     ensures silent { result ≡ 2 → out.new ≡ out.old }
-    ensures cut_short { result ≡ 3 → (out.new ≡ out.old) ⊎ IsCutShort order.now.path order.now.task (option_and_then R.remaining file) (W.contents out.old) (W.contents out.new) }
+    ensures cut_short { result ≡ 3 → (out.new ≡ out.old) ⊎ IsCutShort order.now.path.now order.now.task (option_and_then R.remaining file) (W.contents out.old) (W.contents out.new) }
 {
     match written(rt, alloc, order, file, out, err) {
         Ok(fails) => u8::from(fails),
@@ -113,8 +113,8 @@ fn written<H: Threads + Wait + Sync, R: Read + Drop, W: Write, E: Write>(
     err: &mut E,
 ) -> Result<bool, Refusal>
     ensures no_file { IsNone file → result ≡ Err Refusal.File }
-    ensures answered { IfOk result (λ fails. IsAnswered order.now.path order.now.task (option_and_then R.remaining file) (W.contents out.old) (W.contents out.new) (if fails then 1 else 0)) }
-    ensures refused { IfErr result (IsRefusal W.contents order.now.path order.now.task (option_and_then R.remaining file) out.old out.new) }
+    ensures answered { IfOk result (λ fails. IsAnswered order.now.path.now order.now.task (option_and_then R.remaining file) (W.contents out.old) (W.contents out.new) (if fails then 1 else 0)) }
+    ensures refused { IfErr result (IsRefusal W.contents order.now.path.now order.now.task (option_and_then R.remaining file) out.old out.new) }
 {
     let Some(file) = file else {
         return Err(Refusal::File);
@@ -139,12 +139,7 @@ fn explained<E: Write>(order: &Order<'_>, text: &[u8], refusal: Refusal, err: &m
 }
 
 /// Writes what was found of the text in the file of this path, and has the writer pass it on.
-fn tell<W: Write>(
-    path: &str,
-    text: &[u8],
-    finding: &Finding,
-    out: &mut W,
-) -> Result<(), Refusal>
+fn tell<W: Write>(path: &str, text: &[u8], finding: &Finding, out: &mut W) -> Result<(), Refusal>
     ensures whole { OnOk result (Writes (W.contents out.old) (W.contents out.new) (finding_text path.now text.now finding.now) None) }
     ensures begun { OnErr result (HasBeginning (W.contents out.old) (W.contents out.new) (finding_text path.now text.now finding.now)) }
     ensures err { IfErr result (λ refusal. refusal ≡ Refusal.Write) }

@@ -8,8 +8,8 @@ ghost use Rattle.cli.specs.Orders.{IsCheck, IsExploration, IsReplayOf, IsShowOf}
 ghost use Rattle.cli.specs.Statuses.{status_of};
 
 use crate::refusals::{Refusal, refuse};
-use crate::words::matches_of;
 use crate::wording::refuse_in_words;
+use crate::words::matches_of;
 use clap::ArgMatches;
 use regmodel::limits::MOST_LETTERS;
 use regmodel::{Prefix, Settings, read_schedule};

@@ -37,7 +37,14 @@ pub fn verdict_of<H: Threads + Wait + Sync>(
     let report = report_of(rt, alloc, source, settings, lists)?;
     the_first_refused_is_a_schedule();
     let breach = match report.least() {
-        Some((schedule, outcome)) => Some(breach_of(text, source, own, settings.crashes(), schedule, outcome)),
+        Some((schedule, outcome)) => Some(breach_of(
+            text,
+            source,
+            own,
+            settings.crashes(),
+            schedule,
+            outcome,
+        )),
         None => None,
     };
     Ok(Verdict { report, breach })

@@ -78,7 +78,8 @@ Statuses:
   3  memory ran out, or the result could not be written";
 
 /// What the help says of a check.
-const CHECKS: &str = "Where a schedule fails, it prints the least one that does: the first check that its outcome breaks and the line of
+const CHECKS: &str =
+    "Where a schedule fails, it prints the least one that does: the first check that its outcome breaks and the line of
 that check, the schedule as a drawing (see regtry show --help), and the command that replays it.
 Where none fails, it prints how much was tried, and whether schedules were cut off at the greatest length with a process
 still running: longer ones were not tried then.
