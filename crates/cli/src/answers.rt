@@ -11,7 +11,10 @@ ghost use Rattle.cli.specs.Findings.{HasBeginning, IsAnswered, IsCutShort, IsFou
 use crate::machines::machine_of;
 use crate::orders::{Order, Task};
 use crate::refusals::{Refusal, refuse};
-use crate::standings::{Standing, standing_after};
+use crate::standings::{Standing, drawing_of, standing_after};
+use crate::verdicts::verdict_of;
+use crate::wording::{explain, refuse_in_words};
+use drawing::{Drawing, write_drawing};
 use explorer::{
     Least, NoGate, Report, WriteFault, run, run_least, write_least, write_report, write_standing,
 };
@@ -23,6 +26,7 @@ use std::io;
 use std::io::{ErrorKind, Read, Write};
 use std::sync::Wait;
 use std::thread::Threads;
+use verdict::{Verdict, write_verdict};
 
 /// The most bytes of a source.
 pub const MOST_BYTES: u64 = 1048576;
@@ -30,12 +34,16 @@ pub const MOST_BYTES: u64 = 1048576;
 /// What was found of a source.
 #[derive(Debug, Drop)]
 enum Finding {
+    /// The report of a check, and what the least failing schedule breaks.
+    Verdict(Verdict),
     /// The report of an exploration.
     Report(Report),
     /// The least failing schedule alone.
     Least(Least),
     /// Where a schedule leads.
     Standing(Standing),
+    /// What a schedule does, and whether all registers are wanted.
+    Drawing(Drawing, bool),
 }
 
 impl Finding {
@@ -44,22 +52,26 @@ impl Finding {
         ensures { result ≡ has_failing self.now }
     {
         match self {
+            Finding::Verdict(verdict) => verdict.report.least().is_some(),
             Finding::Report(report) => report.least().is_some(),
             Finding::Least(least) => least.least().is_some(),
             Finding::Standing(_) => false,
+            Finding::Drawing(_, _) => false,
         }
     }
 
-    /// Writes the text of what was found.
-    fn write<W: Write>(&self, out: &mut W) -> Result<(), WriteFault>
-        ensures { Writes (W.contents out.old) (W.contents out.new) (finding_text self.now) (write_fault_of result) }
+    /// Writes what was found of the text in the file of this path.
+    fn write<W: Write>(&self, path: &str, text: &[u8], out: &mut W) -> Result<(), WriteFault>
+        ensures { Writes (W.contents out.old) (W.contents out.new) (finding_text path.now text.now self.now) (write_fault_of result) }
     {
         match self {
+            Finding::Verdict(verdict) => write_verdict(path.as_bytes(), text, verdict, out),
             Finding::Report(report) => write_report(report, out),
             Finding::Least(least) => write_least(least, out),
             Finding::Standing(standing) => {
                 write_standing(&standing.outcome, standing.registers.as_slice(), out)
             }
+            Finding::Drawing(drawing, all) => write_drawing(drawing, *all, out),
         }
     }
 }
@@ -78,45 +90,61 @@ pub fn answer<H: Threads + Wait + Sync, R: Read + Drop, W: Write, E: Write>(
 ) -> u8
     ensures no_file { IsNone file → result ≡ 2 }
     ensures status { result ≤ 3 }
-    ensures answered { result ≤ 1 → IsAnswered order.now.task (option_and_then R.remaining file) (W.contents out.old) (W.contents out.new) result }
-    ensures refused { 2 ≤ result → IsRefusedWith W.contents order.now.task (option_and_then R.remaining file) out.old out.new result }
+    ensures answered { result ≤ 1 → IsAnswered order.now.path.now order.now.task (option_and_then R.remaining file) (W.contents out.old) (W.contents out.new) result }
+    ensures refused { 2 ≤ result → IsRefusedWith W.contents order.now.path.now order.now.task (option_and_then R.remaining file) out.old out.new result }
     ensures silent { result ≡ 2 → out.new ≡ out.old }
-    ensures cut_short { result ≡ 3 → (out.new ≡ out.old) ⊎ IsCutShort order.now.task (option_and_then R.remaining file) (W.contents out.old) (W.contents out.new) }
+    ensures cut_short { result ≡ 3 → (out.new ≡ out.old) ⊎ IsCutShort order.now.path.now order.now.task (option_and_then R.remaining file) (W.contents out.old) (W.contents out.new) }
 {
-    match written(rt, alloc, order.task(), file, out) {
+    match written(rt, alloc, order, file, out, err) {
         Ok(fails) => u8::from(fails),
+        Err(refusal) if order.task().is_in_words() => refuse_in_words(order.path(), refusal, err),
         Err(refusal) => refuse(refusal, err),
     }
 }
 
-/// Writes what is found of the source in the file. Whether a schedule fails.
-fn written<H: Threads + Wait + Sync, R: Read + Drop, W: Write>(
+/// Writes what is found of the source in the file. Whether a schedule fails. A source that is refused is explained on `err` where refusals
+/// are told in words.
+fn written<H: Threads + Wait + Sync, R: Read + Drop, W: Write, E: Write>(
     rt: &H,
     alloc: Global,
-    task: &Task,
+    order: &Order<'_>,
     file: Option<R>,
     out: &mut W,
+    err: &mut E,
 ) -> Result<bool, Refusal>
     ensures no_file { IsNone file → result ≡ Err Refusal.File }
-    ensures answered { IfOk result (λ fails. IsAnswered task.now (option_and_then R.remaining file) (W.contents out.old) (W.contents out.new) (if fails then 1 else 0)) }
-    ensures refused { IfErr result (IsRefusal W.contents task.now (option_and_then R.remaining file) out.old out.new) }
+    ensures answered { IfOk result (λ fails. IsAnswered order.now.path.now order.now.task (option_and_then R.remaining file) (W.contents out.old) (W.contents out.new) (if fails then 1 else 0)) }
+    ensures refused { IfErr result (IsRefusal W.contents order.now.path.now order.now.task (option_and_then R.remaining file) out.old out.new) }
 {
     let Some(file) = file else {
         return Err(Refusal::File);
     };
     let text = bytes_of(alloc, file)?;
-    let finding = found(rt, alloc, task, text.as_slice())?;
-    tell(&finding, out)?;
+    let finding = match found(rt, alloc, order.task(), text.as_slice()) {
+        Ok(finding) => finding,
+        Err(refusal) => return Err(explained(order, text.as_slice(), refusal, err)),
+    };
+    tell(order.path(), text.as_slice(), &finding, out)?;
     Ok(finding.fails())
 }
 
-/// Writes what was found, and has the writer pass it on.
-fn tell<W: Write>(finding: &Finding, out: &mut W) -> Result<(), Refusal>
-    ensures whole { OnOk result (Writes (W.contents out.old) (W.contents out.new) (finding_text finding.now) None) }
-    ensures begun { OnErr result (HasBeginning (W.contents out.old) (W.contents out.new) (finding_text finding.now)) }
+/// The refusal of a text. Where refusals are told in words, a refused source is explained.
+fn explained<E: Write>(order: &Order<'_>, text: &[u8], refusal: Refusal, err: &mut E) -> Refusal
+    ensures { result ≡ refusal }
+{
+    if order.task().is_in_words() {
+        explain(order.path(), text, &refusal, err);
+    }
+    refusal
+}
+
+/// Writes what was found of the text in the file of this path, and has the writer pass it on.
+fn tell<W: Write>(path: &str, text: &[u8], finding: &Finding, out: &mut W) -> Result<(), Refusal>
+    ensures whole { OnOk result (Writes (W.contents out.old) (W.contents out.new) (finding_text path.now text.now finding.now) None) }
+    ensures begun { OnErr result (HasBeginning (W.contents out.old) (W.contents out.new) (finding_text path.now text.now finding.now)) }
     ensures err { IfErr result (λ refusal. refusal ≡ Refusal.Write) }
 {
-    if finding.write(out).is_err() {
+    if finding.write(path, text, out).is_err() {
         return Err(Refusal::Write);
     }
     if out.flush().is_err() {
@@ -154,7 +182,7 @@ fn found<H: Threads + Wait + Sync>(
         Err(fault) => return Err(Refusal::Source(fault)),
     };
     let mut lists: Vec<Vec<Box<dyn Machine + Send>>> = Vec::new(alloc);
-    for _list in 0..task.workers() {
+    for _list in 0..task.lists() {
         let mut machines: Vec<Box<dyn Machine + Send>> = Vec::new(alloc);
         for p in 0..source.processes() {
             let machine = machine_of(alloc, &source, p, task.is_native())?;
@@ -163,6 +191,15 @@ fn found<H: Threads + Wait + Sync>(
         lists.push(machines)?;
     }
     match task {
+        Task::Check { settings, .. } => {
+            let Some(own) = lists.pop() else {
+                unreachable!()
+            };
+            match verdict_of(rt, alloc, text, &source, *settings, lists, own) {
+                Ok(verdict) => Ok(Finding::Verdict(verdict)),
+                Err(code) => Err(Refusal::Run(code)),
+            }
+        }
         Task::Explore { settings, .. } => {
             match report_of(rt, alloc, &source, *settings, lists) {
                 Ok(report) => Ok(Finding::Report(report)),
@@ -184,11 +221,20 @@ fn found<H: Threads + Wait + Sync>(
                 Err(letter) => Err(Refusal::Letter(letter.place)),
             }
         }
+        Task::Show { schedule, all } => {
+            let Some(machines) = lists.pop() else {
+                unreachable!()
+            };
+            match drawing_of(&source, machines, schedule) {
+                Ok(drawing) => Ok(Finding::Drawing(drawing, *all)),
+                Err(refused) => Err(Refusal::Letter(refused.place)),
+            }
+        }
     }
 }
 
 /// The report of a source, by a list of its machines for each worker; or the code of the fault where there is none.
-fn report_of<H: Threads + Wait + Sync>(
+pub fn report_of<H: Threads + Wait + Sync>(
     rt: &H,
     alloc: Global,
     source: &Source,

@@ -7,6 +7,9 @@ mod orders;
 mod performing;
 mod refusals;
 mod standings;
+mod verdicts;
+mod wording;
+mod words;
 
 pub use answers::answer;
 pub use orders::{Order, Task, command};

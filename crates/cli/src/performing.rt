@@ -9,13 +9,17 @@ ghost use Rattle.cli.specs.Statuses.{status_of};
 use crate::answers::answer;
 use crate::orders::command;
 use crate::refusals::{Refusal, refuse};
+use regmodel::limits::MOST_WORKERS;
 use std::alloc::Global;
 use std::convert::AsStr;
-use std::env;
 use std::env::Env;
 use std::io::{ErrorKind, Read, Write};
 use std::sync::Wait;
 use std::thread::Threads;
+use std::{env, thread};
+
+/// How many processors there are taken to be where the system does not tell.
+const PROCESSORS: u32 = 4;
 
 /// The words of the command line, the program's name first. One that is not UTF-8 is refused.
 pub fn words_of<H: Env + AllocGlobal>(rt: &H) -> Result<Vec<String>, Refusal>
@@ -49,18 +53,26 @@ pub fn perform<
     requires { F.IsAlwaysCallable opener }
     ensures status { result ≤ 3 }
     ensures words { IfErr words (λ refusal. result ≡ status_of refusal) }
-    ensures answered { result ≤ 1 → (asked : Task) × (path : List ℕ) × (file : Option R) × FnOnceReturnsAt F.FnOnce opener path file × IsAnswered asked (option_and_then R.remaining file) (W.contents out.old) (W.contents out.new) result }
+    ensures answered { result ≤ 1 → (asked : Task) × (path : List ℕ) × (file : Option R) × FnOnceReturnsAt F.FnOnce opener path file × IsAnswered path asked (option_and_then R.remaining file) (W.contents out.old) (W.contents out.new) result }
     ensures silent { result ≡ 2 → out.new ≡ out.old }
-    ensures cut_short { result ≡ 3 → (out.new ≡ out.old) ⊎ ((asked : Task) × (path : List ℕ) × (file : Option R) × FnOnceReturnsAt F.FnOnce opener path file × IsCutShort asked (option_and_then R.remaining file) (W.contents out.old) (W.contents out.new)) }
+    ensures cut_short { result ≡ 3 → (out.new ≡ out.old) ⊎ ((asked : Task) × (path : List ℕ) × (file : Option R) × FnOnceReturnsAt F.FnOnce opener path file × IsCutShort path asked (option_and_then R.remaining file) (W.contents out.old) (W.contents out.new)) }
 {
     let words = match words {
         Ok(words) => words,
         Err(refusal) => return refuse(refusal, err),
     };
-    let order = match command(alloc, words.as_slice(), err) {
+    let order = match command(alloc, words.as_slice(), processors(rt), err) {
         Ok(order) => order,
         Err(status) => return status,
     };
     let file = opener(order.path());
     answer(rt, alloc, &order, file, out, err)
+}
+
+/// How many processors there are, as far as workers can be as many.
+fn processors<H: Threads>(rt: &H) -> u32 {
+    match thread::available_parallelism(rt) {
+        Ok(count) => count.get().min(MOST_WORKERS as usize) as u32,
+        Err(_) => PROCESSORS,
+    }
 }

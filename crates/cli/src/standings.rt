@@ -1,19 +1,21 @@
-//! Where one schedule leads.
+//! Where one schedule leads, and what it does on its way.
 
-ghost use Rattle.std.specs.Prelude.{◌≡◌, ◌≤◌, IfErr, IfOk, map};
+ghost use Rattle.std.specs.Prelude.{◌≡◌, IfErr, IfOk, map};
 ghost use Rattle.regmodel.specs.Outcomes.{outcome_of};
 ghost use Rattle.regmodel.specs.Schedules.{IsSchedule};
 ghost use Rattle.reglang.specs.Sources.{source_programs, registers_of};
-ghost use Rattle.world.specs.Sound.{IsSoundWorld, letters_of, register_count_of, world_programs};
-ghost use Rattle.cli.specs.Standings.{IsLetterRefused, values_after};
+ghost use Rattle.drawing.specs.Pictures.{IsPictureOf};
+ghost use Rattle.drawing.specs.Registers.{values_after};
+ghost use Rattle.cli.specs.Standings.{IsLetterRefused};
 
 use arrayvec::ArrayVec;
+use drawing::{Drawing, draw, values_of};
 use machine::Machine;
 use reglang::Source;
 use regmodel::{Outcome, Prefix};
 use world::{BadLetter, World};
 
-/// How many processes may crash in a schedule that is replayed.
+/// How many processes may crash in a schedule that is replayed or drawn.
 const CRASHES: u32 = 8;
 
 /// Where a schedule leads.
@@ -48,16 +50,18 @@ pub fn standing_after(
     }
 }
 
-/// What each register of a world holds, registers from 0.
-fn values_of(world: &World, registers: u32) -> ArrayVec<u32, 64>
-    requires at { IsSoundWorld program rest world.now }
-    requires all { register_count_of world.now ≡ registers }
-    requires few { registers ≤ 64 }
-    ensures { result.items ≡ values_after (world_programs program world.now) (letters_of world.now) registers }
+/// What a schedule makes the machines of a source do, one a process, letter by letter; any number of processes may crash. The first letter that
+/// is not possible is refused. Each machine is ended and dropped once, also then. Takes no memory.
+pub fn drawing_of(
+    source: &Source,
+    machines: Vec<Box<dyn Machine + Send>>,
+    schedule: &Prefix,
+) -> Result<Drawing, BadLetter>
+    requires { map program machines.items ≡ source_programs source.now }
+    ensures schedule { IfOk result (λ drawing. IsSchedule (source_programs source.now) 8 schedule.now) }
+    ensures drawn { IfOk result (IsPictureOf (source_programs source.now) (registers_of source.now) schedule.now) }
+    ensures refused { IfErr result (λ letter. IsLetterRefused (source_programs source.now) 8 schedule.now letter.place) }
 {
-    let mut values = ArrayVec::new();
-    for r in 0..registers {
-        values.push(world.register(r as u8));
-    }
-    values
+    let mut world = World::new(machines, source.registers(), CRASHES);
+    draw(&mut world, source.registers(), schedule)
 }

@@ -1,6 +1,7 @@
 //! The program over files in memory.
 
 mod asking;
+mod drawings;
 mod examples;
 mod files;
 mod least;

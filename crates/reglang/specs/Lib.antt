@@ -1,5 +1,8 @@
+pub mod CheckExamples
+pub mod Checks
 pub mod Contents
 pub mod Drafts
+pub mod Explanations
 pub mod FaultExamples
 pub mod Faults
 pub mod Forms
@@ -7,6 +10,7 @@ pub mod Grammar
 pub mod GrammarExamples
 pub mod LineExamples
 pub mod Lines
+pub mod Misfits
 pub mod Sources
 pub mod Spelling
 pub mod Words

@@ -9,7 +9,7 @@ use regmodel::Clause;
 use regmodel::limits::{GREATEST_VALUE, MOST_PROCESSES};
 
 /// The number that a word is, up to this limit.
-fn number_to(limit: u32, word: Word) -> Option<u32>
+pub fn number_to(limit: u32, word: Word) -> Option<u32>
     ensures { result ≡ spec.number_to limit word }
 {
     match word {

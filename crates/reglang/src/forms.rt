@@ -90,7 +90,7 @@ fn keep(first: &mut ArrayVec<Word, MOST_WORDS>, word: Word)
 }
 
 /// Whether a word may stand after a first one, but for its form.
-fn is_known(word: Word) -> bool
+pub fn is_known(word: Word) -> bool
     ensures { result ≡ spec.is_known word }
 {
     match word {

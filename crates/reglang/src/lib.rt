@@ -1,12 +1,15 @@
 //! Sources: texts of the register language, read into programs.
 #![tactic(auto)]
 
+mod checks;
 mod clauses;
 mod copies;
 mod draft;
+mod explanations;
 mod forms;
 pub mod laws;
 mod lines;
+mod misfits;
 mod open_process;
 mod operands;
 mod parts;
@@ -17,6 +20,9 @@ mod spellings;
 mod words;
 mod writer;
 
+pub use checks::{check_line, line_at};
+pub use explanations::{what_is_wrong, what_to_change};
+pub use misfits::word_at_fault;
 pub use reader::{ReadFault, read_source};
 pub use source::Source;
 pub use uses::{ExpandFault, Use, expand};

@@ -50,7 +50,7 @@ pub fn operand_of(word: Word) -> Option<Operand>
 }
 
 /// The operator that a word is.
-fn operator_of(word: Word) -> Option<Op>
+pub fn operator_of(word: Word) -> Option<Op>
     ensures { result ≡ spec.operator_of word }
 {
     match word {

@@ -6,9 +6,12 @@ mod least;
 mod reports;
 mod writing;
 
+pub use blocks::{BLOCK_BYTES, Block};
 pub use least::Least;
 pub use reports::Report;
-pub use writing::{WriteFault, write_least, write_report, write_standing};
+pub use writing::{
+    WriteFault, put_digits, put_schedule, write_least, write_report, write_standing,
+};
 
 #[cfg(test)]
 mod tests;

@@ -25,6 +25,9 @@ pub const WORDS: [&str; 13] = [
     "16",
 ];
 
+/// How many processors a command line is read for.
+pub const PROCESSORS: u32 = 2;
+
 /// What a run of the program left.
 #[derive(Drop)]
 pub struct Reply {
@@ -69,7 +72,7 @@ pub fn asked_to_write<H: Threads + Wait + Sync + AllocGlobal, R: Read + Drop, W:
 /// The status of words that are refused, 0 of others, and what is printed of them.
 pub fn refused(alloc: Global, words: &[&str]) -> (u8, Vec<u8>) {
     let mut err = Vec::new(alloc);
-    let status = match command(alloc, words, &mut err) {
+    let status = match command(alloc, words, PROCESSORS, &mut err) {
         Ok(_) => 0,
         Err(status) => status,
     };
@@ -78,7 +81,7 @@ pub fn refused(alloc: Global, words: &[&str]) -> (u8, Vec<u8>) {
 
 /// The file that words name, where they are not refused.
 pub fn file_named_in<'a>(alloc: Global, words: &'a [&str]) -> Option<&'a str> {
-    match command(alloc, words, &mut Vec::new(alloc)) {
+    match command(alloc, words, PROCESSORS, &mut Vec::new(alloc)) {
         Ok(order) => Some(order.path()),
         Err(_) => None,
     }

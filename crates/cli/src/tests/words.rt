@@ -1,6 +1,6 @@
 //! Words of the command line that are refused.
 
-use super::asking::{WORDS, file_named_in, refused};
+use super::asking::{PROCESSORS, WORDS, file_named_in, refused};
 use super::sources::HALTS;
 use crate::orders::{Task, command};
 use crate::performing::{perform, words_of};
@@ -171,7 +171,7 @@ fn each_option_says_its_own_setting(rt: HostRuntime) -> Result<(), Fail> {
     ];
     for (words, interpreted) in [(words.as_slice(), true), (&words[..13], false)] {
         let mut err = Vec::new(rt.alloc());
-        let order = command(rt.alloc(), words, &mut err)
+        let order = command(rt.alloc(), words, PROCESSORS, &mut err)
             .ok()
             .ok_or("refused words")?;
         let Task::Explore { settings, native } = order.task() else {

@@ -1,6 +1,6 @@
 //! A few accesses, or none.
 
-use crate::tests::transcripts::assert_prints;
+use crate::tests::transcripts::{assert_drawn_as_replayed, assert_prints};
 use std::test::Fail;
 
 const FILES: [(&str, &str); 7] = [
@@ -222,6 +222,7 @@ fails fault 2 idle
 fn each_command_prints_what_is_shown(rt: HostRuntime) -> Result<(), Fail> {
     for (status, shown) in RUNS {
         assert_prints(&rt, FILES.as_slice(), status, shown)?;
+        assert_drawn_as_replayed(&rt, FILES.as_slice(), shown)?;
     }
     Ok(())
 }

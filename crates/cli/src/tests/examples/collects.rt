@@ -1,6 +1,6 @@
 //! Processes that collect what others wrote, and that try to agree.
 
-use crate::tests::transcripts::assert_prints;
+use crate::tests::transcripts::{assert_drawn_as_replayed, assert_prints};
 use std::test::Fail;
 
 const FILES: [(&str, &str); 4] = [
@@ -230,6 +230,7 @@ fails done 1; done 1
 fn each_command_prints_what_is_shown(rt: HostRuntime) -> Result<(), Fail> {
     for (status, shown) in RUNS {
         assert_prints(&rt, FILES.as_slice(), status, shown)?;
+        assert_drawn_as_replayed(&rt, FILES.as_slice(), shown)?;
     }
     Ok(())
 }

@@ -1,6 +1,6 @@
 //! Mutual exclusion.
 
-use crate::tests::transcripts::assert_prints;
+use crate::tests::transcripts::{assert_drawn_as_replayed, assert_prints};
 use std::test::Fail;
 
 const FILES: [(&str, &str); 3] = [
@@ -257,6 +257,7 @@ least none
 fn each_command_prints_what_is_shown(rt: HostRuntime) -> Result<(), Fail> {
     for (status, shown) in RUNS {
         assert_prints(&rt, FILES.as_slice(), status, shown)?;
+        assert_drawn_as_replayed(&rt, FILES.as_slice(), shown)?;
     }
     Ok(())
 }

@@ -1,6 +1,6 @@
 //! Splitters, and what is made of them.
 
-use crate::tests::transcripts::assert_prints;
+use crate::tests::transcripts::{assert_drawn_as_replayed, assert_prints};
 use std::test::Fail;
 
 const FILES: [(&str, &str); 4] = [
@@ -175,6 +175,7 @@ registers 2 1
 fn each_command_prints_what_is_shown(rt: HostRuntime) -> Result<(), Fail> {
     for (status, shown) in RUNS {
         assert_prints(&rt, FILES.as_slice(), status, shown)?;
+        assert_drawn_as_replayed(&rt, FILES.as_slice(), shown)?;
     }
     Ok(())
 }

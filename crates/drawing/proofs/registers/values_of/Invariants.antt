@@ -1,7 +1,7 @@
 use Rattle.std.proofs.Common.{◌≡◌, length}
 use Rattle.world.specs.Sound.{letters_of, world_programs}
-use Rattle.cli.specs.Standings.{values_after}
-use Rattle.cli.proofs.standings.values_of.Given as goal
+use Rattle.drawing.specs.Registers.{values_after}
+use Rattle.drawing.proofs.registers.values_of.Given as goal
 
 abbrev pub invariant-loop-r : goal.invariant-loop-r
 invariant-loop-r g l = record {

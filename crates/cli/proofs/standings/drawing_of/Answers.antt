@@ -1,0 +1,8 @@
+use Rattle.std.proofs.Common.{subst, sym, arith}
+use Rattle.world.specs.Fit.{AreFit}
+use Rattle.cli.proofs.standings.drawing_of.Goals as goal
+
+pub new-world-requires : goal.new-world-requires
+new-world-requires g c =
+    subst (λ programs. AreFit programs c.registers.result 8) (sym c.requires)
+    (record { some = c.registers.ensures.some; few = c.registers.ensures.few; within = c.registers.ensures.programs; crashes = omega arith })

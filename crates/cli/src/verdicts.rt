@@ -1,0 +1,51 @@
+//! What is found of a source, and what its least failing schedule breaks.
+
+ghost use Rattle.std.specs.Prelude.{◌≡◌, All, IfErr, IfOk, length, map};
+ghost use Rattle.reglang.specs.Grammar.{Spells};
+ghost use Rattle.reglang.specs.Sources.{contents_of, source_programs};
+ghost use Rattle.cli.specs.Findings.{IsRunFault, IsVerdictOf};
+
+use crate::answers::report_of;
+use explorer::Report;
+use machine::Machine;
+use reglang::Source;
+use regmodel::Settings;
+use regmodel::laws::the_first_refused_is_a_schedule;
+use std::alloc::Global;
+use std::sync::Wait;
+use std::thread::Threads;
+use verdict::{Breach, Verdict, breach_of};
+
+/// What is found of a source that a text spells, by a list of its machines for each worker, and what the least failing schedule breaks, as
+/// one more list shows; or the code of the fault where there is no report.
+pub fn verdict_of<H: Threads + Wait + Sync>(
+    rt: &H,
+    alloc: Global,
+    text: &[u8],
+    source: &Source,
+    settings: Settings,
+    lists: Vec<Vec<Box<dyn Machine + Send>>>,
+    own: Vec<Box<dyn Machine + Send>>,
+) -> Result<Verdict, u8>
+    requires spelled { Spells text.now (contents_of source.now) }
+    requires lists { length lists.items ≡ settings.workers }
+    requires machines { All (λ list. map program list.items ≡ source_programs source.now) lists.items }
+    requires own { map program own.items ≡ source_programs source.now }
+    ensures verdict { IfOk result (IsVerdictOf settings text.now) }
+    ensures code { IfErr result IsRunFault }
+{
+    let report = report_of(rt, alloc, source, settings, lists)?;
+    the_first_refused_is_a_schedule();
+    let breach = match report.least() {
+        Some((schedule, outcome)) => Some(breach_of(
+            text,
+            source,
+            own,
+            settings.crashes(),
+            schedule,
+            outcome,
+        )),
+        None => None,
+    };
+    Ok(Verdict { report, breach })
+}

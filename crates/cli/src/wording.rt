@@ -1,0 +1,69 @@
+//! Refusals, told in words.
+
+ghost use Rattle.std.specs.Prelude.{◌≡◌};
+ghost use Rattle.cli.specs.Statuses.{status_of};
+
+use crate::refusals::Refusal;
+use std::io;
+use std::io::Write;
+use verdict::write_explanation;
+
+/// Where a source is refused, writes what is wrong with the text in the file of this path, as far as that can be written.
+pub fn explain<E: Write>(path: &str, text: &[u8], refusal: &Refusal, err: &mut E) {
+    if let Refusal::Source(fault) = refusal {
+        let _ = write_explanation(path.as_bytes(), text, fault, err);
+    }
+}
+
+/// Writes in words what is refused, but for a source, which was explained, and gives the status, also where the words could not be written.
+pub fn refuse_in_words<E: Write>(path: &str, refusal: Refusal, err: &mut E) -> u8
+    ensures { result ≡ status_of refusal }
+{
+    let _ = write_words(path, &refusal, err);
+    refusal.status()
+}
+
+/// Writes in words what is refused, but for a source.
+fn write_words<E: Write>(path: &str, refusal: &Refusal, err: &mut E) -> io::Result<()> {
+    match refusal {
+        Refusal::Words => writeln!(err, "a word of the command line is not UTF-8"),
+        Refusal::Setting(code) => writeln!(err, "{}", limit_of(*code)),
+        Refusal::Schedule => writeln!(
+            err,
+            "this is no schedule: write at most 64 letters parted by one space, each R or C and the number of a process, 0 to 7, or . for none"
+        ),
+        Refusal::File => writeln!(
+            err,
+            "{path}: the file cannot be read, or is longer than 1048576 bytes"
+        ),
+        Refusal::Source(_) => Ok(()),
+        Refusal::Memory => writeln!(err, "memory ran out"),
+        Refusal::Letter(place) => writeln!(
+            err,
+            "{path}: letter {} of the schedule is not possible there: its process is not in the source, has crashed, or wants no access",
+            place.saturating_add(1)
+        ),
+        Refusal::Run(code) => writeln!(err, "{path}: {}", run_fault(*code)),
+        Refusal::Write => writeln!(err, "the answer could not be written"),
+    }
+}
+
+/// The limit that a setting with this number is past.
+fn limit_of(setting: u8) -> &'static str {
+    match setting {
+        1 => "--length is past its limit: a schedule has 0 to 64 letters",
+        2 => "--crashes is past its limit: 0 to 8 processes may crash",
+        3 => "--workers is past its limit: there are 1 to 16",
+        4 => "--cut is past its limit: it is 0 to 16",
+        _ => "--room is past its limit: it is 0 to 65536",
+    }
+}
+
+/// Why there is no report, by the code of the run.
+fn run_fault(code: u8) -> &'static str {
+    match code {
+        1 => "memory ran out while exploring",
+        2 => "there are more schedules than can be counted",
+        _ => "a worker's thread could not be started",
+    }
+}

@@ -1,0 +1,224 @@
+//! The words of the command line, as they are taken, and what the help says of them.
+
+use clap::{Arg, ArgAction, ArgMatches, Command, Error, value_parser};
+use std::alloc::{AllocError, Global};
+use std::convert::AsStr;
+
+/// The program's version, and the toolchain that it is proved with.
+const VERSION: &str = "0.1.0, proved with rattle-kit-13b logic dac8208d650f15bf";
+
+/// The settings of an exploration: the name of each, what its number is called, and what the help says of it.
+const SETTINGS: [(&str, &str, &str); 5] = [
+    (
+        "length",
+        "L",
+        "How many letters a schedule has at most: 0 to 64",
+    ),
+    (
+        "crashes",
+        "C",
+        "How many crashes a schedule has at most: 0 to 8",
+    ),
+    (
+        "workers",
+        "W",
+        "How many workers share the exploration, each in a thread of its own: 1 to 16",
+    ),
+    (
+        "cut",
+        "D",
+        "Up to which length beginnings of schedules are split into pieces for the workers: 0 to 16 (3 serves well)",
+    ),
+    (
+        "room",
+        "M",
+        "How many pieces each worker may put up for the others: 0 to 65536 (64 serves well)",
+    ),
+];
+
+/// The settings of a check: the name of each, what its number is called, and what the help says of it.
+const BOUNDS: [(&str, &str, &str); 3] = [
+    (
+        "length",
+        "L",
+        "How many letters a schedule has at most: 0 to 64 [default: 64]",
+    ),
+    (
+        "crashes",
+        "C",
+        "How many crashes a schedule has at most: 0 to 8 [default: 0]",
+    ),
+    (
+        "workers",
+        "W",
+        "How many workers share the exploration, each in a thread of its own: 1 to 16 [default: the number of processors]",
+    ),
+];
+
+/// What the help says of the statuses.
+const STATUSES: &str = "Statuses:
+  0  check, explore: no schedule fails; replay, show: done
+  1  check, explore: a schedule fails
+  2  the words, a setting, the schedule, the file or the source is refused
+  3  memory ran out, or the result could not be made or written";
+
+/// What the help says of the text of a schedule.
+const SCHEDULES: &str = "Letters of a schedule:
+  R0  process 0 takes a step: it does the register access that it wants, and goes on to its next one or its end
+  C0  process 0 crashes: it takes no further step
+Processes are numbered from 0, in the order of the source. A letter is possible where its process wants an access
+and has not crashed.
+
+Example: regtry replay FILE 'R0 R1 C0' lets process 0 take a step, then process 1, and then crashes process 0.
+It prints how each process stands after that and what each register holds, whether or not the processes ended.
+
+Statuses:
+  0  the schedule was replayed
+  2  the words, the schedule, the file or the source is refused, or a letter is not possible where it stands
+  3  memory ran out, or the result could not be written";
+
+/// What the help says of a check.
+const CHECKS: &str =
+    "Where a schedule fails, it prints the least one that does: the first check that its outcome breaks and the line of
+that check, the schedule as a drawing (see regtry show --help), and the command that replays it.
+Where none fails, it prints how much was tried, and whether schedules were cut off at the greatest length with a process
+still running: longer ones were not tried then.
+
+Example: regtry check FILE --crashes 1 tries all schedules of up to 64 letters in which at most one process crashes.
+
+Statuses:
+  0  no schedule fails
+  1  a schedule fails
+  2  the words, a setting, the file or the source is refused: a refused source is explained
+  3  memory ran out, or the result could not be made or written";
+
+/// What the help says of a drawing.
+const DRAWINGS: &str = "Letters of a schedule:
+  R0  process 0 takes a step: it does the register access that it wants, and goes on to its next one or its end
+  C0  process 0 crashes: it takes no further step
+Processes are numbered from 0, in the order of the source. A letter is possible where its process wants an access
+and has not crashed.
+
+Example: regtry show FILE 'R0 R1 C0' draws three steps.
+It prints a line a letter: in the column of its process `write 0 5` for a write of 5 into register 0, `read 0 = 5` for a read
+that found 5 there, or `crash`; then what each register holds after it, r0 first, with a star where the letter changed it. The
+line of step 0 has what they hold at the start. The last line says how each process stands after the last letter.
+
+A line is at most 80 places long where there are at most two processes, else 132. Registers are left out from the last one
+on until that holds or none is left; a line at the end then says which. With --all none is left out.
+
+Statuses:
+  0  the schedule was drawn
+  2  the words, the schedule, the file or the source is refused, or a letter is not possible where it stands
+  3  memory ran out, or the result could not be written";
+
+/// What clap makes of the words of the command line, the program's name first.
+pub fn matches_of<'a, S: AsStr>(alloc: Global, words: &'a [S]) -> Result<ArgMatches<'a>, Error> {
+    program(alloc)?.try_get_matches_from(words)
+}
+
+/// The program's words.
+fn program<'a>(alloc: Global) -> Result<Command<'a>, AllocError> {
+    Command::new(alloc, "regtry")
+        .bin_name("regtry")?
+        .about(
+            "Runs register algorithms under all bounded schedules and reports what can come out.",
+        )
+        .version(VERSION)
+        .after_help(STATUSES)
+        .subcommand_required(true)
+        .disable_help_subcommand(true)
+        .subcommand(check(alloc)?)?
+        .subcommand(explore(alloc)?)?
+        .subcommand(replay(alloc)?)?
+        .subcommand(show(alloc)?)
+}
+
+/// The words of `check`.
+fn check<'a>(alloc: Global) -> Result<Command<'a>, AllocError> {
+    let mut command = Command::new(alloc, "check")
+        .about("Checks all schedules of a source and says what fails, in words.")
+        .after_help(CHECKS)
+        .arg(file(alloc))?;
+    for (name, value, help) in BOUNDS {
+        command = command.arg(bound(alloc, name, value, help))?;
+    }
+    command.arg(text(alloc))
+}
+
+/// The words of `explore`.
+fn explore<'a>(alloc: Global) -> Result<Command<'a>, AllocError> {
+    let least = Arg::new(alloc, "least")
+        .long("least")
+        .action(ArgAction::SetTrue)
+        .help(
+            "Look for the least failing schedule alone: no outcomes are printed, and what can hold no lower one is left out",
+        );
+    let mut command = Command::new(alloc, "explore")
+        .about("Explores all schedules of a source and prints a report of the outcomes.")
+        .after_help(STATUSES)
+        .arg(file(alloc))?;
+    for (name, value, help) in SETTINGS {
+        command = command.arg(number(alloc, name, value, help))?;
+    }
+    command.arg(text(alloc))?.arg(least)
+}
+
+/// The words of `replay`.
+fn replay<'a>(alloc: Global) -> Result<Command<'a>, AllocError> {
+    Command::new(alloc, "replay")
+        .about("Replays one schedule of a source and prints where it leads.")
+        .after_help(SCHEDULES)
+        .arg(file(alloc))?
+        .arg(schedule(alloc))
+}
+
+/// The words of `show`.
+fn show<'a>(alloc: Global) -> Result<Command<'a>, AllocError> {
+    let all = Arg::new(alloc, "all")
+        .long("all")
+        .action(ArgAction::SetTrue)
+        .help("Draw all registers, however long the lines become");
+    Command::new(alloc, "show")
+        .about("Draws one schedule of a source: what each of its letters does.")
+        .after_help(DRAWINGS)
+        .arg(file(alloc))?
+        .arg(schedule(alloc))?
+        .arg(all)
+}
+
+/// The required word that names the file.
+fn file<'a>(alloc: Global) -> Arg<'a> {
+    Arg::new(alloc, "FILE").required(true).help(
+        "The source: a text in the register language, at most 1048576 bytes",
+    )
+}
+
+/// The required word that is a schedule.
+fn schedule<'a>(alloc: Global) -> Arg<'a> {
+    Arg::new(alloc, "SCHEDULE").required(true).help(
+        "The schedule, as one word: at most 64 letters parted by one space, as 'R0 R1 C0', or . for none",
+    )
+}
+
+/// The flag that asks for interpreters.
+fn text<'a>(alloc: Global) -> Arg<'a> {
+    Arg::new(alloc, "text")
+        .long("text")
+        .action(ArgAction::SetTrue)
+        .help("Interpret the processes with a `use` line, too, which else run as native machines")
+}
+
+/// A required option that takes a number.
+fn number<'a>(alloc: Global, name: &'a str, value: &'a str, help: &'a str) -> Arg<'a> {
+    bound(alloc, name, value, help).required(true)
+}
+
+/// An option that takes a number.
+fn bound<'a>(alloc: Global, name: &'a str, value: &'a str, help: &'a str) -> Arg<'a> {
+    Arg::new(alloc, name)
+        .long(name)
+        .value_name(value)
+        .value_parser(value_parser!(u32))
+        .help(help)
+}

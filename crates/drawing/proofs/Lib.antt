@@ -1,0 +1,5 @@
+mod Growing
+mod Joined
+mod Placing
+mod Rows
+mod Wanted

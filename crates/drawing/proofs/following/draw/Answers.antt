@@ -1,0 +1,31 @@
+use Rattle.std.proofs.Common.{◌<◌, ◌∙◌, ap, length, arith}
+use Rattle.std.proofs.lemmas.List.{take_all}
+use Rattle.world.specs.Sound.{letters_of}
+use Rattle.drawing.proofs.Rows.{held-first, letters-more, picture-whole, rows-past}
+use Rattle.drawing.proofs.following.draw.Goals as goal
+
+pub loop-place-preserved : goal.loop-place-preserved
+loop-place-preserved g c =
+    let kept = c.loop-place.invariant in
+    let here : c.loop-place.place < length c.args.schedule.now = omega (arith, c.loop-place-test.true, ap length c.letters-letter-items.ensures.value) in
+    let went = c.row_of.ensures.same in
+    record {
+      same = record {
+        programs = went.programs ∙ kept.same.programs;
+        registers = went.registers ∙ kept.same.registers;
+        budget = went.budget ∙ kept.same.budget;
+        at = went.at;
+      };
+      went = letters-more _ _ _ c.args.schedule.now c.loop-place.place _ c.row_of.ensures.stepped kept.went c.letters-letter-items.ensures.value here;
+      rows = rows-past _ _ _ (letters_of c.loop-place.world) _ _ _ _ _ kept.same.programs c.row_of.ensures.stepped c.push.ensures.items kept.rows c.row_of.ensures.row;
+      count = omega (arith, kept.count);
+    }
+
+pub returns-clause-drawn : goal.returns-clause-drawn
+returns-clause-drawn g c =
+    let kept = c.loop-place.invariant in
+    let first = c.restart.ensures in
+    let went = kept.went ∙ take_all c.loop-place.place c.args.schedule.now (omega (arith, c.loop-place-test.false, ap length c.letters-letter-items.ensures.value)) in
+    picture-whole _ _ _ (letters_of c.loop-place.world) _ _ _ _ _ c.new.ensures kept.same.programs went
+    (held-first _ _ _ (letters_of c.restart.new.self) _ _ first.same.programs first.start (c.as_slice.ensures.value ∙ c.values_of-zeros.ensures.values) c.held_since-start.ensures)
+    kept.rows c.outcome.ensures

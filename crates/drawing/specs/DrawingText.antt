@@ -1,0 +1,51 @@
+-- The text of a drawing.
+use Rattle.std.specs.Prelude.{ℕ, zero, suc, ◌+◌, ◌-◌, ◌==◌, Bool, List, [], ◌++◌, length, codes, decimal, if◌then◌else◌, nat_lt, get_or}
+use Rattle.drawing.specs.declared.layout.TheConstants.{PARTING}
+use Rattle.drawing.specs.Cells.{cell_text}
+use Rattle.drawing.specs.Layout.{columns_shown, line_count, widths}
+use Rattle.drawing.specs.Pictures.{Picture}
+
+-- the texts f 0, f 1 and so on, n of them, one after another
+abbrev pub joined : (ℕ → List ℕ) → ℕ → List ℕ
+joined f zero = []
+joined f (suc n) = joined f n ++ f n
+
+-- so many spaces
+abbrev pub spaces : ℕ → List ℕ
+spaces n = joined (λ i. codes " ") n
+
+-- a text behind so many spaces; nothing where the text is empty
+abbrev pub placed : ℕ → List ℕ → List ℕ
+placed gap text = if length text == 0 then [] else spaces gap ++ text
+
+-- how many spaces are then due before a further text: up to the column's width and what parts it from the next
+abbrev pub gap_past : ℕ → ℕ → List ℕ → ℕ
+gap_past gap width text = if length text == 0 then gap + width + PARTING else width - length text + PARTING
+
+-- how many spaces are due before the cell of a column
+abbrev pub gap_before : (ℕ → ℕ) → (ℕ → List ℕ) → ℕ → ℕ
+gap_before width cell zero = 0
+gap_before width cell (suc column) = gap_past (gap_before width cell column) (width column) (cell column)
+
+-- a line of so many columns; no space ends it
+abbrev pub line_text : (ℕ → ℕ) → (ℕ → List ℕ) → ℕ → List ℕ
+line_text width cell columns = joined (λ column. placed (gap_before width cell column) (cell column)) columns ++ codes "\n"
+
+-- up to which register, where more than one is left out
+abbrev pub to_last_text : ℕ → ℕ → List ℕ
+to_last_text first registers = if first + 1 == registers then [] else codes " to r" ++ decimal (registers - 1)
+
+-- which registers are left out, where some are
+abbrev pub left_out_text : ℕ → ℕ → List ℕ
+left_out_text first registers =
+    if nat_lt first registers then codes "left out: r" ++ decimal first ++ to_last_text first registers ++ codes "; regtry show --all draws all\n" else []
+
+-- the text of a drawing in columns of these widths, the first so many of them
+abbrev pub table_text : Picture → List ℕ → ℕ → List ℕ
+table_text picture wide columns =
+    joined (λ line. line_text (λ column. get_or wide column 0) (cell_text picture line) columns) (line_count picture)
+    ++ left_out_text (columns - 1 - length picture.ends) (length picture.start)
+
+-- the text of a drawing, with all registers or with those that fit
+abbrev pub drawing_text : Bool → Picture → List ℕ
+drawing_text all picture = table_text picture (widths picture) (columns_shown all picture (widths picture))

@@ -1,0 +1,6 @@
+pub mod Cells
+pub mod DrawingText
+pub mod Examples
+pub mod Layout
+pub mod Pictures
+pub mod Registers

@@ -1,0 +1,51 @@
+-- What is drawn of a schedule.
+use Rattle.std.specs.Prelude.{◌≡◌, ℕ, ◌+◌, List, [], ◌∷◌, ◌++◌, length, Option, Some, None}
+use Rattle.regmodel.specs.declared.accesses.Access.{Access}
+use Rattle.regmodel.specs.declared.accesses.Access.TheVariants as access
+use Rattle.regmodel.specs.declared.letters.Letter.{Letter}
+use Rattle.regmodel.specs.declared.letters.Letter.TheVariants as letter
+use Rattle.regmodel.specs.declared.outcomes.ProcEnd.{ProcEnd}
+use Rattle.regmodel.specs.Conflict.{wanted_after}
+use Rattle.regmodel.specs.Letters.{Schedule, process_of}
+use Rattle.regmodel.specs.Outcomes.{outcome_of}
+use Rattle.regmodel.specs.Program.{Program}
+use Rattle.regmodel.specs.Replies.{value_after}
+use Rattle.drawing.specs.declared.drawings.Deed.{Deed}
+use Rattle.drawing.specs.declared.drawings.Deed.TheVariants as deed
+use Rattle.drawing.specs.declared.drawings.Held.{Held}
+use Rattle.drawing.specs.declared.drawings.Row.{Row}
+use Rattle.drawing.specs.Registers.{all_held}
+
+-- what registers hold before the first letter, a row a letter, and how each process stands after the last
+pub record Picture : Type 0 where
+  pub start : List Held
+  pub rows : List Row
+  pub ends : List ProcEnd
+
+-- what a letter does, where `values` tells what registers hold before it, beside the access that its process wants; a run of a
+-- process that wants none does nothing
+abbrev pub deed_by : (ℕ → ℕ) → Letter → Option Access → Option Deed
+deed_by values (letter.Run p) (Some (access.Read r)) = Some (deed.Read r (values r))
+deed_by values (letter.Run p) (Some (access.Write r v)) = Some (deed.Write r v)
+deed_by values (letter.Run p) None = None
+deed_by values (letter.Crash p) wanted = Some deed.Crash
+
+-- the row of a letter that comes after `before`
+pub record IsRowOf (programs : List Program) (registers : ℕ) (before : Schedule) (letter : Letter) (row : Row) : Type 0 where
+  pub number : row.number ≡ length before + 1
+  pub process : row.process ≡ process_of letter
+  pub deed : deed_by (value_after programs before) letter (wanted_after programs before (process_of letter)) ≡ Some row.deed
+  pub registers_are : row.registers.items ≡ all_held programs registers before (before ++ letter ∷ [])
+
+-- a row for each letter of `later`, which comes after `before`
+abbrev pub AreRowsOf : List Program → ℕ → Schedule → Schedule → List Row → Type 0
+AreRowsOf programs registers before [] [] = Unit {0}
+AreRowsOf programs registers before [] (row ∷ rows) = ⊥
+AreRowsOf programs registers before (letter ∷ later) [] = ⊥
+AreRowsOf programs registers before (letter ∷ later) (row ∷ rows) = IsRowOf programs registers before letter row × AreRowsOf programs registers (before ++ letter ∷ []) later rows
+
+-- what is drawn of a schedule over so many registers
+pub record IsPictureOf (programs : List Program) (registers : ℕ) (w : Schedule) (picture : Picture) : Type 0 where
+  pub start : picture.start ≡ all_held programs registers [] []
+  pub rows : AreRowsOf programs registers [] w picture.rows
+  pub ends : picture.ends ≡ outcome_of programs w

@@ -1,0 +1,252 @@
+//! The texts of a drawing, cell by cell.
+
+ghost use Rattle.std.specs.Prelude.{◌≡◌, ◌≤◌, ◌<◌, ◌+◌, ◌++◌, [], codes, decimal, length};
+ghost use Rattle.regmodel.specs.ReportText.{end_text, fate_text};
+ghost use Rattle.drawing.specs.Cells as texts;
+ghost use Rattle.drawing.specs.DrawingText.{left_out_text, to_last_text};
+ghost use Rattle.drawing.specs.Layout.{column_count, line_count};
+
+use crate::drawings::{Deed, Drawing, Held, Row};
+use arrayvec::ArrayVec;
+use itoa::Buffer;
+use regmodel::{End, ProcEnd};
+use std::marker::Model;
+
+/// The most bytes of a cell: those of a process that is done with eight numbers of ten digits, and of ` idle`.
+pub(crate) const MOST_CELL_BYTES: usize = 97;
+
+/// The most bytes of a number.
+const MOST_DIGITS: usize = 10;
+
+/// The most columns: the letters' numbers, 8 processes and 64 registers.
+pub(crate) const MOST_COLUMNS: usize = 73;
+
+/// The text of a cell. A clause sees its bytes.
+#[derive(Drop)]
+pub(crate) struct Cell {
+    bytes: ArrayVec<u8, MOST_CELL_BYTES>,
+}
+
+impl Model for Cell {
+    ghost use Rattle.std.specs.Prelude.{List, ℕ};
+
+    ghost Value = { List ℕ };
+
+    ghost view = { λ cell. cell.bytes.items };
+}
+
+impl Cell {
+    /// An empty cell.
+    pub(crate) fn new() -> Cell
+        ensures { result ≡ [] }
+    {
+        Cell {
+            bytes: ArrayVec::new(),
+        }
+    }
+
+    /// The bytes.
+    pub(crate) fn bytes(&self) -> &[u8]
+        ensures value { result.now ≡ self.now }
+        ensures few { length result.now ≤ MOST_CELL_BYTES }
+    {
+        self.bytes.as_slice()
+    }
+
+    /// The same with these bytes last.
+    fn with(self, bytes: &[u8]) -> Cell
+        requires { length self + length bytes.now ≤ MOST_CELL_BYTES }
+        ensures text { result ≡ self ++ bytes.now }
+        ensures long { length result ≡ length self + length bytes.now }
+    {
+        let mut cell = self;
+        let _ = cell.bytes.try_extend_from_slice(bytes);
+        cell
+    }
+
+    /// The same with the digits of a number last.
+    fn with_number(self, number: u32) -> Cell
+        requires { length self + MOST_DIGITS ≤ MOST_CELL_BYTES }
+        ensures text { result ≡ self ++ decimal number }
+        ensures long { length result ≤ length self + MOST_DIGITS }
+    {
+        let mut buffer = Buffer::new();
+        self.with(buffer.format(number).as_bytes())
+    }
+}
+
+/// What a letter did.
+fn deed_cell(deed: Deed) -> Cell
+    ensures { result ≡ texts.deed_text deed }
+{
+    match deed {
+        Deed::Read(r, value) => Cell::new()
+            .with(b"read ")
+            .with_number(u32::from(r))
+            .with(b" = ")
+            .with_number(value),
+        Deed::Write(r, value) => Cell::new()
+            .with(b"write ")
+            .with_number(u32::from(r))
+            .with(b" ")
+            .with_number(value),
+        Deed::Crash => Cell::new().with(b"crash"),
+    }
+}
+
+/// What a register holds, and a star where the letter changed it.
+fn held_cell(held: Held) -> Cell
+    ensures { result ≡ texts.held_text held }
+{
+    let cell = Cell::new().with_number(held.value);
+    if held.changed { cell.with(b"*") } else { cell }
+}
+
+/// How a process stands.
+fn fate_cell(fate: &End) -> Cell
+    ensures text { result ≡ fate_text fate.now }
+    ensures long { length result ≤ 92 }
+{
+    match fate {
+        End::Done(numbers) => {
+            let mut cell = Cell::new().with(b"done");
+            for number in numbers.as_slice() {
+                cell = cell.with(b" ").with_number(*number);
+            }
+            cell
+        }
+        End::Fault(code) => Cell::new().with(b"fault ").with_number(u32::from(*code)),
+        End::Crashed => Cell::new().with(b"crashed"),
+        End::Running => Cell::new().with(b"running"),
+    }
+}
+
+/// How a process stands, and ` idle` where it took no step.
+fn end_cell(end: &ProcEnd) -> Cell
+    ensures { result ≡ end_text end.now }
+{
+    let cell = fate_cell(&end.fate);
+    if end.started {
+        cell
+    } else {
+        cell.with(b" idle")
+    }
+}
+
+/// Which registers are left out, where some are.
+pub(crate) fn left_out_cell(first: usize, registers: usize) -> Cell
+    requires { registers ≤ 64 }
+    ensures { result ≡ left_out_text first registers }
+{
+    if first >= registers {
+        return Cell::new();
+    }
+    let from = Cell::new().with(b"left out: r").with_number(first as u32);
+    let last = to_last(from, first, registers);
+    last.with(b"; regtry show --all draws all\n")
+}
+
+/// The same, and up to which register, where more than one is left out.
+fn to_last(from: Cell, first: usize, registers: usize) -> Cell
+    requires some { first < registers }
+    requires few { registers ≤ 64 }
+    requires room { length from ≤ 30 }
+    ensures text { result ≡ from ++ to_last_text first registers }
+    ensures long { length result ≤ length from + 15 }
+{
+    if first + 1 == registers {
+        return from;
+    }
+    from.with(b" to r").with_number(registers as u32 - 1)
+}
+
+impl Drawing {
+    /// How many lines there are: the header, the start, a line a letter, and the ends.
+    pub(crate) fn lines(&self) -> usize
+        ensures { result ≡ line_count self.now }
+    {
+        self.rows().len() + 3
+    }
+
+    /// How many columns there are: the letters' numbers, the processes and the registers.
+    pub(crate) fn columns(&self) -> usize
+        ensures value { result ≡ column_count self.now }
+        ensures few { result ≤ MOST_COLUMNS }
+    {
+        1 + self.ends().len() + self.start().len()
+    }
+
+    /// The text at a line and a column.
+    pub(crate) fn cell(&self, line: usize, column: usize) -> Cell
+        requires { column < MOST_COLUMNS }
+        ensures { result ≡ texts.cell_text self.now line column }
+    {
+        let processes = self.ends().len();
+        if column == 0 {
+            self.number_cell(line)
+        } else if column <= processes {
+            self.process_cell(line, column - 1)
+        } else {
+            self.register_cell(line, column - 1 - processes)
+        }
+    }
+
+    /// The text of a line in the column of the letters' numbers.
+    fn number_cell(&self, line: usize) -> Cell
+        ensures { result ≡ texts.number_cell self.now line }
+    {
+        if line == 0 {
+            return Cell::new().with(b"step");
+        }
+        if line == 1 {
+            return Cell::new().with(b"0");
+        }
+        match self.rows().get(line - 2) {
+            Some(row) => Cell::new().with_number(u32::from(row.number)),
+            None => Cell::new(),
+        }
+    }
+
+    /// The text of a line in the column of a process.
+    fn process_cell(&self, line: usize, p: usize) -> Cell
+        requires { p < MOST_COLUMNS }
+        ensures { result ≡ texts.process_cell self.now line p }
+    {
+        if line == 0 {
+            return Cell::new().with(b"process ").with_number(p as u32);
+        }
+        if line == 1 {
+            return Cell::new();
+        }
+        match self.rows().get(line - 2) {
+            Some(row) if usize::from(row.process) == p => deed_cell(row.deed),
+            Some(_) => Cell::new(),
+            None => match self.ends().get(p) {
+                Some(end) => end_cell(end),
+                None => Cell::new(),
+            },
+        }
+    }
+
+    /// The text of a line in the column of a register.
+    fn register_cell(&self, line: usize, r: usize) -> Cell
+        requires { r < MOST_COLUMNS }
+        ensures { result ≡ texts.register_cell self.now line r }
+    {
+        if line == 0 {
+            return Cell::new().with(b"r").with_number(r as u32);
+        }
+        let registers = if line == 1 {
+            self.start()
+        } else {
+            match self.rows().get(line - 2) {
+                Some(row) => row.registers.as_slice(),
+                None => return Cell::new(),
+            }
+        };
+        match registers.get(r) {
+            Some(held) => held_cell(*held),
+            None => Cell::new(),
+        }
+    }
+}

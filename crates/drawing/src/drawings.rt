@@ -1,0 +1,107 @@
+//! What is drawn of a schedule.
+
+ghost use Rattle.std.specs.Prelude.{◌≡◌, ◌≤◌, length};
+
+use arrayvec::ArrayVec;
+use regmodel::{Outcome, ProcEnd};
+use std::marker::Model;
+
+/// What a letter did.
+#[derive(Clone, Copy, Default, PartialEq, Eq, Debug)]
+pub enum Deed {
+    /// It read from this register this value.
+    Read(u8, u32),
+    /// It wrote into this register this value.
+    Write(u8, u32),
+    /// Its process crashed. It is the default because `ArrayVec` asks for one.
+    #[default]
+    Crash,
+}
+
+/// What a register holds after a letter, and whether it held another value before it.
+#[derive(Clone, Copy, Default, PartialEq, Eq, Debug)]
+pub struct Held {
+    /// The value.
+    pub value: u32,
+    /// Whether the letter changed it.
+    pub changed: bool,
+}
+
+/// What is drawn of one letter.
+#[derive(Default, Debug, Drop)]
+pub struct Row {
+    /// Which letter it is, the first one 1.
+    pub number: u8,
+    /// The process whose letter it is.
+    pub process: u8,
+    /// What the letter did.
+    pub deed: Deed,
+    /// What each register holds after it, registers from 0.
+    pub registers: ArrayVec<Held, 64>,
+}
+
+/// What is drawn of a schedule: what each register holds before its first letter, a row a letter, and how each process stands
+/// after the last one.
+#[derive(Debug, Drop)]
+pub struct Drawing {
+    start: ArrayVec<Held, 64>,
+    rows: ArrayVec<Row, 64>,
+    outcome: Outcome,
+}
+
+impl Model for Drawing {
+    ghost use Rattle.std.specs.Prelude.{◌≤◌, length};
+    ghost use Rattle.regmodel.specs.declared.limits.TheConstants.{MOST_PROCESSES};
+    ghost use Rattle.drawing.specs.Pictures.{Picture};
+
+    ghost Value = { Picture };
+
+    ghost view = { λ d. record { start = d.start.items; rows = d.rows.items; ends = d.outcome } };
+
+    ghost invariant = { λ d. length d.outcome ≤ MOST_PROCESSES };
+}
+
+impl Drawing {
+    ghost use Rattle.regmodel.specs.declared.limits.TheConstants.{MOST_PROCESSES};
+    ghost use Rattle.drawing.specs.Pictures.{Picture};
+
+    /// The drawing of these parts.
+    pub(crate) fn new(
+        start: ArrayVec<Held, 64>,
+        rows: ArrayVec<Row, 64>,
+        outcome: Outcome,
+    ) -> Drawing
+        requires { length outcome ≤ MOST_PROCESSES }
+        ensures { result ≡ record { start = start.items; rows = rows.items; ends = outcome } }
+    {
+        Drawing {
+            start,
+            rows,
+            outcome,
+        }
+    }
+
+    /// What each register holds before the first letter, registers from 0.
+    pub(crate) fn start(&self) -> &[Held]
+        ensures value { result.now ≡ self.now.start }
+        ensures few { length result.now ≤ 64 }
+    {
+        self.start.as_slice()
+    }
+
+    /// What is drawn of each letter.
+    pub(crate) fn rows(&self) -> &[Row]
+        ensures value { result.now ≡ self.now.rows }
+        ensures few { length result.now ≤ 64 }
+    {
+        self.rows.as_slice()
+    }
+
+    /// How each process stands at the end, processes from 0.
+    pub(crate) fn ends(&self) -> &[ProcEnd]
+        ensures value { result.now ≡ self.now.ends }
+        ensures few { length result.now ≤ MOST_PROCESSES }
+    {
+        self.outcome.ends()
+    }
+}

@@ -1,0 +1,14 @@
+//! Draws a schedule: what each of its letters did, and what the registers held after it.
+#![tactic(auto)]
+
+mod cells;
+mod drawings;
+mod following;
+mod layout;
+mod registers;
+mod writing;
+
+pub use drawings::{Deed, Drawing, Held, Row};
+pub use following::draw;
+pub use registers::values_of;
+pub use writing::write_drawing;

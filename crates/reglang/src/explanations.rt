@@ -1,0 +1,54 @@
+//! The words in which a refused line is explained.
+
+ghost use Rattle.std.specs.Prelude.{◌≡◌};
+ghost use Rattle.reglang.specs.Explanations.{change_text, wrong_text};
+
+use crate::refusals::{
+    MISPLACED, NO_CLAUSE, NO_FORM, NO_NUMBER, NO_REGISTERS, NOT_PRINTABLE, PAST_LIMIT, UNKNOWN_WORD,
+};
+
+/// What is wrong with a line that was refused with this code, 1 to 9, where one of its words is at fault and where none is.
+pub fn what_is_wrong(code: u8, named: bool) -> &'static str
+    ensures { result.now ≡ wrong_text code named }
+{
+    match code {
+        NOT_PRINTABLE => "a byte that is not printable ASCII, such as a tab",
+        UNKNOWN_WORD => "an unknown word",
+        NO_NUMBER => "a word that begins with a digit and is no number",
+        NO_FORM if named => "a word that has no place here",
+        NO_FORM => "a word is missing at the end",
+        MISPLACED => "the line cannot stand here, or the text ends within a process",
+        PAST_LIMIT => "a limit is passed, or the text ends without a process",
+        NO_REGISTERS => "no registers line comes first",
+        NO_CLAUSE if named => "a word that no clause has here",
+        NO_CLAUSE => "a word is missing at the end of the clause",
+        _ => "memory ran out at this line",
+    }
+}
+
+/// What to change in a line that was refused with this code, 1 to 9.
+pub fn what_to_change(code: u8) -> &'static str
+    ensures { result.now ≡ change_text code }
+{
+    match code {
+        NOT_PRINTABLE => "use spaces, and no other bytes than those from space to ~",
+        UNKNOWN_WORD => {
+            "begin the line with a word of the language, and go on with numbers, variables v0 to v15, cells [0] to [31] or [v0] to [v15], operators and kinds"
+        }
+        NO_NUMBER => "write a number with digits alone, and without a 0 before others",
+        NO_FORM => {
+            "give the line its form: registers NUMBER, set TARGET EXPR, read TARGET OPERAND, write OPERAND EXPR, if EXPR, repeat EXPR, emit EXPR, use KIND NUMBERS; process, end, else, fi, done and halt stand alone"
+        }
+        MISPLACED => {
+            "move the line, or close what is open: an if with fi, a repeat with done, a process with end"
+        }
+        PAST_LIMIT => {
+            "stay within 1 to 64 registers, 1 to 8 processes, 200 statements a process, 16 open blocks, 3 of them repeats, 16 checks, numbers up to 1000000000, and the limits of the kind"
+        }
+        NO_REGISTERS => "begin with a line registers NUMBER",
+        NO_CLAUSE => {
+            "write one of distinct, atmost V C, within LO HI, adaptive, triangle, selfseen, ended, nofault; V, LO and HI are 0 to 1000000000, C is 0 to 8"
+        }
+        _ => "try again with more memory",
+    }
+}

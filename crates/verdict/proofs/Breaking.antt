@@ -1,0 +1,57 @@
+-- The line of the first check that an outcome breaks, and that a schedule has no letter that is refused.
+use Rattle.std.proofs.Common.{◌≡◌, ℕ, suc, ◌<◌, Bool, true, false, cond, not, List, ◌∷◌, ◌++◌, length, get_or, take, drop, drop-cons, Option, Some, None, IfSome, MatchOption, slice_get, refl, ap, sym, subst, ◌∙◌}
+use Rattle.std.specs.Prelude.{nat_lt}
+use Rattle.std.specs.List.{position, position_or_len}
+use Rattle.std.proofs.lemmas.Bool.{ltb-true}
+use Rattle.std.proofs.lemmas.List.{take-append-drop}
+use Rattle.std.proofs.lemmas.Option.{slice_get-get_or}
+use Rattle.regmodel.specs.declared.clauses.Clause.{Clause}
+use Rattle.regmodel.specs.declared.clauses.Clause.TheVariants as clause
+use Rattle.regmodel.specs.declared.letters.Letter.{Letter}
+use Rattle.regmodel.specs.declared.letters.Letter.TheVariants.{Run}
+use Rattle.regmodel.specs.declared.outcomes.ProcEnd.{ProcEnd}
+use Rattle.regmodel.specs.Judging.{meets}
+use Rattle.regmodel.specs.Program.{Program}
+use Rattle.regmodel.specs.Schedules.{IsSchedule, is_possible}
+use Rattle.reglang.specs.Checks.{ChecksAt, check_lines}
+use Rattle.reglang.specs.Contents.{Contents}
+use Rattle.reglang.specs.Grammar.{Spells}
+use Rattle.verdict.specs.Breaches.{IsBrokenLine}
+
+first_there : (t : Bool) (i n place : ℕ) → nat_lt i n ≡ t → Some place ≡ cond t (Some i) None → place < n
+first_there true i n place h e = let same : place ≡ i = cc in subst (λ k. k < n) (sym same) (ltb-true i n h)
+first_there false i n place h e = absurd cc
+
+place_there : {X : Type 0} (test : X → Bool) (xs : List X) (place : ℕ) → Some place ≡ position test xs → place < length xs
+place_there test xs place e = first_there (nat_lt (position_or_len test xs) (length xs)) (position_or_len test xs) (length xs) place refl e
+
+line_is : (text : List ℕ) (clauses : List Clause) (ends : List ProcEnd) (place : ℕ) (own : Clause) (line : Option ℕ) → Some place ≡ position (λ clause. not (meets clause ends)) clauses → line ≡ slice_get (check_lines text) place → slice_get clauses place ≡ Some own →
+    MatchOption line ⊥ (ChecksAt text own) → MatchOption line ⊥ (IsBrokenLine text clauses ends)
+line_is text clauses ends place own None first number there none = none
+line_is text clauses ends place own (Some line) first number there says = record {
+  place = place;
+  first = sym first;
+  number = sym number;
+  clause = own;
+  broken = there;
+  says = says;
+}
+
+-- the line of the first clause that is broken, in a text that spells a source
+pub broken_line_is : (text : List ℕ) (source : Contents) (ends : List ProcEnd) (place : ℕ) (line : Option ℕ) → Some place ≡ position (λ clause. not (meets clause ends)) source.clauses → line ≡ slice_get (check_lines text) place → Spells text source →
+    ((s : Contents) → Spells text s → IfSome (slice_get s.clauses place) (λ own. MatchOption line ⊥ (ChecksAt text own))) → MatchOption line ⊥ (IsBrokenLine text source.clauses ends)
+broken_line_is text source ends place line first number spelled says =
+    let there = slice_get-get_or source.clauses place clause.NoFault (place_there (λ own. not (meets own ends)) source.clauses place first) in
+    line_is text source.clauses ends place (get_or source.clauses place clause.NoFault) line first number there
+    (subst (λ found. IfSome found (λ own. MatchOption line ⊥ (ChecksAt text own))) there (says source spelled))
+
+-- a schedule has no letter that is not possible after those before it
+pub never_refused : (programs others : List Program) (crashes budget : ℕ) (w before : List Letter) (place : ℕ) → IsSchedule programs crashes w → others ≡ programs → budget ≡ crashes → before ≡ take place w → place < length w →
+    IfSome (slice_get w place) (λ letter. is_possible others budget before letter ≡ false) → ⊥
+never_refused programs others crashes budget w before place schedule same_programs same_budget same_letters inside refused =
+    let a = get_or w place (Run 0) in
+    let whole = sym (take-append-drop place w) ∙ ap (λ v. take place w ++ v) (drop-cons w place (Run 0) inside) in
+    let possible = schedule (take place w) a (drop (suc place) w) whole in
+    let not_possible : is_possible others budget before a ≡ false =
+    subst (λ found. IfSome found (λ letter. is_possible others budget before letter ≡ false)) (slice_get-get_or w place (Run 0) inside) refused in
+    absurd cc

@@ -1,0 +1,2 @@
+mod Breaking
+mod Written

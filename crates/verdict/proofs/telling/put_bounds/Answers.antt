@@ -1,0 +1,28 @@
+use Rattle.std.proofs.Common.{codes}
+use Rattle.std.proofs.lemmas.Result.{err_from_is_err_and}
+use Rattle.report.proofs.Texts.{fault_before, after_text}
+use Rattle.verdict.specs.VerdictText as spec
+use Rattle.verdict.proofs.telling.put_bounds.Goals as goal
+
+pub returns-in_err-put : goal.returns-in_err-put
+returns-in_err-put g c =
+    let p = err_from_is_err_and c.from_residual.result c.from_residual.ensures.1 in
+    rw (p.1, p.2) (fault_before (fault_before (fault_before (fault_before c.in_err-put.ensures (spec.letters_text c.args.length)) (codes " and ")) (spec.crashes_text c.args.crashes)) (codes "\n"))
+
+pub returns-in_err-put_letters : goal.returns-in_err-put_letters
+returns-in_err-put_letters g c =
+    let p = err_from_is_err_and c.from_residual-in_err-put_letters.result c.from_residual-in_err-put_letters.ensures.1 in
+    rw (p.1, p.2) (fault_before (fault_before (fault_before (after_text c.in_ok-put.ensures c.in_err-put_letters.ensures) (codes " and ")) (spec.crashes_text c.args.crashes)) (codes "\n"))
+
+pub returns-in_err-put-2 : goal.returns-in_err-put-2
+returns-in_err-put-2 g c =
+    let p = err_from_is_err_and c.from_residual-in_err-put-2.result c.from_residual-in_err-put-2.ensures.1 in
+    rw (p.1, p.2) (fault_before (fault_before (after_text (after_text c.in_ok-put.ensures c.in_ok-put_letters.ensures) c.in_err-put-2.ensures) (spec.crashes_text c.args.crashes)) (codes "\n"))
+
+pub returns-in_err-put_crashes : goal.returns-in_err-put_crashes
+returns-in_err-put_crashes g c =
+    let p = err_from_is_err_and c.from_residual-in_err-put_crashes.result c.from_residual-in_err-put_crashes.ensures.1 in
+    rw (p.1, p.2) (fault_before (after_text (after_text (after_text c.in_ok-put.ensures c.in_ok-put_letters.ensures) c.in_ok-put-2.ensures) c.in_err-put_crashes.ensures) (codes "\n"))
+
+pub returns : goal.returns
+returns g c = after_text (after_text (after_text (after_text c.in_ok-put.ensures c.in_ok-put_letters.ensures) c.in_ok-put-2.ensures) c.in_ok-put_crashes.ensures) c.put-3.ensures

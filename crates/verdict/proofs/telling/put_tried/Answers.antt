@@ -1,0 +1,18 @@
+use Rattle.std.proofs.Common.{codes}
+use Rattle.std.proofs.lemmas.Result.{err_from_is_err_and}
+use Rattle.report.proofs.Texts.{fault_before, after_text}
+use Rattle.verdict.specs.VerdictText as spec
+use Rattle.verdict.proofs.telling.put_tried.Goals as goal
+
+pub returns-in_err-put_counted : goal.returns-in_err-put_counted
+returns-in_err-put_counted g c =
+    let p = err_from_is_err_and c.from_residual.result c.from_residual.ensures.1 in
+    rw (p.1, p.2) (fault_before (fault_before c.in_err-put_counted.ensures (codes " tried, ")) (spec.counted c.args.outcomes (codes "outcome") (codes "s")))
+
+pub returns-in_err-put : goal.returns-in_err-put
+returns-in_err-put g c =
+    let p = err_from_is_err_and c.from_residual-in_err-put.result c.from_residual-in_err-put.ensures.1 in
+    rw (p.1, p.2) (fault_before (after_text c.in_ok-put_counted.ensures c.in_err-put.ensures) (spec.counted c.args.outcomes (codes "outcome") (codes "s")))
+
+pub returns : goal.returns
+returns g c = after_text (after_text c.in_ok-put_counted.ensures c.in_ok-put.ensures) c.put_counted-2.ensures

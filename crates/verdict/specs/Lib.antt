@@ -1,0 +1,4 @@
+pub mod Breaches
+pub mod ExplanationText
+pub mod Shown
+pub mod VerdictText

@@ -1,0 +1,92 @@
+-- Whether a source holds, in words.
+use Rattle.std.specs.Prelude.{ℕ, ◌==◌, Bool, false, if◌then◌else◌, List, [], ◌++◌, length, Some, None, codes, decimal}
+use Rattle.std.specs.List.{list_any}
+use Rattle.regmodel.specs.declared.limits.TheConstants.{MOST_LETTERS}
+use Rattle.regmodel.specs.Judging.{is_running}
+use Rattle.regmodel.specs.Letters.{Schedule}
+use Rattle.regmodel.specs.PlainReport.{Findings}
+use Rattle.regmodel.specs.ScheduleText.{schedule_text}
+use Rattle.reglang.specs.Checks.{line_at}
+use Rattle.drawing.specs.DrawingText.{drawing_text}
+use Rattle.verdict.specs.Shown.{shown}
+use Rattle.verdict.specs.declared.breaches.Breach.{Breach}
+use Rattle.verdict.specs.declared.breaches.Verdict.{Verdict}
+use Rattle.verdict.specs.declared.reaches.Reach.{Reach}
+
+-- the ending of a noun, but for one thing
+abbrev pub ending_text : ℕ → List ℕ → List ℕ
+ending_text n ending = if n == 1 then [] else ending
+
+-- a number of things: a noun, and its ending
+abbrev pub counted : ℕ → List ℕ → List ℕ → List ℕ
+counted n noun ending = decimal n ++ codes " " ++ noun ++ ending_text n ending
+
+-- a number of letters
+abbrev pub letters_text : ℕ → List ℕ
+letters_text n = counted n (codes "letter") (codes "s")
+
+-- how many processes may crash
+abbrev pub crashes_text : ℕ → List ℕ
+crashes_text n = if n == 0 then codes "no crashes" else counted n (codes "crash") (codes "es")
+
+-- where a line stands
+abbrev pub place_text : ℕ → List ℕ
+place_text line = codes " (line " ++ decimal line ++ codes ")\n"
+
+-- that a schedule of so many letters fails, and the check line that it breaks, with its number
+abbrev pub failing_text : List ℕ → ℕ → List ℕ → ℕ → List ℕ
+failing_text path letters line number =
+    path ++ codes ": a schedule of " ++ letters_text letters ++ codes " fails: " ++ line ++ place_text number ++ codes "\n"
+
+-- the command that replays a schedule
+abbrev pub replay_text : List ℕ → Schedule → List ℕ
+replay_text path w = codes "\nregtry replay " ++ path ++ codes " '" ++ schedule_text w ++ codes "'\n"
+
+-- the check that a schedule breaks, the schedule as a drawing, and the command that replays it
+abbrev pub breach_text : List ℕ → List ℕ → Breach → List ℕ
+breach_text path text breach =
+    failing_text path (length breach.schedule) (shown (line_at breach.line text)) breach.line ++ drawing_text false breach.drawing ++ replay_text path breach.schedule
+
+-- whether schedules were cut off: some process still wants an access after as many letters as there may be
+abbrev pub is_cut_off : Findings → Bool
+is_cut_off findings = list_any (λ ends. list_any is_running ends) findings.outcomes
+
+-- how much was tried, and how far
+abbrev pub reach_of : Findings → Reach
+reach_of findings = record {
+  tried = findings.tried;
+  outcomes = length findings.outcomes;
+  length = findings.length;
+  crashes = findings.crashes;
+  cut_off = is_cut_off findings;
+}
+
+-- how much was tried
+abbrev pub tried_text : ℕ → ℕ → List ℕ
+tried_text tried outcomes = counted tried (codes "schedule") (codes "s") ++ codes " tried, " ++ counted outcomes (codes "outcome") (codes "s")
+
+-- how far was explored
+abbrev pub bounds_text : ℕ → ℕ → List ℕ
+bounds_text limit crashes = codes ", up to " ++ letters_text limit ++ codes " and " ++ crashes_text crashes ++ codes "\n"
+
+-- what can be done about schedules that were cut off at this length
+abbrev pub advice_text : ℕ → List ℕ
+advice_text limit = if limit == MOST_LETTERS then codes ", and 64 letters are the most.\n" else codes ": give a greater --length, up to 64.\n"
+
+-- that schedules of this length were cut off
+abbrev pub cut_off_text : ℕ → List ℕ
+cut_off_text limit =
+    codes "Some schedules were cut off at " ++ letters_text limit ++ codes ", with a process still running; longer ones were not tried" ++ advice_text limit
+
+-- the same, where they were
+abbrev pub caution_text : Bool → ℕ → List ℕ
+caution_text cut_off limit = if cut_off then cut_off_text limit else []
+
+-- that no schedule fails, how much was tried, and whether schedules were cut off
+abbrev pub holding_text : List ℕ → Reach → List ℕ
+holding_text path reach =
+    path ++ codes ": no schedule fails: " ++ tried_text reach.tried reach.outcomes ++ bounds_text reach.length reach.crashes ++ caution_text reach.cut_off reach.length
+
+-- what is told of a source in the file of this path
+abbrev pub verdict_text : List ℕ → List ℕ → Verdict → List ℕ
+verdict_text path text verdict = elim verdict.breach [ Some breach ↦ breach_text path text breach | None ↦ holding_text path (reach_of verdict.report) ]

@@ -1,0 +1,95 @@
+//! What a schedule that fails breaks.
+
+ghost use Rattle.std.specs.Prelude.{◌≡◌, ◌≤◌, false, map};
+ghost use Rattle.regmodel.specs.Judging.{meets_all};
+ghost use Rattle.regmodel.specs.Schedules.{IsSchedule};
+ghost use Rattle.regmodel.specs.Summary.{IsRefusedWith};
+ghost use Rattle.regmodel.specs.declared.limits.TheConstants.{MOST_CRASHES};
+ghost use Rattle.reglang.specs.Grammar.{Spells};
+ghost use Rattle.reglang.specs.Sources.{contents_of, registers_of, source_programs};
+ghost use Rattle.drawing.specs.Pictures.{IsPictureOf};
+ghost use Rattle.verdict.specs.Breaches.{IsBreachOf, IsBrokenLine};
+
+use drawing::{Drawing, draw};
+use machine::Machine;
+use reglang::{Source, check_line};
+use regmodel::{Outcome, Prefix};
+use report::Report;
+use world::World;
+
+/// What a schedule that fails breaks.
+#[derive(Debug, Drop)]
+pub struct Breach {
+    /// The schedule.
+    pub schedule: Prefix,
+    /// The line of the first check that its outcome breaks, counted from 1.
+    pub line: u64,
+    /// What is drawn of it.
+    pub drawing: Drawing,
+}
+
+/// What was found of a source, and what its least failing schedule breaks, where one fails.
+#[derive(Debug, Drop)]
+pub struct Verdict {
+    /// What was found.
+    pub report: Report,
+    /// What the least failing schedule breaks.
+    pub breach: Option<Breach>,
+}
+
+/// What a schedule of a source breaks that fails: the first check that its outcome breaks has the line, and the machines, one a process,
+/// lead to the drawing. Takes no memory.
+pub fn breach_of(
+    text: &[u8],
+    source: &Source,
+    machines: Vec<Box<dyn Machine + Send>>,
+    crashes: u32,
+    schedule: &Prefix,
+    outcome: &Outcome,
+) -> Breach
+    requires machines { map program machines.items ≡ source_programs source.now }
+    requires few { crashes ≤ MOST_CRASHES }
+    requires spelled { Spells text.now (contents_of source.now) }
+    requires refused { IsRefusedWith (source_programs source.now) crashes (meets_all (contents_of source.now).clauses) schedule.now outcome.now }
+    ensures { IsBreachOf text.now (contents_of source.now) schedule.now outcome.now result }
+{
+    Breach {
+        schedule: schedule.copy(),
+        line: broken_line(text, source, outcome),
+        drawing: drawing_of(source, machines, crashes, schedule),
+    }
+}
+
+/// The line of the first check of a source that an outcome breaks.
+fn broken_line(text: &[u8], source: &Source, outcome: &Outcome) -> u64
+    requires spelled { Spells text.now (contents_of source.now) }
+    requires refused { meets_all (contents_of source.now).clauses outcome.now ≡ false }
+    ensures { IsBrokenLine text.now (contents_of source.now).clauses outcome.now result }
+{
+    let Some(place) = source.clauses().first_broken(outcome) else {
+        unreachable!()
+    };
+    let Some(line) = check_line(text, place) else {
+        unreachable!()
+    };
+    line
+}
+
+/// What is drawn of a schedule of a source.
+fn drawing_of(
+    source: &Source,
+    machines: Vec<Box<dyn Machine + Send>>,
+    crashes: u32,
+    schedule: &Prefix,
+) -> Drawing
+    requires machines { map program machines.items ≡ source_programs source.now }
+    requires few { crashes ≤ MOST_CRASHES }
+    requires schedule { IsSchedule (source_programs source.now) crashes schedule.now }
+    ensures { IsPictureOf (source_programs source.now) (registers_of source.now) schedule.now result }
+{
+    let mut world = World::new(machines, source.registers(), crashes);
+    match draw(&mut world, source.registers(), schedule) {
+        Ok(drawing) => drawing,
+        Err(_) => unreachable!(),
+    }
+}
