@@ -1,1 +1,2 @@
 mod BoundedReads
+mod Verdicts

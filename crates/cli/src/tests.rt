@@ -1,6 +1,8 @@
 //! The program over files in memory.
 
+mod agreements;
 mod asking;
+mod checks;
 mod drawings;
 mod examples;
 mod files;

@@ -6,15 +6,13 @@ ghost use Rattle.reglang.specs.Sources.{contents_of, source_programs};
 ghost use Rattle.cli.specs.Findings.{IsRunFault, IsVerdictOf};
 
 use crate::answers::report_of;
-use explorer::Report;
 use machine::Machine;
 use reglang::Source;
 use regmodel::Settings;
-use regmodel::laws::the_first_refused_is_a_schedule;
 use std::alloc::Global;
 use std::sync::Wait;
 use std::thread::Threads;
-use verdict::{Breach, Verdict, breach_of};
+use verdict::{Verdict, verdict_on};
 
 /// What is found of a source that a text spells, by a list of its machines for each worker, and what the least failing schedule breaks, as
 /// one more list shows; or the code of the fault where there is no report.
@@ -35,17 +33,5 @@ pub fn verdict_of<H: Threads + Wait + Sync>(
     ensures code { IfErr result IsRunFault }
 {
     let report = report_of(rt, alloc, source, settings, lists)?;
-    the_first_refused_is_a_schedule();
-    let breach = match report.least() {
-        Some((schedule, outcome)) => Some(breach_of(
-            text,
-            source,
-            own,
-            settings.crashes(),
-            schedule,
-            outcome,
-        )),
-        None => None,
-    };
-    Ok(Verdict { report, breach })
+    Ok(verdict_on(text, source, own, settings, report))
 }

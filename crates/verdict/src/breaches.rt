@@ -1,19 +1,23 @@
 //! What a schedule that fails breaks.
 
-ghost use Rattle.std.specs.Prelude.{◌≡◌, ◌≤◌, false, map};
+ghost use Rattle.std.specs.Prelude.{◌≡◌, ◌≤◌, List, Some, false, map};
 ghost use Rattle.regmodel.specs.Judging.{meets_all};
+ghost use Rattle.regmodel.specs.Letters.{Schedule};
+ghost use Rattle.regmodel.specs.PlainReport.{IsPlainReport};
 ghost use Rattle.regmodel.specs.Schedules.{IsSchedule};
 ghost use Rattle.regmodel.specs.Summary.{IsRefusedWith};
+ghost use Rattle.regmodel.specs.declared.outcomes.ProcEnd.{ProcEnd};
 ghost use Rattle.regmodel.specs.declared.limits.TheConstants.{MOST_CRASHES};
 ghost use Rattle.reglang.specs.Grammar.{Spells};
 ghost use Rattle.reglang.specs.Sources.{contents_of, registers_of, source_programs};
 ghost use Rattle.drawing.specs.Pictures.{IsPictureOf};
-ghost use Rattle.verdict.specs.Breaches.{IsBreachOf, IsBrokenLine};
+ghost use Rattle.verdict.specs.Breaches.{IsBreachFor, IsBreachOf, IsBrokenLine};
 
 use drawing::{Drawing, draw};
 use machine::Machine;
 use reglang::{Source, check_line};
-use regmodel::{Outcome, Prefix};
+use regmodel::laws::the_first_refused_is_a_schedule;
+use regmodel::{Outcome, Prefix, Settings};
 use report::Report;
 use world::World;
 
@@ -37,9 +41,50 @@ pub struct Verdict {
     pub breach: Option<Breach>,
 }
 
+/// What is found of the source that a text spells, and what the least failing schedule breaks, where one fails. The machines, one a process,
+/// lead to its drawing. Takes no memory.
+pub fn verdict_on(
+    text: &[u8],
+    source: &Source,
+    machines: Vec<Box<dyn Machine + Send>>,
+    settings: Settings,
+    report: Report,
+) -> Verdict
+    requires machines { map program machines.items ≡ source_programs source.now }
+    requires spelled { Spells text.now (contents_of source.now) }
+    requires found { IsPlainReport (source_programs source.now) settings.length settings.crashes (meets_all (contents_of source.now).clauses) report }
+    ensures report { result.report ≡ report }
+    ensures breach { IsBreachFor text.now (contents_of source.now) report.least result.breach }
+{
+    the_first_refused_is_a_schedule();
+    let breach = breach_for(text, source, machines, settings.crashes(), &report);
+    Verdict { report, breach }
+}
+
+/// What the least failing schedule of a report breaks, where one fails.
+fn breach_for(
+    text: &[u8],
+    source: &Source,
+    machines: Vec<Box<dyn Machine + Send>>,
+    crashes: u32,
+    report: &Report,
+) -> Option<Breach>
+    requires machines { map program machines.items ≡ source_programs source.now }
+    requires few { crashes ≤ MOST_CRASHES }
+    requires spelled { Spells text.now (contents_of source.now) }
+    requires refused { (w : Schedule) (ends : List ProcEnd) → report.now.least ≡ Some (w, ends) → IsRefusedWith (source_programs source.now) crashes (meets_all (contents_of source.now).clauses) w ends }
+    ensures { IsBreachFor text.now (contents_of source.now) report.now.least result }
+{
+    let Some((schedule, outcome)) = report.least() else {
+        return None;
+    };
+    let breach = breach_of(text, source, machines, crashes, schedule, outcome);
+    Some(breach)
+}
+
 /// What a schedule of a source breaks that fails: the first check that its outcome breaks has the line, and the machines, one a process,
 /// lead to the drawing. Takes no memory.
-pub fn breach_of(
+fn breach_of(
     text: &[u8],
     source: &Source,
     machines: Vec<Box<dyn Machine + Send>>,

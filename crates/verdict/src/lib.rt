@@ -8,6 +8,6 @@ mod reaches;
 mod shown;
 mod telling;
 
-pub use breaches::{Breach, Verdict, breach_of};
+pub use breaches::{Breach, Verdict, verdict_on};
 pub use explaining::write_explanation;
 pub use telling::write_verdict;

@@ -62,11 +62,7 @@ fn write_failing<W: Write>(
 }
 
 /// Writes the command that replays a schedule.
-fn write_replay<W: Write>(
-    path: &[u8],
-    schedule: &Prefix,
-    out: &mut W,
-) -> Result<(), WriteFault>
+fn write_replay<W: Write>(path: &[u8], schedule: &Prefix, out: &mut W) -> Result<(), WriteFault>
     ensures { Writes (W.contents out.old) (W.contents out.new) (spec.replay_text path.now schedule.now) (write_fault_of result) }
 {
     let mut block = Block::new();

@@ -30,6 +30,10 @@ pub returns-in_err-push-clause-refused : goal.returns-in_err-push-clause-refused
 returns-in_err-push-clause-refused g c =
     let p = err_from_is_err_and c.from_residual-in_err-push.result c.from_residual-in_err-push.ensures.1 in rw (p.1, p.2) tt
 
+pub returns-in-Check-clause-refused : goal.returns-in-Check-clause-refused
+returns-in-Check-clause-refused g c =
+    rw c.in-Check.is (record { source = contents_of c.in-Ok.source; spelled = c.in-Ok.ensures.spelled; fault = c.in-Err-verdict_of.ensures.code })
+
 pub returns-in-Explore-clause-refused : goal.returns-in-Explore-clause-refused
 returns-in-Explore-clause-refused g c =
     rw c.in-Explore.is (record { source = contents_of c.in-Ok.source; spelled = c.in-Ok.ensures.spelled; fault = c.in-Err-report_of.ensures.code })
@@ -44,4 +48,7 @@ last_has P x xs ys e h = All-contains P ys x h (subst (λ zs. Contains zs x) (sy
 
 pub standing_after-requires : goal.standing_after-requires
 standing_after-requires g c =
-    last_has (λ list. map (λ b. (own-1.entry b.vtable).1.program b.value) list.items ≡ source_programs c.in-Ok.source) c.in-Some.machines c.pop.new.self.items c.loop-list.lists.items c.in-Some.ensures.items c.loop-list.invariant.machines
+    last_has (λ list. map (λ b. (own-1.entry b.vtable).1.program b.value) list.items ≡ source_programs c.in-Ok.source) c.in-Some-pop.machines c.pop-in-Replay.new.self.items c.loop-list.lists.items c.in-Some-pop.ensures.items c.loop-list.invariant.machines
+
+pub drawing_of-requires : goal.drawing_of-requires
+drawing_of-requires g c = ?
