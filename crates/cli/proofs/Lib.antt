@@ -1,2 +1,2 @@
 mod BoundedReads
-mod Verdicts
+mod VerdictsFound

@@ -13,12 +13,37 @@ const LONG: &[u8] = b"registers 1\nprocess\nrepeat 65\nwrite 0 1\ndone\nend\n";
 /// Checks of sources: the words, the status and what is printed.
 const CHECKS: [(&[u8], &[&str], u8, &[u8]); 9] = [
     (HALTS, &["regtry", "check", "FILE"], 0, b""),
-    (TWO_WRITERS, &["regtry", "check", "FILE", "--crashes", "1"], 0, b""),
-    (TWO_WRITERS, &["regtry", "check", "FILE", "--length", "1"], 0, b""),
-    (TWO_WRITERS, &["regtry", "check", "FILE", "--length", "0", "--text"], 0, b""),
+    (
+        TWO_WRITERS,
+        &["regtry", "check", "FILE", "--crashes", "1"],
+        0,
+        b"",
+    ),
+    (
+        TWO_WRITERS,
+        &["regtry", "check", "FILE", "--length", "1"],
+        0,
+        b"",
+    ),
+    (
+        TWO_WRITERS,
+        &["regtry", "check", "FILE", "--length", "0", "--text"],
+        0,
+        b"",
+    ),
     (LONG, &["regtry", "check", "FILE", "--workers", "1"], 0, b""),
-    (SPLITTER, &["regtry", "check", "FILE", "--length", "8"], 1, b""),
-    (SPLITTER, &["regtry", "check", "FILE", "--workers", "16", "--text"], 1, b""),
+    (
+        SPLITTER,
+        &["regtry", "check", "FILE", "--length", "8"],
+        1,
+        b"",
+    ),
+    (
+        SPLITTER,
+        &["regtry", "check", "FILE", "--workers", "16", "--text"],
+        1,
+        b"",
+    ),
     (SAME_NAME, &["regtry", "check", "FILE"], 1, b""),
     (FAULTS, &["regtry", "check", "FILE"], 0, b""),
 ];

@@ -28,12 +28,7 @@ pub fn assert_prints<H: Abort + Threads + Wait + Sync + AllocGlobal>(
         words.push(schedule)?;
     }
     let path = words.get(2).copied().ok_or("no file is named")?;
-    let mut text = None;
-    for (name, content) in files {
-        if *name == path {
-            text = Some(content.as_bytes());
-        }
-    }
+    let text = text_named(files, path).map(|text| text.as_bytes());
     let reply = asked(rt, words.as_slice(), text);
     let (wanted, other) = match status {
         0 | 1 => (&reply.out, &reply.err),
@@ -43,6 +38,16 @@ pub fn assert_prints<H: Abort + Threads + Wait + Sync + AllocGlobal>(
     assert_eq!(rt; wanted.as_slice(), printed.as_bytes(), "{line}");
     assert!(rt; other.is_empty(), "{line}");
     Ok(())
+}
+
+/// The text of the file of this name.
+fn text_named<'a>(files: &[(&str, &'a str)], path: &str) -> Option<&'a str> {
+    for (name, text) in files {
+        if *name == path {
+            return Some(*text);
+        }
+    }
+    None
 }
 
 /// What stands after a word at the beginning of a line of a text.
@@ -65,58 +70,46 @@ fn words_of<'a>(alloc: Global, line: &'a str) -> Result<Vec<&'a str>, Fail> {
     Ok(words)
 }
 
-/// Asserts that the schedule told as the least failing one, where one is, ends in a drawing as it does in a replay: the last line has how
-/// each process stands, and the one before it ends with what each register holds.
+/// Asserts that the schedule told as the least failing one, where one is, ends in a drawing as it does in a replay.
 pub fn assert_drawn_as_replayed<H: Abort + Threads + Wait + Sync + AllocGlobal>(
     rt: &H,
     files: &[(&str, &str)],
     shown: &str,
 ) -> Result<(), Fail> {
-    let (Some(path), Some(schedule)) = (
-        shown.split_whitespace().nth(3),
-        told_after(shown, "least "),
-    ) else {
+    let path = shown.split_whitespace().nth(3).ok_or("no file is named")?;
+    let (Some(text), Some(schedule)) = (text_named(files, path), told_after(shown, "least ")) else {
         return Ok(());
     };
-    let mut text = None;
-    for (name, content) in files {
-        if *name == path && schedule != "none" {
-            text = Some(*content);
-        }
+    if schedule == "none" {
+        return Ok(());
     }
-    let Some(text) = text else {
-        return Ok(());
-    };
-    let replayed = asked(
-        rt,
-        &["regtry", "replay", path, schedule],
-        Some(text.as_bytes()),
-    );
+    let words = ["regtry", "replay", path, schedule];
+    let replayed = asked(rt, words.as_slice(), Some(text.as_bytes()));
     let words = ["regtry", "show", path, schedule, "--all"];
     let drawn = asked(rt, words.as_slice(), Some(text.as_bytes()));
-    assert_eq!(rt; drawn.status, replayed.status, "{shown}");
-    let replayed = str::from_utf8(replayed.out.as_slice()).map_err(|_| "no text")?;
-    let drawn = str::from_utf8(drawn.out.as_slice()).map_err(|_| "no text")?;
-    let (mut last, mut before) = ("", "");
-    for line in drawn.split('\n') {
-        if !line.is_empty() {
-            before = last;
-            last = line;
-        }
-    }
+    assert_eq!(rt; (replayed.status, drawn.status), (0, 0), "{shown}");
+    assert_end_alike(rt, replayed.out.as_slice(), drawn.out.as_slice())
+}
+
+/// Asserts that the last line of a drawing has how each process stands, as a replay tells it, and the line before it ends with what
+/// each register holds.
+fn assert_end_alike<H: Abort + AllocGlobal>(
+    rt: &H,
+    replayed: &[u8],
+    drawn: &[u8],
+) -> Result<(), Fail> {
+    let replayed = str::from_utf8(replayed).map_err(|_| "no text")?;
+    let drawn = str::from_utf8(drawn).map_err(|_| "no text")?;
     let ends = told_after(replayed, "outcome ").ok_or("no outcome")?;
-    let alloc = rt.alloc();
-    assert_eq!(rt;
-        words_of(alloc, ends)?.as_slice(),
-        words_of(alloc, last)?.as_slice(),
-        "{shown}"
-    );
     let registers = told_after(replayed, "registers ").ok_or("no registers")?;
-    let held = words_of(alloc, before)?;
-    assert!(rt;
-        held.as_slice()
-            .ends_with(words_of(alloc, registers)?.as_slice()),
-        "{shown}"
+    let (lines, last) = drawn.trim_end().rsplit_once('\n').ok_or("one line")?;
+    let (_, before) = lines.rsplit_once('\n').ok_or("two lines")?;
+    let (ends, last) = (words_of(rt.alloc(), ends)?, words_of(rt.alloc(), last)?);
+    assert_eq!(rt; ends.as_slice(), last.as_slice());
+    let (registers, before) = (
+        words_of(rt.alloc(), registers)?,
+        words_of(rt.alloc(), before)?,
     );
+    assert!(rt; before.as_slice().ends_with(registers.as_slice()));
     Ok(())
 }

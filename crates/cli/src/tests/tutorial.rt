@@ -68,7 +68,7 @@ check ended
 );
 
 /// The status of each command line on it, and what it prints.
-const RUNS_READ_MENDED: [(u8, &str); 3] = [
+const RUNS_READ_MENDED: [(u8, &str); 4] = [
     (
         1,
         "$ ./regtry explore leader.reg --length 4 --crashes 0 --workers 1 --cut 0 --room 0
@@ -96,6 +96,18 @@ registers 0
         "$ ./regtry replay leader.reg 'R0 R1 R0 R1'
 outcome done 1; done 1
 registers 1
+",
+    ),
+    (
+        0,
+        "$ ./regtry show leader.reg 'R0 R1 R0 R1'
+step  process 0   process 1   r0
+0                             0
+1     read 0 = 0              0
+2                 read 0 = 0  0
+3     write 0 1               1*
+4                 write 0 1   1
+      done 1      done 1
 ",
     ),
 ];

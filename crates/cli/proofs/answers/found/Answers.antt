@@ -51,4 +51,5 @@ standing_after-requires g c =
     last_has (λ list. map (λ b. (own-1.entry b.vtable).1.program b.value) list.items ≡ source_programs c.in-Ok.source) c.in-Some-pop.machines c.pop-in-Replay.new.self.items c.loop-list.lists.items c.in-Some-pop.ensures.items c.loop-list.invariant.machines
 
 pub drawing_of-requires : goal.drawing_of-requires
-drawing_of-requires g c = ?
+drawing_of-requires g c =
+    last_has (λ list. map (λ b. (own-1.entry b.vtable).1.program b.value) list.items ≡ source_programs c.in-Ok.source) c.in-Some-pop-2.machines c.pop-in-Show.new.self.items c.loop-list.lists.items c.in-Some-pop-2.ensures.items c.loop-list.invariant.machines

@@ -1,5 +1,5 @@
 use Rattle.reglang.specs.Sources.{contents_of}
-use Rattle.cli.proofs.Verdicts.{verdict_is}
+use Rattle.cli.proofs.VerdictsFound.{verdict_is}
 use Rattle.cli.proofs.verdicts.verdict_of.Goals as goal
 
 pub returns-clause-verdict : goal.returns-clause-verdict

@@ -114,7 +114,7 @@ check nofault
 ];
 
 /// The status of each command line, and what it prints.
-const RUNS: [(u8, &str); 8] = [
+const RUNS: [(u8, &str); 9] = [
     (
         0,
         "$ ./regtry explore examples/writer_and_reader.reg --length 2 --crashes 0 --workers 1 --cut 0 --room 0
@@ -126,6 +126,16 @@ outcomes 2
 outcome done; done 0
 outcome done; done 5
 least none
+",
+    ),
+    (
+        0,
+        "$ ./regtry show examples/writer_and_reader.reg 'R0 R1'
+step  process 0  process 1   r0
+0                            0
+1     write 0 5              5*
+2                read 0 = 5  5
+      done       done 5
 ",
     ),
     (
