@@ -5,6 +5,7 @@ mod asking;
 mod checks;
 mod drawings;
 mod examples;
+mod explanations;
 mod files;
 mod least;
 mod native_machines;

@@ -34,8 +34,10 @@ check ended
 /// The status of each command line on it, and what it prints.
 const RUNS_FIRST: [(u8, &str); 1] = [(
     2,
-    "$ ./regtry explore leader.reg --length 4 --crashes 0 --workers 1 --cut 0 --room 0
-regtry: line 4 code 4
+    "$ ./regtry check leader.reg
+leader.reg:4: a word that has no place here: 0
+  read 0 v0
+give the line its form: registers NUMBER, set TARGET EXPR, read TARGET OPERAND, write OPERAND EXPR, if EXPR, repeat EXPR, emit EXPR, use KIND NUMBERS; process, end, else, fi, done and halt stand alone
 ",
 )];
 
@@ -68,7 +70,23 @@ check ended
 );
 
 /// The status of each command line on it, and what it prints.
-const RUNS_READ_MENDED: [(u8, &str); 4] = [
+const RUNS_READ_MENDED: [(u8, &str); 5] = [
+    (
+        1,
+        "$ ./regtry check leader.reg
+leader.reg: a schedule of 4 letters fails: check atmost 1 1 (line 21)
+
+step  process 0   process 1   r0
+0                             0
+1     read 0 = 0              0
+2                 read 0 = 0  0
+3     write 0 1               1*
+4                 write 0 1   1
+      done 1      done 1
+
+regtry replay leader.reg 'R0 R1 R0 R1'
+",
+    ),
     (
         1,
         "$ ./regtry explore leader.reg --length 4 --crashes 0 --workers 1 --cut 0 --room 0
@@ -141,7 +159,13 @@ check ended
 );
 
 /// The status of each command line on it, and what it prints.
-const RUNS_ANNOUNCED: [(u8, &str); 3] = [
+const RUNS_ANNOUNCED: [(u8, &str); 4] = [
+    (
+        0,
+        "$ ./regtry check leader.reg
+leader.reg: no schedule fails: 3 schedules tried, 3 outcomes, up to 64 letters and no crashes
+",
+    ),
     (
         0,
         "$ ./regtry explore leader.reg --length 4 --crashes 0 --workers 1 --cut 0 --room 0

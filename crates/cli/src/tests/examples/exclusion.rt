@@ -1,5 +1,6 @@
 //! Mutual exclusion.
 
+use crate::tests::agreements::assert_checked_as_explored;
 use crate::tests::transcripts::{assert_drawn_as_replayed, assert_prints};
 use std::test::Fail;
 
@@ -258,6 +259,7 @@ fn each_command_prints_what_is_shown(rt: HostRuntime) -> Result<(), Fail> {
     for (status, shown) in RUNS {
         assert_prints(&rt, FILES.as_slice(), status, shown)?;
         assert_drawn_as_replayed(&rt, FILES.as_slice(), shown)?;
+        assert_checked_as_explored(&rt, FILES.as_slice(), shown)?;
     }
     Ok(())
 }

@@ -1,5 +1,6 @@
 //! Splitters, and what is made of them.
 
+use crate::tests::agreements::assert_checked_as_explored;
 use crate::tests::transcripts::{assert_drawn_as_replayed, assert_prints};
 use std::test::Fail;
 
@@ -77,7 +78,23 @@ check ended
 ];
 
 /// The status of each command line, and what it prints.
-const RUNS: [(u8, &str); 7] = [
+const RUNS: [(u8, &str); 8] = [
+    (
+        1,
+        "$ ./regtry check examples/splitter_without_door.reg
+examples/splitter_without_door.reg: a schedule of 4 letters fails: check atmost 1 1 (line 4)
+
+step  process 0   process 1   r0
+0                             0
+1     write 0 1               1*
+2     read 0 = 1              1
+3                 write 0 2   2*
+4                 read 0 = 2  2
+      done 1      done 1
+
+regtry replay examples/splitter_without_door.reg 'R0 R0 R1 R1'
+",
+    ),
     (
         0,
         "$ ./regtry explore examples/splitter.reg --length 8 --crashes 0 --workers 1 --cut 0 --room 0
@@ -176,6 +193,7 @@ fn each_command_prints_what_is_shown(rt: HostRuntime) -> Result<(), Fail> {
     for (status, shown) in RUNS {
         assert_prints(&rt, FILES.as_slice(), status, shown)?;
         assert_drawn_as_replayed(&rt, FILES.as_slice(), shown)?;
+        assert_checked_as_explored(&rt, FILES.as_slice(), shown)?;
     }
     Ok(())
 }
