@@ -2,12 +2,13 @@
 #![tactic(auto)]
 
 mod answers;
+mod findings;
 mod machines;
 mod orders;
 mod performing;
 mod refusals;
+mod runs;
 mod standings;
-mod verdicts;
 mod wording;
 mod words;
 

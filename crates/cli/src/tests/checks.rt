@@ -10,6 +10,23 @@ const SAME_NAME: &[u8] =
 /// A process that writes 65 times.
 const LONG: &[u8] = b"registers 1\nprocess\nrepeat 65\nwrite 0 1\ndone\nend\n";
 
+/// What is printed of the splitter, in which a schedule of 6 letters fails.
+const SPLITTER_FAILS: &[u8] = b"\
+FILE: a schedule of 6 letters fails: check atmost 3 0 (line 8)
+
+step  process 0   process 1   r0  r1
+0                             0   0
+1     write 0 1               1*  0
+2     read 1 = 0              1   0
+3     write 1 1               1   1*
+4                 write 0 2   2*  1
+5     read 0 = 2              2   1
+6                 read 1 = 1  2   1
+      done 3      done 2
+
+regtry replay FILE 'R0 R0 R0 R1 R0 R1'
+";
+
 /// Checks of sources: the words, the status and what is printed.
 const CHECKS: [(&[u8], &[&str], u8, &[u8]); 9] = [
     (
@@ -59,41 +76,13 @@ Some schedules were cut off at 64 letters, with a process still running; longer 
         SPLITTER,
         &["regtry", "check", "FILE", "--length", "8"],
         1,
-        b"\
-FILE: a schedule of 6 letters fails: check atmost 3 0 (line 8)
-
-step  process 0   process 1   r0  r1
-0                             0   0
-1     write 0 1               1*  0
-2     read 1 = 0              1   0
-3     write 1 1               1   1*
-4                 write 0 2   2*  1
-5     read 0 = 2              2   1
-6                 read 1 = 1  2   1
-      done 3      done 2
-
-regtry replay FILE 'R0 R0 R0 R1 R0 R1'
-",
+        SPLITTER_FAILS,
     ),
     (
         SPLITTER,
         &["regtry", "check", "FILE", "--workers", "16", "--text"],
         1,
-        b"\
-FILE: a schedule of 6 letters fails: check atmost 3 0 (line 8)
-
-step  process 0   process 1   r0  r1
-0                             0   0
-1     write 0 1               1*  0
-2     read 1 = 0              1   0
-3     write 1 1               1   1*
-4                 write 0 2   2*  1
-5     read 0 = 2              2   1
-6                 read 1 = 1  2   1
-      done 3      done 2
-
-regtry replay FILE 'R0 R0 R0 R1 R0 R1'
-",
+        SPLITTER_FAILS,
     ),
     (
         SAME_NAME,

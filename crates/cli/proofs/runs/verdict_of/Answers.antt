@@ -1,6 +1,6 @@
 use Rattle.reglang.specs.Sources.{contents_of}
 use Rattle.cli.proofs.VerdictsFound.{verdict_is}
-use Rattle.cli.proofs.verdicts.verdict_of.Goals as goal
+use Rattle.cli.proofs.runs.verdict_of.Goals as goal
 
 pub returns-clause-verdict : goal.returns-clause-verdict
 returns-clause-verdict g c =

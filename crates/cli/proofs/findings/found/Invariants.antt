@@ -1,7 +1,7 @@
 use Rattle.std.proofs.Common.{◌≡◌, All, length, map, take}
 use Rattle.reglang.specs.Sources.{source_programs}
-use Rattle.cli.proofs.answers.found.OwnLists.{own-1}
-use Rattle.cli.proofs.answers.found.Given as goal
+use Rattle.cli.proofs.findings.found.OwnLists.{own-1}
+use Rattle.cli.proofs.findings.found.Given as goal
 
 -- each list so far is of the machines of all processes
 abbrev pub invariant-loop-list : goal.invariant-loop-list
