@@ -1,4 +1,5 @@
 pub mod Findings
 pub mod Orders
+pub mod Progress
 pub mod Standings
 pub mod Statuses

@@ -6,6 +6,7 @@ ghost use Rattle.cli.specs.Findings.{HasBeginning, IsAnswered, IsCutShort, IsRef
 
 use crate::findings::{Finding, found};
 use crate::orders::Order;
+use crate::progress::Progress;
 use crate::refusals::{Refusal, refuse};
 use crate::wording::{explain, refuse_in_words};
 use std::alloc::Global;
@@ -19,8 +20,8 @@ pub const MOST_BYTES: u64 = 1048576;
 /// Does what the order asks of the source in the file, and writes what it found. The status is 0 where that is done, but 1
 /// where an explored schedule fails; 2 where the file, the source or a letter is refused; 3 where it could not be done. At 2 and 3 a line
 /// on `err` says why, and `out` is as before, unless it did not take the whole text: then it took a beginning of it, and the status is 3.
-/// `file` is None where it could not be opened.
-pub fn answer<H: Threads + Wait + Sync, R: Read + Drop, W: Write, E: Write>(
+/// `file` is None where it could not be opened. Where the order asks for progress, `err` is told of it before.
+pub fn answer<H: Threads + Wait + Sync, R: Read + Drop, W: Write, E: Write + Send>(
     rt: &H,
     alloc: Global,
     order: &Order<'_>,
@@ -44,7 +45,7 @@ pub fn answer<H: Threads + Wait + Sync, R: Read + Drop, W: Write, E: Write>(
 
 /// Writes what is found of the source in the file. Whether a schedule fails. A source that is refused is explained on `err` where refusals
 /// are told in words.
-fn written<H: Threads + Wait + Sync, R: Read + Drop, W: Write, E: Write>(
+fn written<H: Threads + Wait + Sync, R: Read + Drop, W: Write, E: Write + Send>(
     rt: &H,
     alloc: Global,
     order: &Order<'_>,
@@ -60,7 +61,10 @@ fn written<H: Threads + Wait + Sync, R: Read + Drop, W: Write, E: Write>(
         return Err(Refusal::File);
     };
     let text = bytes_of(alloc, file)?;
-    let finding = match found(rt, alloc, order.task(), text.as_slice()) {
+    let progress = Progress::new(rt, err, order.has_progress());
+    let found = found(rt, alloc, order.task(), text.as_slice(), &progress);
+    drop(progress);
+    let finding = match found {
         Ok(finding) => finding,
         Err(refusal) => return Err(explained(order, text.as_slice(), refusal, err)),
     };

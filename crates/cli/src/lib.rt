@@ -6,6 +6,7 @@ mod findings;
 mod machines;
 mod orders;
 mod performing;
+mod progress;
 mod refusals;
 mod runs;
 mod standings;

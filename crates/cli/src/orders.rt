@@ -76,6 +76,7 @@ impl Task {
 pub struct Order<'a> {
     path: &'a str,
     task: Task,
+    progress: bool,
 }
 
 impl<'a> Order<'a> {
@@ -91,6 +92,13 @@ impl<'a> Order<'a> {
         ensures { result.now ≡ self.now.task }
     {
         &self.task
+    }
+
+    /// Whether it is to be told meanwhile how far it has come. A replay and a drawing never tell.
+    pub fn has_progress(&self) -> bool
+        ensures { result ≡ self.now.progress }
+    {
+        self.progress
     }
 }
 
@@ -136,7 +144,11 @@ fn order_of<'a, E: Write>(
         _ => exploration_of(words),
     };
     match task {
-        Ok(task) => Ok(Order { path, task }),
+        Ok(task) => Ok(Order {
+            path,
+            task,
+            progress: words.get_flag("progress"),
+        }),
         Err(refusal) if name == "check" || name == "show" => {
             Err(refuse_in_words(path, refusal, err))
         }

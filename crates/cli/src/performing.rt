@@ -48,7 +48,7 @@ pub fn perform<
     R: Read + Drop,
     F: FnOnce(&str) -> Option<R>,
     W: Write,
-    E: Write,
+    E: Write + Send,
 >(rt: &H, alloc: Global, words: Result<Vec<S>, Refusal>, opener: F, out: &mut W, err: &mut E) -> u8
     requires { F.IsAlwaysCallable opener }
     ensures status { result ≤ 3 }

@@ -9,6 +9,7 @@ mod explanations;
 mod files;
 mod least;
 mod native_machines;
+mod progress;
 mod replays;
 mod reports;
 mod several_workers;

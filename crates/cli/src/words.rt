@@ -143,7 +143,7 @@ fn check<'a>(alloc: Global) -> Result<Command<'a>, AllocError> {
     for (name, value, help) in BOUNDS {
         command = command.arg(bound(alloc, name, value, help))?;
     }
-    command.arg(text(alloc))
+    command.arg(text(alloc))?.arg(progress(alloc))
 }
 
 /// The words of `explore`.
@@ -161,7 +161,7 @@ fn explore<'a>(alloc: Global) -> Result<Command<'a>, AllocError> {
     for (name, value, help) in SETTINGS {
         command = command.arg(number(alloc, name, value, help))?;
     }
-    command.arg(text(alloc))?.arg(least)
+    command.arg(text(alloc))?.arg(least)?.arg(progress(alloc))
 }
 
 /// The words of `replay`.
@@ -207,6 +207,16 @@ fn text<'a>(alloc: Global) -> Arg<'a> {
         .long("text")
         .action(ArgAction::SetTrue)
         .help("Interpret the processes with a `use` line, too, which else run as native machines")
+}
+
+/// The flag that asks to tell how far a run has come.
+fn progress<'a>(alloc: Global) -> Arg<'a> {
+    Arg::new(alloc, "progress")
+        .long("progress")
+        .action(ArgAction::SetTrue)
+        .help(
+            "Tell on standard error how many pieces the workers have taken and how many are known so far: a line each time that those taken reach a power of two",
+        )
 }
 
 /// A required option that takes a number.

@@ -58,13 +58,12 @@ fn list_of<'a>(alloc: Global, words: &[&'a str]) -> Result<Vec<&'a str>, Refusal
 }
 
 /// The status of words on a file, where standard output and standard error are these.
-pub fn asked_to_write<H: Threads + Wait + Sync + AllocGlobal, R: Read + Drop, W: Write, E: Write>(
-    rt: &H,
-    words: &[&str],
-    file: Option<R>,
-    out: &mut W,
-    err: &mut E,
-) -> u8 {
+pub fn asked_to_write<
+    H: Threads + Wait + Sync + AllocGlobal,
+    R: Read + Drop,
+    W: Write,
+    E: Write + Send,
+>(rt: &H, words: &[&str], file: Option<R>, out: &mut W, err: &mut E) -> u8 {
     let words = list_of(rt.alloc(), words);
     perform(rt, rt.alloc(), words, |_path: &str| file, out, err)
 }
