@@ -68,9 +68,10 @@ fn told_and_silent<H: Threads + Wait + Sync + AllocGlobal>(
     workers: &str,
     source: &[u8],
 ) -> Result<(Reply, Reply), Fail> {
-    let words = words_of(rt.alloc(), run, workers)?;
+    let mut words = words_of(rt.alloc(), run, workers)?;
     let told = asked(rt, words.as_slice(), Some(source));
-    let silent = asked(rt, &words.as_slice()[..words.len() - 1], Some(source));
+    let _flag = words.pop();
+    let silent = asked(rt, words.as_slice(), Some(source));
     Ok((told, silent))
 }
 
