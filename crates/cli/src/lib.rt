@@ -17,6 +17,3 @@ pub use answers::answer;
 pub use orders::{Order, Task, command};
 pub use performing::{perform, words_of};
 pub use refusals::{Refusal, refuse};
-
-#[cfg(test)]
-mod tests;

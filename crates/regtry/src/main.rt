@@ -17,3 +17,6 @@ fn main(rt: HostRuntime) -> ExitCode {
         &mut rt.stderr(),
     ))
 }
+
+#[cfg(test)]
+mod tests;
