@@ -5,7 +5,7 @@ use Rattle.reglang.specs.declared.refusals.TheConstants.{MISPLACED, NO_CLAUSE, N
 -- what is wrong with a line of this code, where a word is at fault and where none is
 abbrev pub wrong_text : ℕ → Bool → List ℕ
 wrong_text code named =
-    if code == NOT_PRINTABLE then codes "a byte that is not printable ASCII, such as a tab" else
+    if code == NOT_PRINTABLE then codes "a byte that is not printable ASCII, such as a tab or the carriage return of a Windows line end" else
     (if code == UNKNOWN_WORD then codes "an unknown word" else
     (if code == NO_NUMBER then codes "a word that begins with a digit and is no number" else
     (if code == NO_FORM then (if named then codes "a word that has no place here" else codes "a word is missing at the end") else
@@ -18,8 +18,8 @@ wrong_text code named =
 -- what to change in it
 abbrev pub change_text : ℕ → List ℕ
 change_text code =
-    if code == NOT_PRINTABLE then codes "use spaces, and no other bytes than those from space to ~" else
-    (if code == UNKNOWN_WORD then codes "begin the line with a word of the language, and go on with numbers, variables v0 to v15, cells [0] to [31] or [v0] to [v15], operators and kinds" else
+    if code == NOT_PRINTABLE then codes "use spaces, and no other bytes than those from space to ~; end each line with a line feed alone" else
+    (if code == UNKNOWN_WORD then codes "begin the line with one of registers, process, end, set, read, write, if, else, fi, repeat, done, emit, halt, use, check, and go on with numbers, variables v0 to v15, cells [0] to [31] or [v0] to [v15], operators and kinds" else
     (if code == NO_NUMBER then codes "write a number with digits alone, and without a 0 before others" else
     (if code == NO_FORM then codes "give the line its form: registers NUMBER, set TARGET EXPR, read TARGET OPERAND, write OPERAND EXPR, if EXPR, repeat EXPR, emit EXPR, use KIND NUMBERS; process, end, else, fi, done and halt stand alone" else
     (if code == MISPLACED then codes "move the line, or close what is open: an if with fi, a repeat with done, a process with end" else

@@ -12,7 +12,8 @@ pub fn what_is_wrong(code: u8, named: bool) -> &'static str
     ensures { result.now ≡ wrong_text code named }
 {
     match code {
-        NOT_PRINTABLE => "a byte that is not printable ASCII, such as a tab",
+        NOT_PRINTABLE =>
+            "a byte that is not printable ASCII, such as a tab or the carriage return of a Windows line end",
         UNKNOWN_WORD => "an unknown word",
         NO_NUMBER => "a word that begins with a digit and is no number",
         NO_FORM if named => "a word that has no place here",
@@ -31,9 +32,10 @@ pub fn what_to_change(code: u8) -> &'static str
     ensures { result.now ≡ change_text code }
 {
     match code {
-        NOT_PRINTABLE => "use spaces, and no other bytes than those from space to ~",
+        NOT_PRINTABLE =>
+            "use spaces, and no other bytes than those from space to ~; end each line with a line feed alone",
         UNKNOWN_WORD => {
-            "begin the line with a word of the language, and go on with numbers, variables v0 to v15, cells [0] to [31] or [v0] to [v15], operators and kinds"
+            "begin the line with one of registers, process, end, set, read, write, if, else, fi, repeat, done, emit, halt, use, check, and go on with numbers, variables v0 to v15, cells [0] to [31] or [v0] to [v15], operators and kinds"
         }
         NO_NUMBER => "write a number with digits alone, and without a 0 before others",
         NO_FORM => {
