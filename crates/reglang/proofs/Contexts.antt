@@ -167,7 +167,7 @@ steps (Inside before frames block n) l = inside before frames block n l
 steps (Used before kind) l = used before kind l
 
 -- the same of a line as it was read
-abbrev StepsRead : Reading → Result (Option Line) ℕ → Result Reading ℕ → Type 0
+abbrev pub StepsRead : Reading → Result (Option Line) ℕ → Result Reading ℕ → Type 0
 StepsRead reading read (Ok next) = (fault_of_line (context_of reading) read ≡ None) × (context_of next ≡ context_after_lines (line_said read) (context_of reading))
 StepsRead reading read (Err code) = fault_of_line (context_of reading) read ≡ Some code
 
@@ -175,7 +175,7 @@ read_as : (reading : Reading) (l : Line) (result : Result Reading ℕ) → Steps
 read_as reading l (Ok next) h = h
 read_as reading l (Err code) h = h
 
-steps_read : (reading : Reading) (read : Result (Option Line) ℕ) → StepsRead reading read (take_if_said reading read)
+pub steps_read : (reading : Reading) (read : Result (Option Line) ℕ) → StepsRead reading read (take_if_said reading read)
 steps_read reading (Ok (Some l)) = read_as reading l (take_line reading l) (steps reading l)
 steps_read reading (Ok None) = (refl, refl)
 steps_read reading (Err code) = refl

@@ -1,12 +1,12 @@
 -- Reading by whole values answers just the source that a text spells, or its first fault.
-use Rattle.std.proofs.Common.{◌≡◌, ◌≢◌, ℕ, suc, ◌+◌, List, [], ◌∷◌, ◌++◌, length, Option, Some, None, Result, Ok, Err, refl, ap, sym, subst, ◌∙◌, arith}
-use Rattle.std.specs.Prelude.{◌≤◌, IfSome, max, IsOk}
+use Rattle.std.proofs.Common.{◌≡◌, ◌≢◌, ℕ, suc, ◌+◌, Bool, true, false, List, [], ◌∷◌, ◌++◌, length, Option, Some, None, Result, Ok, Err, refl, ap, sym, subst, ◌∙◌, arith}
+use Rattle.std.specs.Prelude.{◌≤◌, ◌&&◌, if◌then◌else◌, IfSome, max, is_none, IsOk}
 use Rattle.std.specs.List.{AllByRecursion}
 use Rattle.std.proofs.lemmas.Bool.{lt-ltb}
 use Rattle.std.proofs.lemmas.List.Elements.{All-from_recursion, recursion_from_All}
 use Rattle.reglang.specs.Contents.{Contents}
-use Rattle.reglang.specs.Drafts.{Reading, Empty, Between, take_line, take_if_said, contents_at_end, read_from, faulty_at, goes_on, IsRefusalOf, IsFaultOf}
-use Rattle.reglang.specs.Faults.{first_fault}
+use Rattle.reglang.specs.Drafts.{Reading, Empty, Between, Inside, Used, take_line, take_if_said, contents_at_end, read_from, faulty_at, goes_on, IsRefusalOf, IsFaultOf}
+use Rattle.reglang.specs.Faults.{are_faultless, at_start, context_after_lines, first_fault}
 use Rattle.reglang.specs.Forms.{read_line}
 use Rattle.reglang.specs.Grammar.{Spells, lines_said, line_said}
 use Rattle.reglang.specs.Lines.{lines}
@@ -16,7 +16,7 @@ use Rattle.reglang.specs.declared.refusals.LineRefusal.{LineRefusal}
 use Rattle.reglang.specs.declared.refusals.LineRefusal.TheVariants as refusal
 use Rattle.reglang.proofs.Leads.{takes, then_take, source_leads}
 use Rattle.reglang.proofs.Says.{reads_spelled}
-use Rattle.reglang.proofs.Contexts.{Agrees, reads_first}
+use Rattle.reglang.proofs.Contexts.{Agrees, StepsRead, context_of, reads_first, steps_read}
 
 took : (last : Reading) (source : Contents) (n : ℕ) (rest : List (List ℕ)) (result : Result Reading ℕ) →
     ((next : Reading) → takes next (lines_said rest) ≡ Ok last → read_from next (suc n) rest ≡ Ok source) →
@@ -69,10 +69,22 @@ one_source text a b h k = let e = spelled_read text a h in let f = spelled_read 
 pub faultless : (text : List ℕ) (source : Contents) → Spells text source → first_fault text ≡ None
 faultless text source h = subst (λ r. Agrees r (first_fault text)) (spelled_read text source h) (read_agrees text)
 
--- ---- the reader's loop: the text is read as what is left of it, after what was read
+-- ---- the reader's loop: the text is read as what is left of it, after what was read, and no line before has a fault
+
+-- a line that is taken has no fault, and leads where the next one stands
+line_taken : (reading next : Reading) (line : List ℕ) (more : List (List ℕ)) → StepsRead reading (read_line line) (Ok next) → are_faultless (context_of reading) (line ∷ more) ≡ are_faultless (context_of next) more
+line_taken reading next line more h =
+    ap (λ fault. is_none fault && are_faultless (context_after_lines (line_said (read_line line)) (context_of reading)) more) h.0
+    ∙ ap (λ context. are_faultless context more) (sym h.1)
+
+-- one that is not taken has one
+line_not_taken : (reading : Reading) (code : ℕ) (line : List ℕ) (more : List (List ℕ)) → StepsRead reading (read_line line) (Err code) → are_faultless (context_of reading) (line ∷ more) ≡ false
+line_not_taken reading code line more h =
+    ap (λ fault. is_none fault && are_faultless (context_after_lines (line_said (read_line line)) (context_of reading)) more) h
 
 pub record IsLeft (text : List ℕ) (reading : Reading) (n : ℕ) (rest : List ℕ) : Type 0 where
   pub same : read_from Empty 0 (lines text) ≡ read_from reading n (lines rest)
+  pub faultless : are_faultless at_start (lines text) ≡ are_faultless (context_of reading) (lines rest)
 
 -- the first line of what is left, and what comes after it
 pub record IsCut (rest line after : List ℕ) : Type 0 where
@@ -84,6 +96,9 @@ left_next text rest line after reading next n h c e = record {
       h.same ∙ (ap (read_from reading n) c.cut
       ∙ (ap (λ r. goes_on (faulty_at (suc n) r) (λ next. read_from next (suc n) (lines after))) e
       ∙ ap (λ m. read_from next m (lines after)) (omega arith)));
+  faultless =
+      h.faultless ∙ (ap (are_faultless (context_of reading)) c.cut
+      ∙ line_taken reading next line (lines after) (subst (StepsRead reading (read_line line)) e (steps_read reading (read_line line))));
 }
 
 pub left_refused : (text rest line after : List ℕ) (reading : Reading) (n : ℕ) (refusal : LineRefusal) (fault : ReadFault) → IsLeft text reading n rest → IsCut rest line after → IsRefusalOf (take_if_said reading (read_line line)) refusal → IsFaultOf (n + 1) refusal fault → fault.code ≢ 9 → read_from Empty 0 (lines text) ≡ Err fault
@@ -95,6 +110,28 @@ left_refused text rest line after reading n refusal.Memory fault h c e told othe
 
 pub left_ended : (text rest : List ℕ) (reading : Reading) (n : ℕ) (result : Result Contents ℕ) → IsLeft text reading n rest → lines rest ≡ [] → contents_at_end reading ≡ result → read_from Empty 0 (lines text) ≡ faulty_at (max 1 n) result
 left_ended text rest reading n result h none e = h.same ∙ (ap (read_from reading n) none ∙ ap (faulty_at (max 1 n)) e)
+
+-- ---- whether the end is at fault
+
+pub line_at_fault : (text rest line after : List ℕ) (reading : Reading) (n : ℕ) (refusal : LineRefusal) (fault : ReadFault) → IsLeft text reading n rest → IsCut rest line after → IsRefusalOf (take_if_said reading (read_line line)) refusal → IsFaultOf (n + 1) refusal fault → fault.code ≢ 9 → are_faultless at_start (lines text) ≡ false
+line_at_fault text rest line after reading n (refusal.Fault code) fault h c e told other =
+    h.faultless ∙ (ap (are_faultless (context_of reading)) c.cut
+    ∙ line_not_taken reading code line (lines after) (subst (StepsRead reading (read_line line)) e (steps_read reading (read_line line))))
+line_at_fault text rest line after reading n refusal.Memory fault h c e told other = absurd (other (ap (λ f. f.code) told))
+
+pub end_at_fault : (text rest : List ℕ) (reading : Reading) (n : ℕ) → IsLeft text reading n rest → lines rest ≡ [] → are_faultless at_start (lines text) ≡ true
+end_at_fault text rest reading n h none = h.faultless ∙ ap (are_faultless (context_of reading)) none
+
+few_processes : (before : Contents) (t : Bool) (code : ℕ) → (if t then Ok before else Err 6) ≡ Err code → code ≢ 9
+few_processes before true code h = λ e. absurd cc
+few_processes before false code h = λ e. absurd cc
+
+-- the end never wants memory
+pub end_without_memory : (reading : Reading) (code : ℕ) → contents_at_end reading ≡ Err code → code ≢ 9
+end_without_memory Empty code h = λ e. absurd cc
+end_without_memory (Between before) code h = few_processes before _ code h
+end_without_memory (Inside before frames block n) code h = λ e. absurd cc
+end_without_memory (Used before kind) code h = λ e. absurd cc
 
 -- ---- no line that was taken has a fault
 

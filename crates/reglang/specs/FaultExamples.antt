@@ -1,6 +1,7 @@
 -- Worked examples: the first faults of texts, and a text that spells a source.
-use Rattle.std.specs.Prelude.{◌≡◌, ℕ, List, [], ◌∷◌, ◌++◌, Option, Some, None, codes, refl}
-use Rattle.reglang.specs.Faults.{first_fault}
+use Rattle.std.specs.Prelude.{◌≡◌, ℕ, Bool, true, false, List, [], ◌∷◌, ◌++◌, Option, Some, None, codes, refl}
+use Rattle.reglang.specs.Faults.{are_faultless, at_start, first_fault}
+use Rattle.reglang.specs.Lines.{lines}
 use Rattle.reglang.specs.declared.reader.ReadFault.{ReadFault}
 
 -- a line and the byte that ends it, before more
@@ -70,3 +71,19 @@ count_past_the_limit = refl
 
 pub nothing_to_do : first_fault (codes "registers 1" ▹ codes "process" ▹ codes "end" ▹ []) ≡ None
 nothing_to_do = refl
+
+-- whether no line of a text has a fault: then its end is at fault, or nothing
+abbrev are_all_faultless : List ℕ → Bool
+are_all_faultless text = are_faultless at_start (lines text)
+
+pub no_line : are_all_faultless [] ≡ true
+no_line = refl
+
+pub end_missing : are_all_faultless (codes "registers 1" ▹ codes "process" ▹ codes "if v0" ▹ codes "halt" ▹ []) ≡ true
+end_missing = refl
+
+pub fi_missing : are_all_faultless (codes "registers 1" ▹ codes "process" ▹ codes "if v0" ▹ codes "end" ▹ []) ≡ false
+fi_missing = refl
+
+pub process_before_registers : are_all_faultless (codes "process" ▹ codes "end" ▹ []) ≡ false
+process_before_registers = refl

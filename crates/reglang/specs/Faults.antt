@@ -5,7 +5,7 @@ use Rattle.reglang.specs.declared.refusals.TheConstants.{MISPLACED, NO_CLAUSE, N
 use Rattle.regmodel.specs.Limits.{target_fits, operand_fits, expr_fits}
 use Rattle.reglang.specs.Lines.{lines}
 use Rattle.reglang.specs.Forms.{read_line}
-use Rattle.reglang.specs.Grammar.{lines_said}
+use Rattle.reglang.specs.Grammar.{line_said, lines_said}
 use Rattle.uses.specs.Uses.{is_between, use_fits}
 use Rattle.reglang.specs.declared.forms.Line.{Line}
 use Rattle.reglang.specs.declared.forms.Line.TheVariants as line
@@ -223,6 +223,12 @@ end_fault context =
     if is_none context.registers then Some NO_REGISTERS else
     (if is_inside context.place then Some MISPLACED else
     (if nat_lt 0 context.processes then None else Some PAST_LIMIT))
+
+-- no line has a fault where it stands, of which the first stands in this context
+abbrev pub are_faultless : Context → List (List ℕ) → Bool
+are_faultless context [] = true
+are_faultless context (line ∷ lines) =
+    is_none (fault_of_line context (read_line line)) && are_faultless (context_after_lines (line_said (read_line line)) context) lines
 
 -- ---- the first of them
 

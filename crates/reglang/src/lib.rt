@@ -21,9 +21,9 @@ mod words;
 mod writer;
 
 pub use checks::{check_line, line_at};
-pub use explanations::{what_is_wrong, what_to_change};
+pub use explanations::{Culprit, what_is_wrong, what_to_change};
 pub use misfits::word_at_fault;
-pub use reader::{ReadFault, read_source};
+pub use reader::{ReadFault, Rejection, read_source, read_text};
 pub use source::Source;
 pub use uses::{ExpandFault, Use, expand};
 pub use writer::write_source;

@@ -1,9 +1,9 @@
 //! The reader of texts.
 
-ghost use Rattle.std.specs.Prelude.{◌≡◌, ◌≢◌, ◌<◌, ◌≤◌, IfErr, IfOk, IfSome, length, max, Some};
+ghost use Rattle.std.specs.Prelude.{◌≡◌, ◌≢◌, ◌<◌, ◌≤◌, IfErr, IfOk, IfSome, false, length, max, Some};
 ghost use Rattle.reglang.specs.Contents.{Contents};
 ghost use Rattle.reglang.specs.Drafts.{Answers, IsFaultOf, ReadingFits, reading_of, take_if_said};
-ghost use Rattle.reglang.specs.Faults.{first_fault};
+ghost use Rattle.reglang.specs.Faults.{are_faultless, at_start, first_fault};
 ghost use Rattle.reglang.specs.Forms as forms;
 ghost use Rattle.reglang.specs.Grammar.{Spells};
 ghost use Rattle.reglang.specs.Lines.{lines};
@@ -29,6 +29,15 @@ pub struct ReadFault {
     pub code: u8,
 }
 
+/// Why a text was not read, and whether its end is at fault in place of a line.
+#[derive(Clone, Copy, PartialEq, Eq, Debug, Error)]
+#[error("{fault}")]
+pub struct Rejection {
+    pub fault: ReadFault,
+    /// Whether no line has a fault, but the text ends too early.
+    pub is_of_end: bool,
+}
+
 /// Reads the source of a text, in one pass. A refused text has the code of its first fault, 1 to 8, and its line; code 9 is
 /// answered only where a request for memory was refused, with the line then being read, and no line before it has a fault.
 pub fn read_source(alloc: Global, text: &[u8]) -> Result<Source, ReadFault>
@@ -39,6 +48,24 @@ pub fn read_source(alloc: Global, text: &[u8]) -> Result<Source, ReadFault>
     ensures first_line { IfErr result (λ fault. 0 < fault.line) }
     ensures last_line { IfErr result (λ fault. fault.line ≤ max 1 (length (lines text.now))) }
 {
+    match read_text(alloc, text) {
+        Ok(source) => Ok(source),
+        Err(rejection) => Err(rejection.fault),
+    }
+}
+
+/// Reads the source of a text as `read_source` does, and tells of a refused text, too, whether its first fault is that of its end. The end is
+/// at fault where no line is; it never is where memory was refused.
+pub fn read_text(alloc: Global, text: &[u8]) -> Result<Source, Rejection>
+    ensures spelled { IfOk result (λ source. Spells text.now (contents_of source)) }
+    ensures first_fault { IfErr result (λ rejection. rejection.fault.code ≢ 9 → first_fault text.now ≡ Some rejection.fault) }
+    ensures not_spelled { IfErr result (λ rejection. rejection.fault.code ≢ 9 → (source : Contents) → Spells text.now source → ⊥) }
+    ensures no_fault_before { IfErr result (λ rejection. IfSome (first_fault text.now) (λ first. rejection.fault.line ≤ first.line)) }
+    ensures first_line { IfErr result (λ rejection. 0 < rejection.fault.line) }
+    ensures last_line { IfErr result (λ rejection. rejection.fault.line ≤ max 1 (length (lines text.now))) }
+    ensures of_end { IfErr result (λ rejection. rejection.fault.code ≢ 9 → rejection.is_of_end ≡ are_faultless at_start (lines text.now)) }
+    ensures of_memory { IfErr result (λ rejection. rejection.fault.code ≡ 9 → rejection.is_of_end ≡ false) }
+{
     let mut draft = Draft::Empty;
     let mut rest = text;
     let mut line = 0u64;
@@ -46,15 +73,23 @@ pub fn read_source(alloc: Global, text: &[u8]) -> Result<Source, ReadFault>
         line += 1;
         draft = match next(alloc, draft, bytes) {
             Ok(draft) => draft,
-            Err(refusal) => return Err(fault(line, refusal)),
+            Err(refusal) => {
+                return Err(Rejection {
+                    fault: fault(line, refusal),
+                    is_of_end: false,
+                });
+            }
         };
         rest = after;
     }
     match draft.finish() {
         Ok(source) => Ok(source),
-        Err(code) => Err(ReadFault {
-            line: line.max(1),
-            code,
+        Err(code) => Err(Rejection {
+            fault: ReadFault {
+                line: line.max(1),
+                code,
+            },
+            is_of_end: true,
         }),
     }
 }

@@ -1,4 +1,4 @@
-use crate::{ReadFault, Source, Use, expand, read_source, write_source};
+use crate::{ReadFault, Source, Use, expand, read_source, read_text, write_source};
 use regmodel::{Clause, Expr, Operand, Prog, Stmt};
 use std::alloc::Global;
 use std::io::Write;
@@ -79,6 +79,34 @@ fn names_the_first_fault(rt: HostRuntime) -> Result<(), Fail> {
     for (text, line, code) in REFUSED {
         let fault = read_source(rt.alloc(), text).err();
         assert_eq!(rt; fault, Some(ReadFault { line, code }));
+    }
+    Ok(())
+}
+
+/// Texts that are refused, and whether their end is at fault.
+const ENDS: [(&[u8], bool); 14] = [
+    (b"", true),
+    (b"\n\n", true),
+    (b"process\n", false),
+    (b"emit 1\n", false),
+    (b"registers 65\n", false),
+    (b"registers 1\n", true),
+    (b"registers 1\n\n#\n", true),
+    (b"registers 1\nprocess\nhalt", true),
+    (b"registers 1\nprocess\nif v0\nhalt\n", true),
+    (b"registers 1\nprocess\nif v0\nend\n", false),
+    (b"registers 1\nprocess\ncheck ended\n", false),
+    (b"registers 2\nprocess\nuse split 0 1\n", true),
+    (b"registers 2\nprocess\nuse split 0 1\nhalt\n", false),
+    (b"registers 1\nprocess\nemit\n", false),
+];
+
+#[test]
+fn tells_whether_the_end_is_at_fault(rt: HostRuntime) -> Result<(), Fail> {
+    for (text, is_of_end) in ENDS {
+        let rejection = read_text(rt.alloc(), text).err().ok_or("taken")?;
+        assert_eq!(rt; rejection.is_of_end, is_of_end);
+        assert_eq!(rt; read_source(rt.alloc(), text).err(), Some(rejection.fault));
     }
     Ok(())
 }

@@ -1,32 +1,39 @@
 -- What is wrong with a source that is refused, in words.
-use Rattle.std.specs.Prelude.{ℕ, true, false, List, ◌++◌, Option, Some, None, codes, decimal}
+use Rattle.std.specs.Prelude.{ℕ, if◌then◌else◌, List, [], ◌++◌, Option, Some, None, codes, decimal, is_some}
 use Rattle.reglang.specs.Checks.{line_at}
 use Rattle.reglang.specs.Explanations.{change_text, wrong_text}
 use Rattle.reglang.specs.Misfits.{word_at_fault}
-use Rattle.reglang.specs.declared.reader.ReadFault.{ReadFault}
+use Rattle.reglang.specs.declared.explanations.Culprit.{Culprit}
+use Rattle.reglang.specs.declared.explanations.Culprit.TheVariants.{End, Line, Word}
+use Rattle.reglang.specs.declared.reader.Rejection.{Rejection}
 use Rattle.verdict.specs.Shown.{printable_text, shown}
 
--- what is wrong with a line of this code, and the word at fault
-abbrev pub word_fault_text : ℕ → List ℕ → List ℕ
-word_fault_text code word = wrong_text code true ++ codes ": " ++ word
+-- what is at fault: the end of the text where it is told to be, else a word of the line where there is one, else the line
+abbrev pub culprit_of : Rejection → List ℕ → Culprit
+culprit_of rejection line = if rejection.is_of_end then End else (if is_some (word_at_fault rejection.fault.code line) then Word else Line)
 
--- the same, where there may be no such word
-abbrev pub maybe_fault_text : ℕ → Option (List ℕ) → List ℕ
-maybe_fault_text code (Some word) = word_fault_text code word
-maybe_fault_text code None = wrong_text code false
+-- a word, where there is one
+abbrev pub maybe_word_text : Option (List ℕ) → List ℕ
+maybe_word_text (Some word) = codes ": " ++ word
+maybe_word_text None = []
 
--- what is wrong with a line of this code
-abbrev pub fault_text : ℕ → List ℕ → List ℕ
-fault_text code line = maybe_fault_text code (word_at_fault code line)
+-- the word of the line that is at fault, where the end of the text is not
+abbrev pub word_text : Rejection → List ℕ → List ℕ
+word_text rejection line = if rejection.is_of_end then [] else maybe_word_text (word_at_fault rejection.fault.code line)
 
--- where the line stands, and what is wrong with it
-abbrev pub heading : List ℕ → ℕ → ℕ → List ℕ → List ℕ
-heading path number code line = path ++ codes ":" ++ decimal number ++ codes ": " ++ fault_text code line ++ codes "\n"
+-- what is wrong, and the word at fault
+abbrev pub fault_text : Rejection → List ℕ → List ℕ
+fault_text rejection line = wrong_text rejection.fault.code (culprit_of rejection line) ++ word_text rejection line
 
--- what is wrong with this line of the file of this path, the line, and what to change in it
-abbrev pub line_explained : List ℕ → ReadFault → List ℕ → List ℕ
-line_explained path fault line = heading path fault.line fault.code line ++ printable_text line ++ codes "\n" ++ change_text fault.code ++ codes "\n"
+-- where the line stands, and what is wrong
+abbrev pub heading : List ℕ → Rejection → List ℕ → List ℕ
+heading path rejection line = path ++ codes ":" ++ decimal rejection.fault.line ++ codes ": " ++ fault_text rejection line ++ codes "\n"
+
+-- what is wrong with the text in the file of this path, at this line, the line, and what to change
+abbrev pub line_explained : List ℕ → Rejection → List ℕ → List ℕ
+line_explained path rejection line =
+    heading path rejection line ++ printable_text line ++ codes "\n" ++ change_text rejection.fault.code (culprit_of rejection line) ++ codes "\n"
 
 -- what is wrong with a text that is refused
-abbrev pub explanation_text : List ℕ → List ℕ → ReadFault → List ℕ
-explanation_text path text fault = line_explained path fault (shown (line_at fault.line text))
+abbrev pub explanation_text : List ℕ → List ℕ → Rejection → List ℕ
+explanation_text path text rejection = line_explained path rejection (shown (line_at rejection.fault.line text))

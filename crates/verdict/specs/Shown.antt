@@ -1,11 +1,15 @@
 -- Lines of a source, as they are shown.
-use Rattle.std.specs.Prelude.{ℕ, ◌&&◌, if◌then◌else◌, List, [], ◌∷◌, Option, Some, None, nat_le}
-use Rattle.std.specs.List.{flat_map}
+use Rattle.std.specs.Prelude.{ℕ, ◌==◌, ◌&&◌, if◌then◌else◌, List, [], ◌∷◌, Option, Some, None, drop, nat_le}
+use Rattle.std.specs.List.{flat_map, prefix_len}
 
 -- a line; no bytes where there is none
 abbrev pub shown : Option (List ℕ) → List ℕ
 shown (Some line) = line
 shown None = []
+
+-- a line from its first byte on that is no space
+abbrev pub without_indent : List ℕ → List ℕ
+without_indent line = drop (prefix_len (λ b. b == 32) line) line
 
 -- a byte of printable ASCII; a question mark for any other
 abbrev pub printable : ℕ → ℕ

@@ -8,7 +8,7 @@ use Rattle.regmodel.specs.PlainReport.{Findings}
 use Rattle.regmodel.specs.ScheduleText.{schedule_text}
 use Rattle.reglang.specs.Checks.{line_at}
 use Rattle.drawing.specs.DrawingText.{drawing_text}
-use Rattle.verdict.specs.Shown.{shown}
+use Rattle.verdict.specs.Shown.{shown, without_indent}
 use Rattle.verdict.specs.declared.breaches.Breach.{Breach}
 use Rattle.verdict.specs.declared.breaches.Verdict.{Verdict}
 use Rattle.verdict.specs.declared.reaches.Reach.{Reach}
@@ -42,10 +42,10 @@ failing_text path letters line number =
 abbrev pub replay_text : List ℕ → Schedule → List ℕ
 replay_text path w = codes "\nregtry replay " ++ path ++ codes " '" ++ schedule_text w ++ codes "'\n"
 
--- the check that a schedule breaks, the schedule as a drawing, and the command that replays it
+-- the check that a schedule breaks, without its indent, the schedule as a drawing, and the command that replays it
 abbrev pub breach_text : List ℕ → List ℕ → Breach → List ℕ
 breach_text path text breach =
-    failing_text path (length breach.schedule) (shown (line_at breach.line text)) breach.line ++ drawing_text false breach.drawing ++ replay_text path breach.schedule
+    failing_text path (length breach.schedule) (without_indent (shown (line_at breach.line text))) breach.line ++ drawing_text false breach.drawing ++ replay_text path breach.schedule
 
 -- whether schedules were cut off: some process still wants an access after as many letters as there may be
 abbrev pub is_cut_off : Findings → Bool

@@ -6,7 +6,7 @@ ghost use Rattle.verdict.specs.VerdictText as spec;
 
 use crate::breaches::{Breach, Verdict};
 use crate::reaches::{Reach, reach_of};
-use crate::shown::shown_line;
+use crate::shown::{shown_line, without_indent};
 use drawing::write_drawing;
 use regmodel::Prefix;
 use regmodel::limits::MOST_LETTERS;
@@ -40,7 +40,7 @@ fn write_breach<W: Write>(
     ensures { Writes (W.contents out.old) (W.contents out.new) (spec.breach_text path.now text.now breach.now) (write_fault_of result) }
 {
     let letters = breach.schedule.letters().len() as u64;
-    let line = shown_line(text, breach.line);
+    let line = without_indent(shown_line(text, breach.line));
     write_failing(path, letters, line, breach.line, out)?;
     write_drawing(&breach.drawing, false, out)?;
     write_replay(path, &breach.schedule, out)

@@ -7,8 +7,8 @@ use std::test::Fail;
 /// What to change, by the code of the fault; none has code 0.
 const CHANGES: [&str; 9] = [
     "",
-    "use spaces, and no other bytes than those from space to ~",
-    "begin the line with a word of the language, and go on with numbers, variables v0 to v15, cells [0] to [31] or [v0] to [v15], operators and kinds",
+    "use spaces, and no other bytes than those from space to ~; end each line with a line feed alone",
+    "begin the line with one of registers, process, end, set, read, write, if, else, fi, repeat, done, emit, halt, use, check, and go on with numbers, variables v0 to v15, cells [0] to [31] or [v0] to [v15], operators and kinds",
     "write a number with digits alone, and without a 0 before others",
     "give the line its form: registers NUMBER, set TARGET EXPR, read TARGET OPERAND, write OPERAND EXPR, if EXPR, repeat EXPR, emit EXPR, use KIND NUMBERS; process, end, else, fi, done and halt stand alone",
     "move the line, or close what is open: an if with fi, a repeat with done, a process with end",
@@ -293,12 +293,12 @@ const EXPLAINED: [(&[u8], &str, usize); 58] = [
     ),
     (
         b"# a\t\nregisters 1\n",
-        "FILE:1: a byte that is not printable ASCII, such as a tab\n# a?",
+        "FILE:1: a byte that is not printable ASCII, such as a tab or the carriage return of a Windows line end\n# a?",
         1,
     ),
     (
         b"registers 1\nprocess\nemit\t007\nend\n",
-        "FILE:3: a byte that is not printable ASCII, such as a tab\nemit?007",
+        "FILE:3: a byte that is not printable ASCII, such as a tab or the carriage return of a Windows line end\nemit?007",
         1,
     ),
 ];

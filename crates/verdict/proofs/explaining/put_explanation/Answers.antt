@@ -9,17 +9,17 @@ use Rattle.verdict.proofs.explaining.put_explanation.Goals as goal
 pub returns-in_err-put_heading : goal.returns-in_err-put_heading
 returns-in_err-put_heading g c =
     let p = err_from_is_err_and c.from_residual.result c.from_residual.ensures.1 in
-    rw (p.1, p.2) (fault_before (fault_before (fault_before (fault_before c.in_err-put_heading.ensures (printable_text c.args.line.now)) (codes "\n")) (change_text c.args.fault.now.code)) (codes "\n"))
+    rw (p.1, p.2) (fault_before (fault_before (fault_before (fault_before c.in_err-put_heading.ensures (printable_text c.args.line.now)) (codes "\n")) (change_text c.args.rejection.now.fault.code (spec.culprit_of c.args.rejection.now c.args.line.now))) (codes "\n"))
 
 pub returns-in_err-put_printable : goal.returns-in_err-put_printable
 returns-in_err-put_printable g c =
     let p = err_from_is_err_and c.from_residual-in_err-put_printable.result c.from_residual-in_err-put_printable.ensures.1 in
-    rw (p.1, p.2) (fault_before (fault_before (fault_before (after_text c.in_ok-put_heading.ensures c.in_err-put_printable.ensures) (codes "\n")) (change_text c.args.fault.now.code)) (codes "\n"))
+    rw (p.1, p.2) (fault_before (fault_before (fault_before (after_text c.in_ok-put_heading.ensures c.in_err-put_printable.ensures) (codes "\n")) (change_text c.args.rejection.now.fault.code (spec.culprit_of c.args.rejection.now c.args.line.now))) (codes "\n"))
 
 pub returns-in_err-put : goal.returns-in_err-put
 returns-in_err-put g c =
     let p = err_from_is_err_and c.from_residual-in_err-put.result c.from_residual-in_err-put.ensures.1 in
-    rw (p.1, p.2) (fault_before (fault_before (after_text (after_text c.in_ok-put_heading.ensures c.in_ok-put_printable.ensures) c.in_err-put.ensures) (change_text c.args.fault.now.code)) (codes "\n"))
+    rw (p.1, p.2) (fault_before (fault_before (after_text (after_text c.in_ok-put_heading.ensures c.in_ok-put_printable.ensures) c.in_err-put.ensures) (change_text c.args.rejection.now.fault.code (spec.culprit_of c.args.rejection.now c.args.line.now))) (codes "\n"))
 
 pub returns-in_err-put_change : goal.returns-in_err-put_change
 returns-in_err-put_change g c =

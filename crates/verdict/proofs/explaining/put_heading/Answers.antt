@@ -7,22 +7,22 @@ use Rattle.verdict.proofs.explaining.put_heading.Goals as goal
 pub returns-in_err-put : goal.returns-in_err-put
 returns-in_err-put g c =
     let p = err_from_is_err_and c.from_residual.result c.from_residual.ensures.1 in
-    rw (p.1, p.2) (fault_before (fault_before (fault_before (fault_before (fault_before c.in_err-put.ensures (codes ":")) (decimal c.args.number)) (codes ": ")) (spec.fault_text c.args.code c.args.line.now)) (codes "\n"))
+    rw (p.1, p.2) (fault_before (fault_before (fault_before (fault_before (fault_before c.in_err-put.ensures (codes ":")) (decimal c.args.rejection.now.fault.line)) (codes ": ")) (spec.fault_text c.args.rejection.now c.args.line.now)) (codes "\n"))
 
 pub returns-in_err-put-2 : goal.returns-in_err-put-2
 returns-in_err-put-2 g c =
     let p = err_from_is_err_and c.from_residual-in_err-put-2.result c.from_residual-in_err-put-2.ensures.1 in
-    rw (p.1, p.2) (fault_before (fault_before (fault_before (fault_before (after_text c.in_ok-put.ensures c.in_err-put-2.ensures) (decimal c.args.number)) (codes ": ")) (spec.fault_text c.args.code c.args.line.now)) (codes "\n"))
+    rw (p.1, p.2) (fault_before (fault_before (fault_before (fault_before (after_text c.in_ok-put.ensures c.in_err-put-2.ensures) (decimal c.args.rejection.now.fault.line)) (codes ": ")) (spec.fault_text c.args.rejection.now c.args.line.now)) (codes "\n"))
 
 pub returns-in_err-put_digits : goal.returns-in_err-put_digits
 returns-in_err-put_digits g c =
     let p = err_from_is_err_and c.from_residual-in_err-put_digits.result c.from_residual-in_err-put_digits.ensures.1 in
-    rw (p.1, p.2) (fault_before (fault_before (fault_before (after_text (after_text c.in_ok-put.ensures c.in_ok-put-2.ensures) c.in_err-put_digits.ensures) (codes ": ")) (spec.fault_text c.args.code c.args.line.now)) (codes "\n"))
+    rw (p.1, p.2) (fault_before (fault_before (fault_before (after_text (after_text c.in_ok-put.ensures c.in_ok-put-2.ensures) c.in_err-put_digits.ensures) (codes ": ")) (spec.fault_text c.args.rejection.now c.args.line.now)) (codes "\n"))
 
 pub returns-in_err-put-3 : goal.returns-in_err-put-3
 returns-in_err-put-3 g c =
     let p = err_from_is_err_and c.from_residual-in_err-put-3.result c.from_residual-in_err-put-3.ensures.1 in
-    rw (p.1, p.2) (fault_before (fault_before (after_text (after_text (after_text c.in_ok-put.ensures c.in_ok-put-2.ensures) c.in_ok-put_digits.ensures) c.in_err-put-3.ensures) (spec.fault_text c.args.code c.args.line.now)) (codes "\n"))
+    rw (p.1, p.2) (fault_before (fault_before (after_text (after_text (after_text c.in_ok-put.ensures c.in_ok-put-2.ensures) c.in_ok-put_digits.ensures) c.in_err-put-3.ensures) (spec.fault_text c.args.rejection.now c.args.line.now)) (codes "\n"))
 
 pub returns-in_err-put_fault : goal.returns-in_err-put_fault
 returns-in_err-put_fault g c =

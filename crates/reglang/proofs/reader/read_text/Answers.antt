@@ -1,7 +1,8 @@
-use Rattle.std.proofs.Common.{◌≡◌, Err, length, max, ◌∙◌, ap, arith}
+use Rattle.std.proofs.Common.{◌≡◌, Err, length, max, ◌∙◌, ap, arith, sym}
+use Rattle.reglang.specs.Drafts.{reading_of}
 use Rattle.reglang.proofs.Fits.{read_on_fits}
-use Rattle.reglang.proofs.Spelled.{IsCut, left_next, left_refused, left_ended, line_refused, no_fault_before, read_spells, read_fails}
-use Rattle.reglang.proofs.reader.read_source.Goals as goal
+use Rattle.reglang.proofs.Spelled.{IsCut, left_next, left_refused, left_ended, line_refused, line_at_fault, end_at_fault, end_without_memory, no_fault_before, read_spells, read_fails}
+use Rattle.reglang.proofs.reader.read_text.Goals as goal
 
 pub returns-in-Err-clause-first_fault : goal.returns-in-Err-clause-first_fault
 returns-in-Err-clause-first_fault c = λ other.
@@ -49,3 +50,14 @@ pub returns-in-Err-finish-clause-no_fault_before : goal.returns-in-Err-finish-cl
 returns-in-Err-finish-clause-no_fault_before c =
     let number : max 1 c.loop-bytes.line ≡ c.max.result = omega (arith, c.max.ensures) in
     rw (read_fails c.args.text.now _ (left_ended _ _ _ _ _ c.loop-bytes.invariant.left c.in_default.ensures c.in-Err-finish.ensures ∙ ap (λ n. Err (record { line = n; code = c.in-Err-finish.code })) number)).0 (omega arith)
+
+pub returns-in-Err-clause-of_end : goal.returns-in-Err-clause-of_end
+returns-in-Err-clause-of_end c = λ other.
+    let cut : IsCut c.loop-bytes.rest.now c.in-Some.bytes.now c.in-Some.after.now = record { cut = c.in-Some.ensures.0 } in
+    sym (line_at_fault _ _ _ _ _ _ c.in-Err.refusal _ c.loop-bytes.invariant.left cut c.in-Err.ensures c.fault.ensures other)
+
+pub returns-in-Err-finish-clause-of_end : goal.returns-in-Err-finish-clause-of_end
+returns-in-Err-finish-clause-of_end c = λ other. sym (end_at_fault _ _ _ _ c.loop-bytes.invariant.left c.in_default.ensures)
+
+pub returns-in-Err-finish-clause-of_memory : goal.returns-in-Err-finish-clause-of_memory
+returns-in-Err-finish-clause-of_memory c = λ e. absurd (end_without_memory (reading_of c.loop-bytes.draft) c.in-Err-finish.code c.in-Err-finish.ensures e)
