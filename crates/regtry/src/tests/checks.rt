@@ -1,9 +1,10 @@
 //! What a check says, where a schedule fails and where none does.
 
-use super::asking::asked;
+use super::asking::{asked, assert_answer};
 use super::sources::{FAULTS, HALTS, SPLITTER, TWO_WRITERS};
+use std::test::Fail;
 
-/// Two processes that are done with the same name; the second check is the one that they break.
+/// Two processes that are done with the same name; the second check, which is indented, is the one that they break.
 const SAME_NAME: &[u8] =
     b"registers 1\ncheck ended\n# names\n check distinct\nprocess\nread v0 0\nemit 1\nend\nprocess\nemit 1\nend\n";
 
@@ -89,7 +90,7 @@ Some schedules were cut off at 64 letters, with a process still running; longer 
         &["regtry", "check", "FILE"],
         1,
         b"\
-FILE: a schedule of 1 letter fails:  check distinct (line 4)
+FILE: a schedule of 1 letter fails: check distinct (line 4)
 
 step  process 0   process 1    r0
 0                              0
@@ -151,26 +152,34 @@ const REFUSED: [(&[u8], &[&str], &[u8]); 7] = [
 #[test]
 fn a_check_says_what_fails(rt: HostRuntime) {
     for (source, words, status, text) in CHECKS {
-        let reply = asked(&rt, words, Some(source));
-        assert_eq!(rt; reply.out.as_slice(), text);
-        assert_eq!(rt; reply.status, status);
-        assert!(rt; reply.err.is_empty());
+        assert_answer(&rt, words, source, status, text, b"");
     }
 }
 
 #[test]
 fn refusals_are_told_in_words(rt: HostRuntime) {
     for (source, words, text) in REFUSED {
-        let reply = asked(&rt, words, Some(source));
-        assert_eq!(rt; reply.status, 2);
-        assert_eq!(rt; reply.err.as_slice(), text);
-        assert!(rt; reply.out.is_empty());
+        assert_answer(&rt, words, source, 2, b"", text);
     }
+}
+
+#[test]
+fn a_file_that_cannot_be_read_is_told_in_words(rt: HostRuntime) {
     let none: Option<&[u8]> = None;
     let reply = asked(&rt, &["regtry", "check", "FILE"], none);
-    assert_eq!(rt; reply.status, 2);
-    assert_eq!(rt;
-        reply.err.as_slice(),
-        b"FILE: the file cannot be read, or is longer than 1048576 bytes\n".as_slice()
-    );
+    let text = b"FILE: the file cannot be read\n".as_slice();
+    assert_eq!(rt; (reply.status, reply.err.as_slice()), (2, text));
+}
+
+#[test]
+fn a_file_that_is_too_long_is_told_in_words(rt: HostRuntime) -> Result<(), Fail> {
+    let long = vec![in rt.alloc(); b'#'; 1048577]?;
+    for words in [
+        ["regtry", "check", "FILE"].as_slice(),
+        ["regtry", "show", "FILE", "."].as_slice(),
+    ] {
+        let text = b"FILE: the file is longer than 1048576 bytes\n";
+        assert_answer(&rt, words, long.as_slice(), 2, b"", text);
+    }
+    Ok(())
 }
