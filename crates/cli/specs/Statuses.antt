@@ -1,7 +1,7 @@
 -- The statuses of the program.
 use Rattle.std.specs.Prelude.{ℕ}
 use Rattle.cli.specs.declared.refusals.Refusal.{Refusal}
-use Rattle.cli.specs.declared.refusals.Refusal.TheVariants.{Words, Setting, Schedule, File, Source, Memory, Letter, Run, Write}
+use Rattle.cli.specs.declared.refusals.Refusal.TheVariants.{Words, Setting, Schedule, File, LongFile, Source, Memory, Letter, Run, Write}
 
 -- 2 where what was asked is refused, 3 where it could not be done
 abbrev pub status_of : Refusal → ℕ
@@ -9,7 +9,8 @@ status_of Words = 2
 status_of (Setting code) = 2
 status_of Schedule = 2
 status_of File = 2
-status_of (Source fault) = 2
+status_of LongFile = 2
+status_of (Source rejection) = 2
 status_of Memory = 3
 status_of (Letter place) = 2
 status_of (Run code) = 3

@@ -2,7 +2,7 @@
 
 ghost use Rattle.std.specs.Prelude.{◌≡◌, ◌≤◌, ◌⊎◌, IfErr, IfOk, IsNone, None, OnErr, OnOk, if◌then◌else◌, option_and_then};
 ghost use Rattle.report.specs.Appending.{Writes};
-ghost use Rattle.cli.specs.Findings.{HasBeginning, IsAnswered, IsCutShort, IsRefusal, IsRefusedWith, IsTextOf, finding_text};
+ghost use Rattle.cli.specs.Findings.{HasBeginning, IsAnswered, IsCutShort, IsRefusal, IsRefusedWith, IsTextOf, IsTooLong, finding_text};
 
 use crate::findings::{Finding, found};
 use crate::orders::Order;
@@ -100,12 +100,13 @@ fn tell<W: Write>(path: &str, text: &[u8], finding: &Finding, out: &mut W) -> Re
 /// All bytes of a file, where they are not too many.
 fn bytes_of<R: Read + Drop>(alloc: Global, file: R) -> Result<Vec<u8>, Refusal>
     ensures text { IfOk result (λ bytes. IsTextOf (R.remaining file) bytes.items) }
-    ensures err { IfErr result (λ refusal. (refusal ≡ Refusal.File) ⊎ (refusal ≡ Refusal.Memory)) }
+    ensures err { IfErr result (λ refusal. (refusal ≡ Refusal.File) ⊎ (refusal ≡ Refusal.LongFile) ⊎ (refusal ≡ Refusal.Memory)) }
+    ensures long { IfErr result (λ refusal. refusal ≡ Refusal.LongFile → IsTooLong (R.remaining file)) }
 {
     let mut bytes = Vec::new(alloc);
     match file.take(MOST_BYTES + 1).read_to_end(&mut bytes) {
         Ok(count) if count as u64 <= MOST_BYTES => Ok(bytes),
-        Ok(_) => Err(Refusal::File),
+        Ok(_) => Err(Refusal::LongFile),
         Err(error) if error.kind() == ErrorKind::OutOfMemory => Err(Refusal::Memory),
         Err(_) => Err(Refusal::File),
     }

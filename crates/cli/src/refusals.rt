@@ -3,7 +3,7 @@
 ghost use Rattle.std.specs.Prelude.{◌≡◌, ◌⊎◌};
 ghost use Rattle.cli.specs.Statuses.{status_of};
 
-use reglang::ReadFault;
+use reglang::Rejection;
 use regmodel::OutOfMemory;
 use std::alloc::{AllocError, AllocFailed};
 use std::io::Write;
@@ -21,12 +21,15 @@ pub enum Refusal {
     /// A word that is the text of no schedule.
     #[error("schedule")]
     Schedule,
-    /// A file that cannot be read, or is too long.
+    /// A file that cannot be read.
     #[error("file")]
     File,
+    /// A file that is too long.
+    #[error("file")]
+    LongFile,
     /// A text that is no source.
     #[error("{0}")]
-    Source(ReadFault),
+    Source(Rejection),
     /// A request for memory was refused.
     #[error("memory")]
     Memory,
@@ -51,6 +54,7 @@ impl Refusal {
             | Refusal::Setting(_)
             | Refusal::Schedule
             | Refusal::File
+            | Refusal::LongFile
             | Refusal::Source(_)
             | Refusal::Letter(_) => 2,
             Refusal::Memory | Refusal::Run(_) | Refusal::Write => 3,

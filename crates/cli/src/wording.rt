@@ -10,8 +10,8 @@ use verdict::write_explanation;
 
 /// Where a source is refused, writes what is wrong with the text in the file of this path, as far as that can be written.
 pub fn explain<E: Write>(path: &str, text: &[u8], refusal: &Refusal, err: &mut E) {
-    if let Refusal::Source(fault) = refusal {
-        let _ = write_explanation(path.as_bytes(), text, fault, err);
+    if let Refusal::Source(rejection) = refusal {
+        let _ = write_explanation(path.as_bytes(), text, rejection, err);
     }
 }
 
@@ -32,10 +32,8 @@ fn write_words<E: Write>(path: &str, refusal: &Refusal, err: &mut E) -> io::Resu
             err,
             "this is no schedule: write at most 64 letters parted by one space, each R or C and the number of a process, 0 to 7, or . for none"
         ),
-        Refusal::File => writeln!(
-            err,
-            "{path}: the file cannot be read, or is longer than 1048576 bytes"
-        ),
+        Refusal::File => writeln!(err, "{path}: the file cannot be read"),
+        Refusal::LongFile => writeln!(err, "{path}: the file is longer than 1048576 bytes"),
         Refusal::Source(_) => Ok(()),
         Refusal::Memory => writeln!(err, "memory ran out"),
         Refusal::Letter(place) => writeln!(

@@ -2,8 +2,9 @@
 
 use super::asking::asked;
 use super::sources::{FAULTS, HALTS, SPLITTER, TWO_WRITERS};
+use std::test::Fail;
 
-/// Two processes that are done with the same name; the second check is the one that they break.
+/// Two processes that are done with the same name; the second check, which is indented, is the one that they break.
 const SAME_NAME: &[u8] =
     b"registers 1\ncheck ended\n# names\n check distinct\nprocess\nread v0 0\nemit 1\nend\nprocess\nemit 1\nend\n";
 
@@ -89,7 +90,7 @@ Some schedules were cut off at 64 letters, with a process still running; longer 
         &["regtry", "check", "FILE"],
         1,
         b"\
-FILE: a schedule of 1 letter fails:  check distinct (line 4)
+FILE: a schedule of 1 letter fails: check distinct (line 4)
 
 step  process 0   process 1    r0
 0                              0
@@ -159,7 +160,7 @@ fn a_check_says_what_fails(rt: HostRuntime) {
 }
 
 #[test]
-fn refusals_are_told_in_words(rt: HostRuntime) {
+fn refusals_are_told_in_words(rt: HostRuntime) -> Result<(), Fail> {
     for (source, words, text) in REFUSED {
         let reply = asked(&rt, words, Some(source));
         assert_eq!(rt; reply.status, 2);
@@ -171,6 +172,19 @@ fn refusals_are_told_in_words(rt: HostRuntime) {
     assert_eq!(rt; reply.status, 2);
     assert_eq!(rt;
         reply.err.as_slice(),
-        b"FILE: the file cannot be read, or is longer than 1048576 bytes\n".as_slice()
+        b"FILE: the file cannot be read\n".as_slice()
     );
+    let long = vec![in rt.alloc(); b'#'; 1048577]?;
+    for words in [
+        ["regtry", "check", "FILE"].as_slice(),
+        ["regtry", "show", "FILE", "."].as_slice(),
+    ] {
+        let reply = asked(&rt, words, Some(long.as_slice()));
+        assert_eq!(rt; reply.status, 2);
+        assert_eq!(rt;
+            reply.err.as_slice(),
+            b"FILE: the file is longer than 1048576 bytes\n".as_slice()
+        );
+    }
+    Ok(())
 }
