@@ -10,11 +10,3 @@ all_read (Some xs) limit old new told none short =
     let same : new ≡ take limit xs = told ∙ ap (λ ys. ys ++ take limit xs) none in
     let count = ap length same ∙ length-take limit xs in
     same ∙ take_all limit xs (omega arith)
-
--- more bytes are known than this, where more were read
-pub more_known : (known : Option (List ℕ)) (limit most : ℕ) (old new : List ℕ) → IfSome (option_map (take limit) known) (λ xs. new ≡ old ++ xs) → old ≡ [] → most < length new → IfSome known (λ xs. most < length xs)
-more_known None limit most old new told none many = tt
-more_known (Some xs) limit most old new told none many =
-    let same : new ≡ take limit xs = told ∙ ap (λ ys. ys ++ take limit xs) none in
-    let count = ap length same ∙ length-take limit xs in
-    omega arith

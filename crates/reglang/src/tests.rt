@@ -1,4 +1,4 @@
-use crate::{ReadFault, Source, Use, expand, read_source, read_text, write_source};
+use crate::{ReadFault, Use, expand, read_source, read_text, write_source};
 use regmodel::{Clause, Expr, Operand, Prog, Stmt};
 use std::alloc::Global;
 use std::io::Write;
@@ -150,8 +150,7 @@ fn shown(alloc: Global, prog: &Prog) -> Result<Vec<u8>, Fail> {
 fn use_lines_stand_for_their_expansions(rt: HostRuntime) -> Result<(), Fail> {
     for (text, kind) in USES {
         let source = read_source(rt.alloc(), text).ok().ok_or("refused")?;
-        assert_eq!(rt; source.processes(), 1);
-        assert_eq!(rt; source.use_of(0), Some(&kind));
+        assert_eq!(rt; (source.processes(), source.use_of(0)), (1, Some(&kind)));
         let prog = source.prog(rt.alloc(), 0)?;
         let expanded = expand(rt.alloc(), &kind, source.registers())
             .ok()
@@ -166,27 +165,29 @@ const EVERY_LINE: &[u8] =
 
 #[test]
 fn reads_every_line(rt: HostRuntime) -> Result<(), Fail> {
-    let source: Source = read_source(rt.alloc(), EVERY_LINE).ok().ok_or("refused")?;
-    assert_eq!(rt; source.registers(), 64);
-    assert_eq!(rt; source.processes(), 2);
-    assert_eq!(rt; source.use_of(0), None);
-    assert_eq!(rt; source.use_of(1), Some(&Use::Split(62, 1)));
+    let source = read_source(rt.alloc(), EVERY_LINE).ok().ok_or("refused")?;
+    assert_eq!(rt; (source.registers(), source.processes()), (64, 2));
+    let uses = (source.use_of(0), source.use_of(1));
+    assert_eq!(rt; uses, (None, Some(&Use::Split(62, 1))));
     let clauses = [
         Clause::Distinct,
         Clause::AtMost(1000000000, 8),
         Clause::Within(5, 4),
     ];
     assert_eq!(rt; source.clauses().list(), clauses.as_slice());
+    Ok(())
+}
+
+#[test]
+fn reads_the_parts_of_an_if(rt: HostRuntime) -> Result<(), Fail> {
+    let source = read_source(rt.alloc(), EVERY_LINE).ok().ok_or("refused")?;
     let prog = source.prog(rt.alloc(), 0)?;
-    assert_eq!(rt; prog.body().len(), 7);
-    match prog.body().get(4) {
-        Some(Stmt::If(test, first, second)) => {
-            assert!(rt; *test == Expr::One(Operand::Var(0)));
-            assert!(rt; first.is_empty());
-            assert_eq!(rt; second.len(), 1);
-        }
-        _ => return Err(Fail::from("no if")),
-    }
+    let Some(Stmt::If(test, first, second)) = prog.body().get(4) else {
+        return Err(Fail::from("no if"));
+    };
+    let counts = (prog.body().len(), first.len(), second.len());
+    assert_eq!(rt; counts, (7, 0, 1));
+    assert!(rt; *test == Expr::One(Operand::Var(0)));
     Ok(())
 }
 
