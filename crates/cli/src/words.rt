@@ -119,7 +119,15 @@ pub fn matches_of<'a, S: AsStr>(alloc: Global, words: &'a [S]) -> Result<ArgMatc
 
 /// The program's words.
 fn program<'a>(alloc: Global) -> Result<Command<'a>, AllocError> {
-    Command::new(alloc, "regtry")
+    let program = with_order(regtry(alloc), check(alloc));
+    let program = with_order(program, explore(alloc));
+    let program = with_order(program, replay(alloc));
+    with_order(program, show(alloc))
+}
+
+/// The program without its orders.
+fn regtry<'a>(alloc: Global) -> Result<Command<'a>, AllocError> {
+    let program = Command::new(alloc, "regtry")
         .bin_name("regtry")?
         .about(
             "Runs register algorithms under all bounded schedules and reports what can come out.",
@@ -127,64 +135,90 @@ fn program<'a>(alloc: Global) -> Result<Command<'a>, AllocError> {
         .version(VERSION)
         .after_help(STATUSES)
         .subcommand_required(true)
-        .disable_help_subcommand(true)
-        .subcommand(check(alloc)?)?
-        .subcommand(explore(alloc)?)?
-        .subcommand(replay(alloc)?)?
-        .subcommand(show(alloc)?)
+        .disable_help_subcommand(true);
+    Ok(program)
+}
+
+/// A program that takes one order more, where memory was found for both.
+fn with_order<'a>(
+    program: Result<Command<'a>, AllocError>,
+    order: Result<Command<'a>, AllocError>,
+) -> Result<Command<'a>, AllocError> {
+    program?.subcommand(order?)
+}
+
+/// An order on a file: its name, what the help says of it, and what the help ends with.
+fn order<'a>(
+    alloc: Global,
+    name: &'a str,
+    about: &'a str,
+    end: &'a str,
+) -> Result<Command<'a>, AllocError> {
+    Command::new(alloc, name)
+        .about(about)
+        .after_help(end)
+        .arg(file(alloc))
+}
+
+/// An order that takes one word or option more, where memory was found for it.
+fn with<'a>(
+    order: Result<Command<'a>, AllocError>,
+    arg: Arg<'a>,
+) -> Result<Command<'a>, AllocError> {
+    order?.arg(arg)
 }
 
 /// The words of `check`.
 fn check<'a>(alloc: Global) -> Result<Command<'a>, AllocError> {
-    let mut command = Command::new(alloc, "check")
-        .about("Checks all schedules of a source and says what fails, in words.")
-        .after_help(CHECKS)
-        .arg(file(alloc))?;
+    let mut order = order(
+        alloc,
+        "check",
+        "Checks all schedules of a source and says what fails, in words.",
+        CHECKS,
+    );
     for (name, value, help) in BOUNDS {
-        command = command.arg(bound(alloc, name, value, help))?;
+        order = with(order, bound(alloc, name, value, help));
     }
-    command.arg(text(alloc))?.arg(progress(alloc))
+    with(with(order, text(alloc)), progress(alloc))
 }
 
 /// The words of `explore`.
 fn explore<'a>(alloc: Global) -> Result<Command<'a>, AllocError> {
-    let least = Arg::new(alloc, "least")
-        .long("least")
-        .action(ArgAction::SetTrue)
-        .help(
-            "Look for the least failing schedule alone: no outcomes are printed, and what can hold no lower one is left out",
-        );
-    let mut command = Command::new(alloc, "explore")
-        .about("Explores all schedules of a source and prints a report of the outcomes.")
-        .after_help(STATUSES)
-        .arg(file(alloc))?;
+    let mut order = order(
+        alloc,
+        "explore",
+        "Explores all schedules of a source and prints a report of the outcomes.",
+        STATUSES,
+    );
     for (name, value, help) in SETTINGS {
-        command = command.arg(number(alloc, name, value, help))?;
+        order = with(order, number(alloc, name, value, help));
     }
-    command.arg(text(alloc))?.arg(least)?.arg(progress(alloc))
+    with(
+        with(with(order, text(alloc)), least(alloc)),
+        progress(alloc),
+    )
 }
 
 /// The words of `replay`.
 fn replay<'a>(alloc: Global) -> Result<Command<'a>, AllocError> {
-    Command::new(alloc, "replay")
-        .about("Replays one schedule of a source and prints where it leads.")
-        .after_help(SCHEDULES)
-        .arg(file(alloc))?
-        .arg(schedule(alloc))
+    let order = order(
+        alloc,
+        "replay",
+        "Replays one schedule of a source and prints where it leads.",
+        SCHEDULES,
+    );
+    with(order, schedule(alloc))
 }
 
 /// The words of `show`.
 fn show<'a>(alloc: Global) -> Result<Command<'a>, AllocError> {
-    let all = Arg::new(alloc, "all")
-        .long("all")
-        .action(ArgAction::SetTrue)
-        .help("Draw all registers, however long the lines become");
-    Command::new(alloc, "show")
-        .about("Draws one schedule of a source: what each of its letters does.")
-        .after_help(DRAWINGS)
-        .arg(file(alloc))?
-        .arg(schedule(alloc))?
-        .arg(all)
+    let order = order(
+        alloc,
+        "show",
+        "Draws one schedule of a source: what each of its letters does.",
+        DRAWINGS,
+    );
+    with(with(order, schedule(alloc)), all(alloc))
 }
 
 /// The required word that names the file.
@@ -207,6 +241,24 @@ fn text<'a>(alloc: Global) -> Arg<'a> {
         .long("text")
         .action(ArgAction::SetTrue)
         .help("Interpret the processes with a `use` line, too, which else run as native machines")
+}
+
+/// The flag that asks for the least failing schedule alone.
+fn least<'a>(alloc: Global) -> Arg<'a> {
+    Arg::new(alloc, "least")
+        .long("least")
+        .action(ArgAction::SetTrue)
+        .help(
+            "Look for the least failing schedule alone: no outcomes are printed, and what can hold no lower one is left out",
+        )
+}
+
+/// The flag that asks for all registers in a drawing.
+fn all<'a>(alloc: Global) -> Arg<'a> {
+    Arg::new(alloc, "all")
+        .long("all")
+        .action(ArgAction::SetTrue)
+        .help("Draw all registers, however long the lines become")
 }
 
 /// The flag that asks to tell how far a run has come.
