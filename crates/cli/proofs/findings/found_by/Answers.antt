@@ -15,6 +15,10 @@ pub returns-in-Least-clause-refused : goal.returns-in-Least-clause-refused
 returns-in-Least-clause-refused g c =
     rw c.in-Least.is (record { source = contents_of c.args.source.now; spelled = c.requires.spelled; fault = c.in-Err-least_of.ensures.code })
 
+pub returns-in-Replay-clause-refused : goal.returns-in-Replay-clause-refused
+returns-in-Replay-clause-refused g c =
+    rw c.in-Replay.is (record { source = contents_of c.args.source.now; spelled = c.requires.spelled; letter = c.in-Err-standing_after.ensures.refused })
+
 pub standing_after-requires : goal.standing_after-requires
 standing_after-requires g c =
     last_has (λ list. map (λ b. (goal.Machine-dyn g (b.vtable, b.value)).program b.value) list.items ≡ source_programs c.args.source.now) c.last_of.result c.last_of.new.lists.items c.args.lists.items c.last_of.ensures c.requires.machines
