@@ -8,7 +8,7 @@ use std::sync::Wait;
 use std::thread::Threads;
 
 /// The words of an exploration of length 2 without crashes. Place 4 is the length, 6 the crashes, 8 the workers, 10 the cut, 12 the room.
-pub const WORDS: [&str; 13] = [
+pub(super) const WORDS: [&str; 13] = [
     "regtry",
     "explore",
     "FILE",
@@ -25,18 +25,18 @@ pub const WORDS: [&str; 13] = [
 ];
 
 /// How many processors a command line is read for.
-pub const PROCESSORS: u32 = 2;
+pub(super) const PROCESSORS: u32 = 2;
 
 /// What a run of the program left.
 #[derive(Drop)]
-pub struct Reply {
-    pub status: u8,
-    pub out: Vec<u8>,
-    pub err: Vec<u8>,
+pub(super) struct Reply {
+    pub(super) status: u8,
+    pub(super) out: Vec<u8>,
+    pub(super) err: Vec<u8>,
 }
 
 /// What the program answers to words, on a file or on one that could not be opened.
-pub fn asked<H: Threads + Wait + Sync + AllocGlobal, R: Read + Drop>(
+pub(super) fn asked<H: Threads + Wait + Sync + AllocGlobal, R: Read + Drop>(
     rt: &H,
     words: &[&str],
     file: Option<R>,
@@ -48,7 +48,7 @@ pub fn asked<H: Threads + Wait + Sync + AllocGlobal, R: Read + Drop>(
 }
 
 /// Asserts what the program answers to words on a file: the status, and what it writes to standard output and to standard error.
-pub fn assert_answer<H: Abort + Threads + Wait + Sync + AllocGlobal>(
+pub(super) fn assert_answer<H: Abort + Threads + Wait + Sync + AllocGlobal>(
     rt: &H,
     words: &[&str],
     text: &[u8],
@@ -61,6 +61,16 @@ pub fn assert_answer<H: Abort + Threads + Wait + Sync + AllocGlobal>(
     assert_eq!(rt; answer, (status, out, err));
 }
 
+/// What stands after a word at the beginning of a line of what was printed.
+pub(super) fn told_after<'a>(printed: &'a str, word: &str) -> Option<&'a str> {
+    for line in printed.split('\n') {
+        if let Some(rest) = line.strip_prefix(word) {
+            return Some(rest);
+        }
+    }
+    None
+}
+
 /// The list of these words.
 fn list_of<'a>(alloc: Global, words: &[&'a str]) -> Result<Vec<&'a str>, Refusal> {
     let mut list = Vec::new(alloc);
@@ -71,7 +81,7 @@ fn list_of<'a>(alloc: Global, words: &[&'a str]) -> Result<Vec<&'a str>, Refusal
 }
 
 /// The status of words on a file, where standard output and standard error are these.
-pub fn asked_to_write<
+pub(super) fn asked_to_write<
     H: Threads + Wait + Sync + AllocGlobal,
     R: Read + Drop,
     W: Write,
@@ -82,7 +92,7 @@ pub fn asked_to_write<
 }
 
 /// The status of words that are refused, 0 of others, and what is printed of them.
-pub fn refused(alloc: Global, words: &[&str]) -> (u8, Vec<u8>) {
+pub(super) fn refused(alloc: Global, words: &[&str]) -> (u8, Vec<u8>) {
     let mut err = Vec::new(alloc);
     let status = match command(alloc, words, PROCESSORS, &mut err) {
         Ok(_) => 0,
@@ -92,7 +102,7 @@ pub fn refused(alloc: Global, words: &[&str]) -> (u8, Vec<u8>) {
 }
 
 /// The file that words name, where they are not refused.
-pub fn file_named_in<'a>(alloc: Global, words: &'a [&str]) -> Option<&'a str> {
+pub(super) fn file_named_in<'a>(alloc: Global, words: &'a [&str]) -> Option<&'a str> {
     match command(alloc, words, PROCESSORS, &mut Vec::new(alloc)) {
         Ok(order) => Some(order.path()),
         Err(_) => None,

@@ -1,6 +1,6 @@
 //! Command lines as a document shows them, with what they print.
 
-use super::asking::asked;
+use super::asking::{asked, told_after};
 use std::alloc::Global;
 use std::process::Abort;
 use std::sync::Wait;
@@ -25,7 +25,7 @@ fn words_in<'a>(alloc: Global, line: &'a str) -> Result<Vec<&'a str>, Fail> {
 
 /// Asserts that a command line, shown after a dollar sign, prints the lines below it and ends with the status. The files are those
 /// that it may name, each with its text.
-pub fn assert_prints<H: Abort + Threads + Wait + Sync + AllocGlobal>(
+pub(super) fn assert_prints<H: Abort + Threads + Wait + Sync + AllocGlobal>(
     rt: &H,
     files: &[(&str, &str)],
     status: u8,
@@ -55,16 +55,6 @@ fn text_named<'a>(files: &[(&str, &'a str)], path: &str) -> Option<&'a str> {
     None
 }
 
-/// What stands after a word at the beginning of a line of a text.
-fn told_after<'a>(text: &'a str, word: &str) -> Option<&'a str> {
-    for line in text.split('\n') {
-        if let Some(rest) = line.strip_prefix(word) {
-            return Some(rest);
-        }
-    }
-    None
-}
-
 /// The words of a line, without the marks that part or follow them.
 fn words_of<'a>(alloc: Global, line: &'a str) -> Result<Vec<&'a str>, Fail> {
     let mut words = Vec::new(alloc);
@@ -76,7 +66,7 @@ fn words_of<'a>(alloc: Global, line: &'a str) -> Result<Vec<&'a str>, Fail> {
 }
 
 /// Asserts that the schedule told as the least failing one, where one is, ends in a drawing as it does in a replay.
-pub fn assert_drawn_as_replayed<H: Abort + Threads + Wait + Sync + AllocGlobal>(
+pub(super) fn assert_drawn_as_replayed<H: Abort + Threads + Wait + Sync + AllocGlobal>(
     rt: &H,
     files: &[(&str, &str)],
     shown: &str,

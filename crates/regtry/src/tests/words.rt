@@ -8,7 +8,7 @@ use std::process::Abort;
 use std::test::Fail;
 
 /// 65 letters; without its first three bytes, 64.
-pub const LONG: &str =
+pub(super) const LONG: &str =
     "R0 R0 R0 R0 R0 R0 R0 R0 R0 R0 R0 R0 R0 R0 R0 R0 R0 R0 R0 R0 R0 R0 R0 R0 R0 R0 R0 R0 R0 R0 R0 R0 R0 R0 R0 R0 R0 R0 R0 R0 R0 R0 R0 R0 R0 R0 R0 R0 R0 R0 R0 R0 R0 R0 R0 R0 R0 R0 R0 R0 R0 R0 R0 R0 R0";
 
 /// Asserts that words are refused, and what is printed of them.

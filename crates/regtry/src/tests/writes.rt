@@ -7,7 +7,7 @@ use std::io::Write;
 
 /// A writer that takes no byte.
 #[derive(Drop)]
-pub struct Closed;
+pub(super) struct Closed;
 
 impl Write for Closed {
     fn write(&mut self, _buf: &[u8]) -> io::Result<usize> {
