@@ -1,5 +1,6 @@
 use Rattle.std.proofs.Common.{◌<◌, ◌∙◌, ap, length, arith}
 use Rattle.std.proofs.lemmas.List.{take_all}
+use Rattle.world.proofs.Same.{same_since}
 use Rattle.world.specs.Sound.{letters_of}
 use Rattle.drawing.proofs.Rows.{held-first, letters-more, picture-whole, rows-past}
 use Rattle.drawing.proofs.following.draw.Goals as goal
@@ -10,12 +11,7 @@ loop-place-preserved g c =
     let here : c.loop-place.place < length c.args.schedule.now = omega (arith, c.loop-place-test.true, ap length c.letters-letter-items.ensures.value) in
     let went = c.row_of.ensures.same in
     record {
-      same = record {
-        programs = went.programs ∙ kept.same.programs;
-        registers = went.registers ∙ kept.same.registers;
-        budget = went.budget ∙ kept.same.budget;
-        at = went.at;
-      };
+      same = same_since _ _ _ _ _ kept.same went;
       went = letters-more _ _ _ c.args.schedule.now c.loop-place.place _ c.row_of.ensures.stepped kept.went c.letters-letter-items.ensures.value here;
       rows = rows-past _ _ _ (letters_of c.loop-place.world) _ _ _ _ _ kept.same.programs c.row_of.ensures.stepped c.push.ensures.items kept.rows c.row_of.ensures.row;
       count = omega (arith, kept.count);
