@@ -83,7 +83,7 @@ fn put_line<W: Write>(
         put_placed(out, block, gap, &cell)?;
         gap = gap_past(gap, widths[column], &cell);
     }
-    block.put(out, b"\n")
+    block.put_byte(out, b'\n')
 }
 
 /// Puts a cell's text behind so many spaces; nothing where it is empty.
@@ -122,7 +122,7 @@ fn put_spaces<W: Write>(out: &mut W, block: &mut Block, count: usize) -> Result<
     ensures { Puts (W.contents out.old) block.old (W.contents out.new) block.new (spaces count) (write_fault_of result) }
 {
     for _space in 0..count {
-        block.put(out, b" ")?;
+        block.put_byte(out, b' ')?;
     }
     Ok(())
 }

@@ -72,11 +72,11 @@ impl Interp {
         ensures goes_on { LeadsTo (program_of self.old.prog) (state_at self.old.kept.items self.old.at) reply (state_at self.new.kept.items self.new.at) }
     {
         let state = self.kept[self.at].state;
-        self.at += 1;
-        self.known = self.at + 1;
-        let next = &mut self.kept[self.at];
+        let next = &mut self.kept[self.at + 1];
         *next = Kept { reply, state };
         next.state.go_on(&self.prog, reply);
+        self.at += 1;
+        self.known = self.at + 1;
     }
 
     /// Runs past the reply at the present place, which is known no longer.

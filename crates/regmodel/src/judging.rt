@@ -181,6 +181,10 @@ impl Judge for Clauses {
     fn holds(&self, outcome: &Outcome) -> bool {
         self.list().iter().all(|clause| meets(clause, outcome))
     }
+
+    fn holds_always(&self) -> bool {
+        self.list().is_empty()
+    }
 }
 
 #[cfg(test)]

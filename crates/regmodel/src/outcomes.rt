@@ -73,7 +73,7 @@ impl Outcome {
 
 /// Says which outcomes are good. Its answer is a function of the outcome.
 pub trait Judge: Sync {
-    ghost use Rattle.std.specs.Prelude.{◌≡◌, Bool, List};
+    ghost use Rattle.std.specs.Prelude.{◌≡◌, Bool, IsTrue, List, true};
     ghost use Rattle.regmodel.specs.declared.outcomes.ProcEnd.{ProcEnd};
 
     /// Whether an outcome is good.
@@ -82,4 +82,11 @@ pub trait Judge: Sync {
     /// Whether this outcome is good.
     fn holds(&self, outcome: &Outcome) -> bool
         ensures { result ≡ accepts self.now outcome.now };
+
+    /// Whether every outcome is known to be good, so that none need be shown to the judge. A judge that does not know answers false.
+    fn holds_always(&self) -> bool
+        ensures { IsTrue result → (ends : List ProcEnd) → accepts self.now ends ≡ true }
+    {
+        false
+    }
 }

@@ -1,6 +1,6 @@
 //! What is wrong with a source that is refused, put in words for a writer. No call takes memory.
 
-ghost use Rattle.std.specs.Prelude.{◌≡◌, [], ◌∷◌, ◌++◌, codes};
+ghost use Rattle.std.specs.Prelude.{◌≡◌, ◌++◌, codes};
 ghost use Rattle.reglang.specs.Explanations.{change_text, wrong_text};
 ghost use Rattle.report.specs.Appending.{Puts, Writes, write_fault_of};
 ghost use Rattle.verdict.specs.ExplanationText as spec;
@@ -40,9 +40,9 @@ fn put_explanation<W: Write>(
 {
     put_heading(out, block, path, rejection, line)?;
     put_printable(out, block, line)?;
-    block.put(out, b"\n")?;
+    block.put_byte(out, b'\n')?;
     put_change(out, block, rejection, line)?;
-    block.put(out, b"\n")
+    block.put_byte(out, b'\n')
 }
 
 /// Puts where a line stands, and what is wrong.
@@ -56,11 +56,11 @@ fn put_heading<W: Write>(
     ensures { Puts (W.contents out.old) block.old (W.contents out.new) block.new (spec.heading path.now rejection.now line.now) (write_fault_of result) }
 {
     block.put(out, path)?;
-    block.put(out, b":")?;
+    block.put_byte(out, b':')?;
     put_digits(out, block, rejection.fault.line)?;
     block.put(out, b": ")?;
     put_fault(out, block, rejection, line)?;
-    block.put(out, b"\n")
+    block.put_byte(out, b'\n')
 }
 
 /// Puts what to change.
@@ -149,16 +149,9 @@ fn put_printable<W: Write>(out: &mut W, block: &mut Block, bytes: &[u8]) -> Resu
     ensures { Puts (W.contents out.old) block.old (W.contents out.new) block.new (printable_text bytes.now) (write_fault_of result) }
 {
     for byte in bytes {
-        put_byte(out, block, printable(*byte))?;
+        block.put_byte(out, printable(*byte))?;
     }
     Ok(())
-}
-
-/// Puts one byte.
-fn put_byte<W: Write>(out: &mut W, block: &mut Block, byte: u8) -> Result<(), WriteFault>
-    ensures { Puts (W.contents out.old) block.old (W.contents out.new) block.new (byte ∷ []) (write_fault_of result) }
-{
-    block.put(out, &[byte])
 }
 
 /// A byte of printable ASCII; a question mark for any other.

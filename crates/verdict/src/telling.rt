@@ -96,7 +96,7 @@ fn put_failing<W: Write>(
     block.put(out, b" fails: ")?;
     block.put(out, line)?;
     put_place(out, block, number)?;
-    block.put(out, b"\n")
+    block.put_byte(out, b'\n')
 }
 
 /// Puts the number of a line in brackets.
@@ -135,7 +135,7 @@ fn put_counted<W: Write>(
     ensures { Puts (W.contents out.old) block.old (W.contents out.new) block.new (spec.counted number noun.now ending.now) (write_fault_of result) }
 {
     put_digits(out, block, number)?;
-    block.put(out, b" ")?;
+    block.put_byte(out, b' ')?;
     block.put(out, noun)?;
     put_ending(out, block, number, ending)
 }
@@ -215,7 +215,7 @@ fn put_bounds<W: Write>(
     put_letters(out, block, length)?;
     block.put(out, b" and ")?;
     put_crashes(out, block, crashes)?;
-    block.put(out, b"\n")
+    block.put_byte(out, b'\n')
 }
 
 /// Puts that schedules of this length were cut off, where they were.

@@ -26,4 +26,4 @@ loop-column-preserved g c =
 
 pub returns : goal.returns
 returns g c =
-    after_text (joined-all (λ column. placed (gap_before (λ i. get_or c.args.widths.now i 0) (cell_text c.args.drawing.now c.args.line) column) (cell_text c.args.drawing.now c.args.line column)) c.loop-column.column c.args.columns (omega arith) c.loop-column.invariant.text) c.put.ensures
+    after_text (joined-all (λ column. placed (gap_before (λ i. get_or c.args.widths.now i 0) (cell_text c.args.drawing.now c.args.line) column) (cell_text c.args.drawing.now c.args.line column)) c.loop-column.column c.args.columns (omega arith) c.loop-column.invariant.text) c.put_byte.ensures

@@ -16,15 +16,15 @@ returns-in_err-put_printable g c =
     let p = err_from_is_err_and c.from_residual-in_err-put_printable.result c.from_residual-in_err-put_printable.ensures.1 in
     rw (p.1, p.2) (fault_before (fault_before (fault_before (after_text c.in_ok-put_heading.ensures c.in_err-put_printable.ensures) (codes "\n")) (change_text c.args.rejection.now.fault.code (spec.culprit_of c.args.rejection.now c.args.line.now))) (codes "\n"))
 
-pub returns-in_err-put : goal.returns-in_err-put
-returns-in_err-put g c =
-    let p = err_from_is_err_and c.from_residual-in_err-put.result c.from_residual-in_err-put.ensures.1 in
-    rw (p.1, p.2) (fault_before (fault_before (after_text (after_text c.in_ok-put_heading.ensures c.in_ok-put_printable.ensures) c.in_err-put.ensures) (change_text c.args.rejection.now.fault.code (spec.culprit_of c.args.rejection.now c.args.line.now))) (codes "\n"))
+pub returns-in_err-put_byte : goal.returns-in_err-put_byte
+returns-in_err-put_byte g c =
+    let p = err_from_is_err_and c.from_residual-in_err-put_byte.result c.from_residual-in_err-put_byte.ensures.1 in
+    rw (p.1, p.2) (fault_before (fault_before (after_text (after_text c.in_ok-put_heading.ensures c.in_ok-put_printable.ensures) c.in_err-put_byte.ensures) (change_text c.args.rejection.now.fault.code (spec.culprit_of c.args.rejection.now c.args.line.now))) (codes "\n"))
 
 pub returns-in_err-put_change : goal.returns-in_err-put_change
 returns-in_err-put_change g c =
     let p = err_from_is_err_and c.from_residual-in_err-put_change.result c.from_residual-in_err-put_change.ensures.1 in
-    rw (p.1, p.2) (fault_before (after_text (after_text (after_text c.in_ok-put_heading.ensures c.in_ok-put_printable.ensures) c.in_ok-put.ensures) c.in_err-put_change.ensures) (codes "\n"))
+    rw (p.1, p.2) (fault_before (after_text (after_text (after_text c.in_ok-put_heading.ensures c.in_ok-put_printable.ensures) c.in_ok-put_byte.ensures) c.in_err-put_change.ensures) (codes "\n"))
 
 pub returns : goal.returns
-returns g c = after_text (after_text (after_text (after_text c.in_ok-put_heading.ensures c.in_ok-put_printable.ensures) c.in_ok-put.ensures) c.in_ok-put_change.ensures) c.put-2.ensures
+returns g c = after_text (after_text (after_text (after_text c.in_ok-put_heading.ensures c.in_ok-put_printable.ensures) c.in_ok-put_byte.ensures) c.in_ok-put_change.ensures) c.put_byte-2.ensures

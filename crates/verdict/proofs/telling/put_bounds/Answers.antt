@@ -25,4 +25,4 @@ returns-in_err-put_crashes g c =
     rw (p.1, p.2) (fault_before (after_text (after_text (after_text c.in_ok-put.ensures c.in_ok-put_letters.ensures) c.in_ok-put-2.ensures) c.in_err-put_crashes.ensures) (codes "\n"))
 
 pub returns : goal.returns
-returns g c = after_text (after_text (after_text (after_text c.in_ok-put.ensures c.in_ok-put_letters.ensures) c.in_ok-put-2.ensures) c.in_ok-put_crashes.ensures) c.put-3.ensures
+returns g c = after_text (after_text (after_text (after_text c.in_ok-put.ensures c.in_ok-put_letters.ensures) c.in_ok-put-2.ensures) c.in_ok-put_crashes.ensures) c.put_byte.ensures

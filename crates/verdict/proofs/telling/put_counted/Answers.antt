@@ -1,4 +1,4 @@
-use Rattle.std.proofs.Common.{codes, decimal}
+use Rattle.std.proofs.Common.{codes}
 use Rattle.std.proofs.lemmas.Result.{err_from_is_err_and}
 use Rattle.report.proofs.Texts.{fault_before, after_text}
 use Rattle.verdict.specs.VerdictText as spec
@@ -9,15 +9,15 @@ returns-in_err-put_digits g c =
     let p = err_from_is_err_and c.from_residual.result c.from_residual.ensures.1 in
     rw (p.1, p.2) (fault_before (fault_before (fault_before c.in_err-put_digits.ensures (codes " ")) (c.args.noun.now)) (spec.ending_text c.args.number c.args.ending.now))
 
+pub returns-in_err-put_byte : goal.returns-in_err-put_byte
+returns-in_err-put_byte g c =
+    let p = err_from_is_err_and c.from_residual-in_err-put_byte.result c.from_residual-in_err-put_byte.ensures.1 in
+    rw (p.1, p.2) (fault_before (fault_before (after_text c.in_ok-put_digits.ensures c.in_err-put_byte.ensures) (c.args.noun.now)) (spec.ending_text c.args.number c.args.ending.now))
+
 pub returns-in_err-put : goal.returns-in_err-put
 returns-in_err-put g c =
     let p = err_from_is_err_and c.from_residual-in_err-put.result c.from_residual-in_err-put.ensures.1 in
-    rw (p.1, p.2) (fault_before (fault_before (after_text c.in_ok-put_digits.ensures c.in_err-put.ensures) (c.args.noun.now)) (spec.ending_text c.args.number c.args.ending.now))
-
-pub returns-in_err-put-2 : goal.returns-in_err-put-2
-returns-in_err-put-2 g c =
-    let p = err_from_is_err_and c.from_residual-in_err-put-2.result c.from_residual-in_err-put-2.ensures.1 in
-    rw (p.1, p.2) (fault_before (after_text (after_text c.in_ok-put_digits.ensures c.in_ok-put.ensures) c.in_err-put-2.ensures) (spec.ending_text c.args.number c.args.ending.now))
+    rw (p.1, p.2) (fault_before (after_text (after_text c.in_ok-put_digits.ensures c.in_ok-put_byte.ensures) c.in_err-put.ensures) (spec.ending_text c.args.number c.args.ending.now))
 
 pub returns : goal.returns
-returns g c = after_text (after_text (after_text c.in_ok-put_digits.ensures c.in_ok-put.ensures) c.in_ok-put-2.ensures) c.put_ending.ensures
+returns g c = after_text (after_text (after_text c.in_ok-put_digits.ensures c.in_ok-put_byte.ensures) c.in_ok-put.ensures) c.put_ending.ensures

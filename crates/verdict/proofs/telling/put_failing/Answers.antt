@@ -35,4 +35,4 @@ returns-in_err-put_place g c =
     rw (p.1, p.2) (fault_before (after_text (after_text (after_text (after_text (after_text c.in_ok-put.ensures c.in_ok-put-2.ensures) c.in_ok-put_letters.ensures) c.in_ok-put-3.ensures) c.in_ok-put-4.ensures) c.in_err-put_place.ensures) (codes "\n"))
 
 pub returns : goal.returns
-returns g c = after_text (after_text (after_text (after_text (after_text (after_text c.in_ok-put.ensures c.in_ok-put-2.ensures) c.in_ok-put_letters.ensures) c.in_ok-put-3.ensures) c.in_ok-put-4.ensures) c.in_ok-put_place.ensures) c.put-5.ensures
+returns g c = after_text (after_text (after_text (after_text (after_text (after_text c.in_ok-put.ensures c.in_ok-put-2.ensures) c.in_ok-put_letters.ensures) c.in_ok-put-3.ensures) c.in_ok-put-4.ensures) c.in_ok-put_place.ensures) c.put_byte.ensures
