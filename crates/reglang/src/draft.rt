@@ -15,7 +15,7 @@ use std::alloc::Global;
 use uses::Use;
 
 /// What was read so far.
-#[derive(Debug, Drop)]
+#[derive(Drop)]
 pub enum Draft {
     /// No `registers` line.
     Empty,

@@ -14,7 +14,7 @@ use crate::words::{Keyword, Kind, Property, Word, word_of};
 use regmodel::limits::{GREATEST_VALUE, MOST_PROCESSES};
 
 /// What may stand at a place of a line.
-#[derive(Clone, Copy, PartialEq, Eq, Debug)]
+#[derive(Clone, Copy, PartialEq, Eq)]
 pub enum Sort {
     Number,
     /// A number up to this one.

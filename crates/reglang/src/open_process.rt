@@ -18,7 +18,7 @@ use std::alloc::Global;
 use uses::Use;
 
 /// A block that is open, with the statements before it in the block around it.
-#[derive(Debug, Drop)]
+#[derive(Drop)]
 pub enum Open {
     /// An `if` without its `else` so far: its test, and what stands before it.
     First(Expr, Vec<Stmt>),
@@ -29,7 +29,7 @@ pub enum Open {
 }
 
 /// A process without its `end`, and what stands before it in the text.
-#[derive(Debug, Drop)]
+#[derive(Drop)]
 pub struct OpenProcess {
     before: Parts,
     /// The open blocks, the innermost last.

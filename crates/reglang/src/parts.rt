@@ -15,7 +15,7 @@ use std::alloc::Global;
 use uses::Use;
 
 /// The registers, and the whole processes and checks so far.
-#[derive(Debug, Drop)]
+#[derive(Drop)]
 pub struct Parts {
     registers: u32,
     processes: Vec<Process>,
