@@ -24,6 +24,32 @@ pub(super) const WORDS: [&str; 13] = [
     "16",
 ];
 
+/// The words that explore a file within these bounds. The last one asks for interpreters, and may be left out.
+pub(super) fn exploration<'a>(
+    length: &'a str,
+    crashes: &'a str,
+    workers: &'a str,
+    cut: &'a str,
+    room: &'a str,
+) -> [&'a str; 14] {
+    [
+        "regtry",
+        "explore",
+        "FILE",
+        "--length",
+        length,
+        "--crashes",
+        crashes,
+        "--workers",
+        workers,
+        "--cut",
+        cut,
+        "--room",
+        room,
+        "--text",
+    ]
+}
+
 /// How many processors a command line is read for.
 pub(super) const PROCESSORS: u32 = 2;
 

@@ -1,6 +1,6 @@
 //! Native machines beside interpreters.
 
-use super::asking::asked;
+use super::asking::{asked, exploration};
 use super::sources::{GRID, NAMES, SPLITTER, TREE};
 
 /// Two processes in a tree.
@@ -22,22 +22,7 @@ const USES: [(&[u8], &str, &str); 8] = [
 #[test]
 fn native_machines_and_interpreters_give_one_report(rt: HostRuntime) {
     for (source, length, crashes) in USES {
-        let words = [
-            "regtry",
-            "explore",
-            "FILE",
-            "--length",
-            length,
-            "--crashes",
-            crashes,
-            "--workers",
-            "1",
-            "--cut",
-            "0",
-            "--room",
-            "0",
-            "--text",
-        ];
+        let words = exploration(length, crashes, "1", "0", "0");
         let text = asked(&rt, words.as_slice(), Some(source));
         let native = asked(&rt, &words[..13], Some(source));
         assert!(rt; native.status <= 1 && native.out.len() > 60);

@@ -1,6 +1,6 @@
 //! One report, whatever the number of workers, the cut and the room, by native machines and by interpreters.
 
-use super::asking::assert_answer;
+use super::asking::{assert_answer, exploration};
 use super::sources::SPLITTER;
 
 /// The report of the splitter of two, of which none is to be sent down, at 8 letters.
@@ -11,22 +11,7 @@ const REPORT: &[u8] =
 fn one_report_by_however_many_workers(rt: HostRuntime) {
     for (workers, room) in [("1", "0"), ("2", "65536"), ("8", "16"), ("16", "0")] {
         for cut in ["0", "1", "3", "16"] {
-            let words = [
-                "regtry",
-                "explore",
-                "FILE",
-                "--length",
-                "8",
-                "--crashes",
-                "0",
-                "--workers",
-                workers,
-                "--cut",
-                cut,
-                "--room",
-                room,
-                "--text",
-            ];
+            let words = exploration("8", "0", workers, cut, room);
             for words in [&words[..13], words.as_slice()] {
                 assert_answer(&rt, words, SPLITTER, 1, REPORT, b"");
             }
