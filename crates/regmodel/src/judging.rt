@@ -174,6 +174,8 @@ impl Clauses {
 }
 
 impl Judge for Clauses {
+    ghost use Rattle.std.specs.Prelude.{◌≡◌, ◌↔◌, [], IsTrue, List, true};
+    ghost use Rattle.regmodel.specs.declared.outcomes.ProcEnd.{ProcEnd};
     ghost use Rattle.regmodel.specs.Judging.{meets_all};
 
     ghost accepts = { λ clauses ends. meets_all clauses ends };
@@ -182,7 +184,10 @@ impl Judge for Clauses {
         self.list().iter().all(|clause| meets(clause, outcome))
     }
 
-    fn holds_always(&self) -> bool {
+    fn holds_always(&self) -> bool
+        ensures good { IsTrue result → (ends : List ProcEnd) → meets_all self.now ends ≡ true }
+        ensures exact { IsTrue result ↔ (self.now ≡ []) }
+    {
         self.list().is_empty()
     }
 }
