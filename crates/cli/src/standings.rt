@@ -19,7 +19,7 @@ use world::{BadLetter, World};
 const CRASHES: u32 = 8;
 
 /// Where a schedule leads.
-#[derive(Debug, Drop)]
+#[derive(Drop)]
 pub struct Standing {
     /// How each process stands.
     pub outcome: Outcome,

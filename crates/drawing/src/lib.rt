@@ -12,6 +12,3 @@ pub use drawings::{Deed, Drawing, Held, Row};
 pub use following::draw;
 pub use registers::values_of;
 pub use writing::write_drawing;
-
-#[cfg(test)]
-mod tests;

@@ -14,8 +14,6 @@ mod interp;
 mod resume;
 mod run;
 mod states;
-#[cfg(test)]
-mod tests;
 mod values;
 
 pub use interp::Interp;

@@ -5,8 +5,6 @@ mod grid;
 mod names;
 mod numbers;
 mod split;
-#[cfg(test)]
-mod tests;
 mod trees;
 
 pub use grid::Grid;

@@ -55,39 +55,3 @@ pub fn clause_of(words: &[Word]) -> Option<Clause>
         _ => None,
     }
 }
-
-#[cfg(test)]
-mod tests {
-    use super::*;
-    use crate::forms::{Line, read_line};
-    use std::test::Fail;
-
-    /// Check lines, and the clause of each.
-    const CLAUSES: [(&[u8], Option<Clause>); 14] = [
-        (b"check distinct", Some(Clause::Distinct)),
-        (
-            b"check atmost 1000000000 8",
-            Some(Clause::AtMost(1_000_000_000, 8)),
-        ),
-        (b"check within 3 2", Some(Clause::Within(3, 2))),
-        (b"check adaptive", Some(Clause::Adaptive)),
-        (b"check triangle", Some(Clause::Triangle)),
-        (b"check selfseen", Some(Clause::SelfSeen)),
-        (b"check ended", Some(Clause::Ended)),
-        (b"check nofault", Some(Clause::NoFault)),
-        (b"check", None),
-        (b"check distinct 1", None),
-        (b"check atmost 0 9", None),
-        (b"check atmost 1000000001 1", None),
-        (b"check within 0 1000000001", None),
-        (b"check within 00 1", None),
-    ];
-
-    #[test]
-    fn reads_clauses(rt: HostRuntime) -> Result<(), Fail> {
-        for (line, clause) in CLAUSES {
-            assert_eq!(rt; read_line(line), Ok(Some(Line::Check(clause))));
-        }
-        Ok(())
-    }
-}

@@ -16,7 +16,7 @@ use regmodel::{Clause, Expr, Operand, Target};
 use uses::Use;
 
 /// What a line says that is not skipped.
-#[derive(Clone, Copy, PartialEq, Eq, Debug)]
+#[derive(Clone, Copy)]
 pub enum Line {
     /// There are so many registers.
     Registers(u32),
@@ -74,7 +74,7 @@ impl LaterWords {
     {
         keep(&mut self.first, word);
         self.known = self.known && is_known(word);
-        self.no_number = self.no_number || word == Word::NoNumber;
+        self.no_number = self.no_number || matches!(word, Word::NoNumber);
     }
 }
 
@@ -197,107 +197,5 @@ pub fn read_line(line: &[u8]) -> Result<Option<Line>, u8>
         )))),
         Word::Keyword(key) => keyword_line(key, rest),
         _ => Err(UNKNOWN_WORD),
-    }
-}
-
-#[cfg(test)]
-mod tests {
-    use super::*;
-    use regmodel::Op;
-    use std::test::Fail;
-
-    /// Lines that are skipped.
-    const SKIPPED: [&[u8]; 4] = [b"", b"   ", b"#", b"  # emit 1"];
-
-    /// Lines, and what each says.
-    const SAID: [(&[u8], Line); 19] = [
-        (b"registers 65", Line::Registers(65)),
-        (b"process", Line::Process),
-        (b" end ", Line::End),
-        (
-            b"set v0 7",
-            Line::Set(Target::Var(0), Expr::One(Operand::Number(7))),
-        ),
-        (
-            b"set [v1] [31] * v2",
-            Line::Set(
-                Target::CellOf(1),
-                Expr::Two(Operand::Cell(31), Op::Mul, Operand::Var(2)),
-            ),
-        ),
-        (b"read [4] v3", Line::Read(Target::Cell(4), Operand::Var(3))),
-        (
-            b"  write  0  v15 + [v3]",
-            Line::Write(
-                Operand::Number(0),
-                Expr::Two(Operand::Var(15), Op::Add, Operand::CellOf(3)),
-            ),
-        ),
-        (b"if v1", Line::If(Expr::One(Operand::Var(1)))),
-        (b"else", Line::Else),
-        (b"fi", Line::Fi),
-        (b"repeat 99", Line::Repeat(Expr::One(Operand::Number(99)))),
-        (b"done", Line::Done),
-        (
-            b"emit 1000000001",
-            Line::Emit(Expr::One(Operand::Number(1_000_000_001))),
-        ),
-        (b"halt", Line::Halt),
-        (b"use split 0 1", Line::Use(Use::Split(0, 1))),
-        (b"use tree 0 4 1 2", Line::Use(Use::Tree(0, 4, 1, 2))),
-        (
-            b"check within 0 1000000000",
-            Line::Check(Some(Clause::Within(0, 1_000_000_000))),
-        ),
-        (b"check atmost 1", Line::Check(None)),
-        (b"check 0x v16 1 2 3 4 5 6 7", Line::Check(None)),
-    ];
-
-    /// Lines that say nothing, and the code of each.
-    const FAULTY: [(&[u8], u8); 20] = [
-        (b"#\t", NOT_PRINTABLE),
-        (b"emit\t1", NOT_PRINTABLE),
-        (b"emit 1\r", NOT_PRINTABLE),
-        (b"emit \x7f", NOT_PRINTABLE),
-        (b"emits 1", UNKNOWN_WORD),
-        (b"1", UNKNOWN_WORD),
-        (b"v0", UNKNOWN_WORD),
-        (b"split 0 1", UNKNOWN_WORD),
-        (b"set v16 1", UNKNOWN_WORD),
-        (b"emit 007 x", UNKNOWN_WORD),
-        (b"emit 1 # one", UNKNOWN_WORD),
-        (b"emit end", UNKNOWN_WORD),
-        (b"use distinct 0 1", UNKNOWN_WORD),
-        (b"emit 007", NO_NUMBER),
-        (b"end 1 2 3 4 5 6 7 8a", NO_NUMBER),
-        (b"emit", NO_FORM),
-        (b"set 5 v0", NO_FORM),
-        (b"emit 1 + 2 + 3", NO_FORM),
-        (b"use tree 0 4 1 2 3", NO_FORM),
-        (b"registers v1", NO_FORM),
-    ];
-
-    #[test]
-    fn skips(rt: HostRuntime) -> Result<(), Fail> {
-        for line in SKIPPED {
-            assert_eq!(rt; read_line(line), Ok(None));
-        }
-        Ok(())
-    }
-
-    #[test]
-    fn reads(rt: HostRuntime) -> Result<(), Fail> {
-        for (line, said) in SAID {
-            assert_eq!(rt; read_line(line), Ok(Some(said)));
-        }
-        Ok(())
-    }
-
-    #[test]
-    fn refuses(rt: HostRuntime) -> Result<(), Fail> {
-        for (line, code) in FAULTY {
-            assert_eq!(rt; read_line(line), Err(code));
-        }
-        Ok(())
     }
 }

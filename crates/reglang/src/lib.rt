@@ -27,6 +27,3 @@ pub use reader::{ReadFault, Rejection, read_source, read_text};
 pub use source::Source;
 pub use uses::{ExpandFault, Use, expand};
 pub use writer::write_source;
-
-#[cfg(test)]
-mod tests;

@@ -14,7 +14,7 @@ use crate::words::{Keyword, Kind, Property, Word, word_of};
 use regmodel::limits::{GREATEST_VALUE, MOST_PROCESSES};
 
 /// What may stand at a place of a line.
-#[derive(Clone, Copy, PartialEq, Eq)]
+#[derive(Clone, Copy)]
 pub enum Sort {
     Number,
     /// A number up to this one.
@@ -71,7 +71,7 @@ fn first_no_number(line: &[u8]) -> Option<&[u8]>
 {
     let mut rest = line;
     while let Some((word, after)) = split_word(rest) {
-        if word_of(word) == Word::NoNumber {
+        if matches!(word_of(word), Word::NoNumber) {
             return Some(word);
         }
         rest = after;

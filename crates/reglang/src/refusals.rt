@@ -30,7 +30,7 @@ pub const NO_CLAUSE: u8 = 8;
 pub const NO_MEMORY: u8 = 9;
 
 /// Why a line was not taken.
-#[derive(Clone, Copy, PartialEq, Eq, Debug)]
+#[derive(Clone, Copy)]
 pub enum LineRefusal {
     /// Its fault has this code, 1 to 8.
     Fault(u8),

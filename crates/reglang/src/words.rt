@@ -47,7 +47,7 @@ const PROPERTIES: [Property; 8] = [
 ];
 
 /// A first word of a line.
-#[derive(Clone, Copy, PartialEq, Eq, Debug)]
+#[derive(Clone, Copy)]
 pub enum Keyword {
     Registers,
     Process,
@@ -67,7 +67,7 @@ pub enum Keyword {
 }
 
 /// A kind of use line.
-#[derive(Clone, Copy, PartialEq, Eq, Debug)]
+#[derive(Clone, Copy)]
 pub enum Kind {
     Split,
     Grid,
@@ -76,7 +76,7 @@ pub enum Kind {
 }
 
 /// A property that a check line names.
-#[derive(Clone, Copy, PartialEq, Eq, Debug)]
+#[derive(Clone, Copy)]
 pub enum Property {
     Distinct,
     AtMost,
@@ -89,7 +89,7 @@ pub enum Property {
 }
 
 /// A word of a line, by what it may stand for.
-#[derive(Clone, Copy, Default, PartialEq, Eq, Debug)]
+#[derive(Clone, Copy, Default)]
 pub enum Word {
     Keyword(Keyword),
     /// A number, 0 to 1000000000; 1000000001 stands for each greater one.
@@ -255,101 +255,4 @@ pub fn word_of(word: &[u8]) -> Word
         return Word::Property(property);
     }
     value_word(word)
-}
-
-#[cfg(test)]
-mod tests {
-    use super::*;
-    use std::test::Fail;
-
-    /// Texts, and what each may stand for.
-    const WORDS: [(&[u8], Word); 40] = [
-        (b"registers", Word::Keyword(Keyword::Registers)),
-        (b"process", Word::Keyword(Keyword::Process)),
-        (b"end", Word::Keyword(Keyword::End)),
-        (b"set", Word::Keyword(Keyword::Set)),
-        (b"read", Word::Keyword(Keyword::Read)),
-        (b"write", Word::Keyword(Keyword::Write)),
-        (b"if", Word::Keyword(Keyword::If)),
-        (b"else", Word::Keyword(Keyword::Else)),
-        (b"fi", Word::Keyword(Keyword::Fi)),
-        (b"repeat", Word::Keyword(Keyword::Repeat)),
-        (b"done", Word::Keyword(Keyword::Done)),
-        (b"emit", Word::Keyword(Keyword::Emit)),
-        (b"halt", Word::Keyword(Keyword::Halt)),
-        (b"use", Word::Keyword(Keyword::Use)),
-        (b"check", Word::Keyword(Keyword::Check)),
-        (b"+", Word::Operator(Op::Add)),
-        (b"-", Word::Operator(Op::Sub)),
-        (b"*", Word::Operator(Op::Mul)),
-        (b"=", Word::Operator(Op::Equal)),
-        (b"<", Word::Operator(Op::Less)),
-        (b"split", Word::Kind(Kind::Split)),
-        (b"grid", Word::Kind(Kind::Grid)),
-        (b"tree", Word::Kind(Kind::Tree)),
-        (b"name", Word::Kind(Kind::Name)),
-        (b"distinct", Word::Property(Property::Distinct)),
-        (b"atmost", Word::Property(Property::AtMost)),
-        (b"within", Word::Property(Property::Within)),
-        (b"adaptive", Word::Property(Property::Adaptive)),
-        (b"triangle", Word::Property(Property::Triangle)),
-        (b"selfseen", Word::Property(Property::SelfSeen)),
-        (b"ended", Word::Property(Property::Ended)),
-        (b"nofault", Word::Property(Property::NoFault)),
-        (b"0", Word::Number(0)),
-        (b"1000000000", Word::Number(1_000_000_000)),
-        (b"v0", Word::Var(0)),
-        (b"v15", Word::Var(15)),
-        (b"[0]", Word::Cell(0)),
-        (b"[31]", Word::Cell(31)),
-        (b"[v0]", Word::CellOf(0)),
-        (b"[v15]", Word::CellOf(15)),
-    ];
-
-    /// Texts that begin as others do, and what each may stand for.
-    const NEAR: [(&[u8], Word); 24] = [
-        (b"1000000001", Word::Number(1_000_000_001)),
-        (b"4294967296", Word::Number(1_000_000_001)),
-        (
-            b"999999999999999999999999999999",
-            Word::Number(1_000_000_001),
-        ),
-        (b"00", Word::NoNumber),
-        (b"007", Word::NoNumber),
-        (b"1a", Word::NoNumber),
-        (b"0x10", Word::NoNumber),
-        (b"1_000", Word::NoNumber),
-        (b"-1", Word::Other),
-        (b"+1", Word::Other),
-        (b"v", Word::Other),
-        (b"v01", Word::Other),
-        (b"v16", Word::Other),
-        (b"v4294967296", Word::Other),
-        (b"[]", Word::Other),
-        (b"[", Word::Other),
-        (b"[0", Word::Other),
-        (b"[01]", Word::Other),
-        (b"[32]", Word::Other),
-        (b"[v16]", Word::Other),
-        (b"[[0]]", Word::Other),
-        (b"Process", Word::Other),
-        (b"ends", Word::Other),
-        (b"#end", Word::Comment),
-    ];
-
-    #[test]
-    fn tells_words(rt: HostRuntime) -> Result<(), Fail> {
-        for (text, word) in WORDS {
-            assert_eq!(rt; word_of(text), word);
-        }
-        Ok(())
-    }
-
-    #[test]
-    fn tells_near_words(rt: HostRuntime) -> Result<(), Fail> {
-        for (text, word) in NEAR {
-            assert_eq!(rt; word_of(text), word);
-        }
-        Ok(())
-    }
 }

@@ -9,8 +9,6 @@ ghost use Rattle.reglang.specs.Sources.{contents_of};
 ghost use Rattle.reglang.specs.Writing.{block_lines, body_lines, check_line, else_lines, lines_text, process_lines, source_text};
 
 mod lines;
-#[cfg(test)]
-mod tests;
 mod words;
 
 use crate::forms::Line;

@@ -191,6 +191,3 @@ impl Judge for Clauses {
         self.list().is_empty()
     }
 }
-
-#[cfg(test)]
-mod tests;

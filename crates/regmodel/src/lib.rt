@@ -26,6 +26,3 @@ pub use programs::{Expr, Op, Operand, Prog, Stmt, Target};
 pub use schedule_texts::{read_schedule, write_schedule};
 pub use schedules::Prefix;
 pub use settings::{SettingFault, Settings};
-
-#[cfg(test)]
-mod tests;

@@ -12,6 +12,3 @@ pub use reports::Report;
 pub use writing::{
     WriteFault, put_digits, put_schedule, write_least, write_report, write_standing,
 };
-
-#[cfg(test)]
-mod tests;

@@ -9,7 +9,7 @@ use regmodel::{End, Outcome};
 use report::Report;
 
 /// How much was tried, and how far.
-#[derive(Clone, Copy, PartialEq, Eq, Debug)]
+#[derive(Clone, Copy)]
 pub struct Reach {
     /// How many schedules were tried.
     pub tried: u64,

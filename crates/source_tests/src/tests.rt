@@ -1,0 +1,9 @@
+//! Texts that are read, and texts that are written.
+
+mod drawings;
+mod expansions;
+mod lines;
+mod native_machines;
+mod report_texts;
+mod sources;
+mod written;

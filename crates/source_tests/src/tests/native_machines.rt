@@ -1,0 +1,277 @@
+//! Native machines beside interpreters of the same programs.
+
+use machine::{Interp, Machine};
+use natives::{Grid, MakeFault, NameSlots, Split, Tree};
+use regmodel::{Access, Numbers, Pending};
+use std::alloc::Global;
+use std::process::Abort;
+use std::test::Fail;
+use uses::{Use, expand};
+
+const LIMIT: u32 = 1000000000;
+
+/// How many lists of replies each pair of machines is given.
+const LISTS: u32 = 1000;
+
+/// The interpreter of a use line over so many registers.
+fn text(alloc: Global, kind: &Use, registers: u32) -> Result<Interp, Fail> {
+    Ok(Interp::make(alloc, expand(alloc, kind, registers)?)?)
+}
+
+/// Gives a reply where it may come, and says whether it may.
+fn give<M: Machine>(machine: &mut M, reply: u32) -> bool {
+    match machine.pending() {
+        Pending::Wants(Access::Read(_)) if reply <= LIMIT => machine.feed(reply),
+        Pending::Wants(Access::Write(_, _)) if reply == 0 => machine.feed(reply),
+        _ => return false,
+    }
+    true
+}
+
+/// Done with these numbers.
+fn done(numbers: &[u32]) -> Pending {
+    let mut all = Numbers::new();
+    for number in numbers {
+        if !all.is_full() {
+            all.push(*number);
+        }
+    }
+    Pending::Done(all)
+}
+
+fn read(register: u8) -> Pending {
+    Pending::Wants(Access::Read(register))
+}
+
+fn write(register: u8, value: u32) -> Pending {
+    Pending::Wants(Access::Write(register, value))
+}
+
+/// A machine at its start wants this after these replies.
+fn assert_pending<M: Machine>(
+    rt: &impl Abort,
+    machine: &mut M,
+    replies: &[u32],
+    expected: &Pending,
+) {
+    machine.reset();
+    for reply in replies {
+        assert!(rt; give(machine, *reply), "{replies:?}");
+    }
+    assert_eq!(rt; &machine.pending(), expected, "{replies:?}");
+}
+
+/// A native machine and its interpreter want these after these replies.
+fn assert_rows<M: Machine>(
+    rt: &impl Abort,
+    native: &mut M,
+    text: &mut Interp,
+    rows: &[(&[u32], Pending)],
+) {
+    for (replies, expected) in rows {
+        assert_pending(rt, native, replies, expected);
+        assert_pending(rt, text, replies, expected);
+    }
+    native.end();
+    assert_eq!(rt; native.pending(), done(&[]));
+}
+
+#[test]
+fn splitter_rows(rt: HostRuntime) -> Result<(), Fail> {
+    let rows = [
+        ([].as_slice(), write(0, 1)),
+        (&[0], read(1)),
+        (&[0, 0], write(1, 1)),
+        (&[0, 0, 0], read(0)),
+        (&[0, 1], done(&[2])),
+        (&[0, 0, 0, 1], done(&[1])),
+        (&[0, 0, 0, 2], done(&[3])),
+    ];
+    let mut text = text(rt.alloc(), &Use::Split(0, 1), 2)?;
+    assert_rows(&rt, &mut Split::make(0, 1, 2)?, &mut text, &rows);
+    Ok(())
+}
+
+#[test]
+fn grid_rows(rt: HostRuntime) -> Result<(), Fail> {
+    let rows = [
+        ([0, 1].as_slice(), write(4, 1)),
+        (&[0, 0, 0, 2], write(2, 1)),
+        (&[0, 1, 0, 1], done(&[])),
+    ];
+    let mut text = text(rt.alloc(), &Use::Grid(0, 2, 1), 6)?;
+    assert_rows(&rt, &mut Grid::make(0, 2, 1, 6)?, &mut text, &rows);
+    Ok(())
+}
+
+#[test]
+fn tree_rows(rt: HostRuntime) -> Result<(), Fail> {
+    let rows = [
+        ([0, 0, 1].as_slice(), done(&[])),
+        (&[0, 0, 0, 0, 1], write(3, 7)),
+        (&[0, 0, 0, 0, 1, 0, 1, 7], done(&[7])),
+    ];
+    let mut text = text(rt.alloc(), &Use::Tree(0, 1, 1, 7), 4)?;
+    assert_rows(&rt, &mut Tree::make(0, 1, 1, 7, 4)?, &mut text, &rows);
+    Ok(())
+}
+
+#[test]
+fn name_rows(rt: HostRuntime) -> Result<(), Fail> {
+    let rows = [
+        ([0, 0].as_slice(), done(&[1])),
+        (&[0, 1], write(0, 2)),
+        (&[0, 1, 0, 2], write(0, 1)),
+    ];
+    let mut first = text(rt.alloc(), &Use::Name(0, 2, 0), 2)?;
+    assert_rows(&rt, &mut NameSlots::make(0, 2, 0, 2)?, &mut first, &rows);
+    let rows = [([0, 1].as_slice(), write(1, 3))];
+    let mut second = text(rt.alloc(), &Use::Name(0, 2, 1), 2)?;
+    assert_rows(&rt, &mut NameSlots::make(0, 2, 1, 2)?, &mut second, &rows);
+    Ok(())
+}
+
+#[test]
+fn numbers_past_a_limit_are_refused(rt: HostRuntime) -> Result<(), Fail> {
+    let refused = Some(MakeFault { code: 1 });
+    assert_eq!(rt; Split::make(0, 0, 2).err(), refused);
+    assert_eq!(rt; Split::make(1, 1, 2).err(), refused);
+    assert_eq!(rt; Grid::make(0, 8, 1, 64).err(), refused);
+    assert_eq!(rt; Tree::make(0, 5, 1, 1, 64).err(), refused);
+    assert_eq!(rt; NameSlots::make(0, 2, 2, 2).err(), refused);
+    Ok(())
+}
+
+/// Numbers that look random, the same at each run: a linear congruence.
+#[derive(Drop)]
+struct Random {
+    state: u64,
+}
+
+impl Random {
+    /// A number below the bound.
+    fn below(&mut self, bound: u32) -> u32 {
+        self.state = self
+            .state
+            .wrapping_mul(6364136223846793005)
+            .wrapping_add(1442695040888963407);
+        ((self.state >> 33) as u32).checked_rem(bound).unwrap_or(0)
+    }
+
+    /// A reply to a read: often what the machine wrote last, 0 or a small number, and now and then any number.
+    fn reply(&mut self, written: u32, echoes: u32) -> u32 {
+        if self.below(8) < echoes {
+            return written;
+        }
+        match self.below(8) {
+            0 | 1 | 2 => 0,
+            3 => 1,
+            4 | 5 => self.below(17),
+            6 => LIMIT,
+            _ => self.below(LIMIT + 1),
+        }
+    }
+}
+
+/// Gives a native machine and its interpreter the same replies until they are over; they stand alike at each step. Gives
+/// what was pending at the end.
+fn beside<M: Machine>(
+    rt: &impl Abort,
+    native: &mut M,
+    text: &mut Interp,
+    random: &mut Random,
+) -> Pending {
+    native.reset();
+    text.reset();
+    let echoes = random.below(8);
+    let mut written = 0;
+    for _ in 0..1000 {
+        let pending = native.pending();
+        assert_eq!(rt; text.pending(), pending);
+        let reply = match pending {
+            Pending::Wants(Access::Write(_, value)) => {
+                written = value;
+                0
+            }
+            Pending::Wants(Access::Read(_)) => random.reply(written, echoes),
+            over => return over,
+        };
+        assert!(rt; give(native, reply));
+        assert!(rt; give(text, reply));
+    }
+    native.pending()
+}
+
+/// Gives a native machine and its interpreter many lists of replies. Gives how many of them ended like this.
+fn beside_often<M: Machine>(
+    rt: &impl Abort,
+    native: &mut M,
+    text: &mut Interp,
+    end: &Pending,
+) -> u32 {
+    let mut random = Random { state: 20250917 };
+    let mut found = 0u32;
+    for _ in 0..LISTS {
+        if &beside(rt, native, text, &mut random) == end {
+            found = found.saturating_add(1);
+        }
+    }
+    found
+}
+
+#[test]
+fn splitters_do_as_their_programs(rt: HostRuntime) -> Result<(), Fail> {
+    for (base, id, registers) in [(0, 1, 2), (62, LIMIT, 64), (5, 9, 40)] {
+        let mut native = Split::make(base, id, registers)?;
+        let kind = Use::Split(base, id);
+        let mut text = text(rt.alloc(), &kind, registers)?;
+        let stopped = beside_often(&rt, &mut native, &mut text, &done(&[1]));
+        assert!(rt; stopped > 0, "{kind:?}");
+    }
+    Ok(())
+}
+
+#[test]
+fn grids_do_as_their_programs(rt: HostRuntime) -> Result<(), Fail> {
+    for (base, side, id, registers) in [(0, 1, 1, 2), (8, 7, LIMIT, 64), (3, 4, 1, 30)] {
+        let mut native = Grid::make(base, side, id, registers)?;
+        let kind = Use::Grid(base, side, id);
+        let mut text = text(rt.alloc(), &kind, registers)?;
+        let stopped = beside_often(&rt, &mut native, &mut text, &done(&[1]));
+        assert!(rt; stopped > 0, "{kind:?}");
+    }
+    Ok(())
+}
+
+#[test]
+fn trees_do_as_their_programs(rt: HostRuntime) -> Result<(), Fail> {
+    for (base, depth, id, value, registers, end) in [
+        (0, 1, 1, 1, 4, done(&[LIMIT])),
+        (4, 4, LIMIT, LIMIT, 64, Pending::Fault(4)),
+        (2, 3, 1, 6, 40, done(&[])),
+    ] {
+        let mut native = Tree::make(base, depth, id, value, registers)?;
+        let kind = Use::Tree(base, depth, id, value);
+        let mut text = text(rt.alloc(), &kind, registers)?;
+        let ended = beside_often(&rt, &mut native, &mut text, &end);
+        assert!(rt; ended > 0, "{kind:?}");
+    }
+    Ok(())
+}
+
+#[test]
+fn choices_of_names_do_as_their_programs(rt: HostRuntime) -> Result<(), Fail> {
+    for (base, slots, slot, registers, end) in [
+        (0, 1, 0, 1, done(&[1])),
+        (0, 2, 1, 2, done(&[3])),
+        (56, 8, 7, 64, done(&[])),
+        (0, 8, 0, 8, done(&[1])),
+    ] {
+        let mut native = NameSlots::make(base, slots, slot, registers)?;
+        let kind = Use::Name(base, slots, slot);
+        let mut text = text(rt.alloc(), &kind, registers)?;
+        let ended = beside_often(&rt, &mut native, &mut text, &end);
+        assert!(rt; ended > 0, "{kind:?}");
+    }
+    Ok(())
+}
