@@ -11,7 +11,6 @@ mod refusals;
 mod runs;
 mod standings;
 mod wording;
-mod words;
 
 pub use answers::answer;
 pub use orders::{Order, Task, command};

@@ -9,8 +9,8 @@ ghost use Rattle.cli.specs.Statuses.{status_of};
 
 use crate::refusals::{Refusal, refuse};
 use crate::wording::refuse_in_words;
-use crate::words::matches_of;
 use clap::ArgMatches;
+use command_words::matches_of;
 use regmodel::limits::MOST_LETTERS;
 use regmodel::{Prefix, Settings, read_schedule};
 use std::alloc::Global;

@@ -1,4 +1,5 @@
-//! The words of the command line, as they are taken, and what the help says of them.
+//! The words of the command line, as clap takes them, and what the help says of them.
+#![tactic(auto)]
 
 use clap::{Arg, ArgAction, ArgMatches, Command, Error, value_parser};
 use std::alloc::{AllocError, Global};
