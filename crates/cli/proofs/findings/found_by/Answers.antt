@@ -3,13 +3,15 @@ use Rattle.reglang.specs.Sources.{contents_of, source_programs}
 use Rattle.explorer.proofs.Growing.{last_has}
 use Rattle.cli.proofs.findings.found_by.Goals as goal
 
+pub returns-in-Check-clause-found : goal.returns-in-Check-clause-found
+returns-in-Check-clause-found g c = rw c.in-Check.is (c.checked.ensures.found c.in-Check.native)
+
 pub returns-in-Check-clause-refused : goal.returns-in-Check-clause-refused
-returns-in-Check-clause-refused g c =
-    rw c.in-Check.is (record { source = contents_of c.args.source.now; spelled = c.requires.spelled; fault = c.in-Err.ensures.code })
+returns-in-Check-clause-refused g c = rw c.in-Check.is (c.checked.ensures.refused c.in-Check.native)
 
 pub returns-in-Explore-clause-refused : goal.returns-in-Explore-clause-refused
 returns-in-Explore-clause-refused g c =
-    rw c.in-Explore.is (record { source = contents_of c.args.source.now; spelled = c.requires.spelled; fault = c.in-Err-report_of.ensures.code })
+    rw c.in-Explore.is (record { source = contents_of c.args.source.now; spelled = c.requires.spelled; fault = c.in-Err.ensures.code })
 
 pub returns-in-Least-clause-refused : goal.returns-in-Least-clause-refused
 returns-in-Least-clause-refused g c =
@@ -23,6 +25,6 @@ pub standing_after-requires : goal.standing_after-requires
 standing_after-requires g c =
     last_has (λ list. map (λ b. (goal.Machine-dyn g (b.vtable, b.value)).program b.value) list.items ≡ source_programs c.args.source.now) c.last_of.result c.last_of.new.lists.items c.args.lists.items c.last_of.ensures c.requires.machines
 
-pub drawing_of-requires : goal.drawing_of-requires
-drawing_of-requires g c =
+pub shown-requires : goal.shown-requires
+shown-requires g c =
     last_has (λ list. map (λ b. (goal.Machine-dyn g (b.vtable, b.value)).program b.value) list.items ≡ source_programs c.args.source.now) c.last_of-in-Show.result c.last_of-in-Show.new.lists.items c.args.lists.items c.last_of-in-Show.ensures c.requires.machines
