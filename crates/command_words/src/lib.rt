@@ -6,7 +6,7 @@ use std::alloc::{AllocError, Global};
 use std::convert::AsStr;
 
 /// The program's version, and the toolchain that it is proved with.
-const VERSION: &str = "0.1.0, proved with rattle-kit-13b logic dac8208d650f15bf";
+const VERSION: &str = "0.1.0, proved with rattle-kit-13f logic dac8208d650f15bf";
 
 /// The settings of an exploration: the name of each, what its number is called, and what the help says of it.
 const SETTINGS: [(&str, &str, &str); 5] = [

@@ -57,7 +57,7 @@ fn words_that_say_nothing_are_refused(rt: HostRuntime) {
 
 #[test]
 fn the_version_names_the_toolchain(rt: HostRuntime) {
-    let line = b"regtry 0.1.0, proved with rattle-kit-13b logic dac8208d650f15bf\n";
+    let line = b"regtry 0.1.0, proved with rattle-kit-13f logic dac8208d650f15bf\n";
     assert_refused(&rt, ["regtry", "--version"].as_slice(), line);
 }
 
