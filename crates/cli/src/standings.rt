@@ -5,11 +5,11 @@ ghost use Rattle.regmodel.specs.Outcomes.{outcome_of};
 ghost use Rattle.regmodel.specs.Schedules.{IsSchedule};
 ghost use Rattle.reglang.specs.Sources.{source_programs, registers_of};
 ghost use Rattle.drawing.specs.Pictures.{IsPictureOf};
-ghost use Rattle.drawing.specs.Registers.{values_after};
+ghost use Rattle.world.specs.Registers.{values_after};
 ghost use Rattle.cli.specs.Standings.{IsLetterRefused};
 
 use arrayvec::ArrayVec;
-use drawing::{Drawing, draw, values_of};
+use drawing::{Drawing, draw};
 use machine::Machine;
 use reglang::Source;
 use regmodel::{Outcome, Prefix};
@@ -46,7 +46,7 @@ pub fn standing_after(
     match world.replay(schedule) {
         Ok(()) => Ok(Standing {
             outcome: world.outcome(),
-            registers: values_of(&world, source.registers()),
+            registers: ArrayVec::try_from(world.registers()).unwrap(),
         }),
         Err(letter) => Err(letter),
     }
@@ -67,5 +67,5 @@ pub fn drawing_of(
     ensures refused { IfErr result (λ letter. IsLetterRefused (source_programs source.now) 8 schedule.now letter.place) }
 {
     let mut world = World::new(machines, source.registers(), CRASHES);
-    draw(&mut world, source.registers(), schedule)
+    draw(&mut world, schedule)
 }

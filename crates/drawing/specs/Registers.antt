@@ -1,14 +1,10 @@
--- What registers hold where a schedule leads.
+-- What registers hold after a letter, beside what they held before it.
 use Rattle.std.specs.Prelude.{ℕ, ◌==◌, not, List, map}
 use Rattle.std.specs.List.{range_with_len}
 use Rattle.regmodel.specs.Letters.{Schedule}
 use Rattle.regmodel.specs.Program.{Program}
 use Rattle.regmodel.specs.Replies.{value_after}
 use Rattle.drawing.specs.declared.drawings.Held.{Held}
-
--- what each of so many registers holds after a schedule
-abbrev pub values_after : List Program → Schedule → ℕ → List ℕ
-values_after programs w registers = map (value_after programs w) (range_with_len 0 registers)
 
 -- what register r holds after `after`, and whether that is another value than after `before`
 abbrev pub held_after : List Program → Schedule → Schedule → ℕ → Held

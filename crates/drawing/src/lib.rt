@@ -10,5 +10,4 @@ mod writing;
 
 pub use drawings::{Deed, Drawing, Held, Row};
 pub use following::draw;
-pub use registers::values_of;
 pub use writing::write_drawing;

@@ -6,7 +6,7 @@ mod least;
 mod reports;
 mod writing;
 
-pub use blocks::{BLOCK_BYTES, Block};
+pub use blocks::Block;
 pub use least::Least;
 pub use reports::Report;
 pub use writing::{

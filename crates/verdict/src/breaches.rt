@@ -133,7 +133,7 @@ fn drawing_of(
     ensures { IsPictureOf (source_programs source.now) (registers_of source.now) schedule.now result }
 {
     let mut world = World::new(machines, source.registers(), crashes);
-    match draw(&mut world, source.registers(), schedule) {
+    match draw(&mut world, schedule) {
         Ok(drawing) => drawing,
         Err(_) => unreachable!(),
     }

@@ -2,6 +2,8 @@
 
 use machine::{Interp, Machine};
 use natives::{Grid, MakeFault, NameSlots, Split, Tree};
+use rand::rngs::SmallRng;
+use rand::{RngExt, SeedableRng};
 use regmodel::{Access, Numbers, Pending};
 use std::alloc::Global;
 use std::process::Abort;
@@ -142,34 +144,17 @@ fn numbers_past_a_limit_are_refused(rt: HostRuntime) -> Result<(), Fail> {
     Ok(())
 }
 
-/// Numbers that look random, the same at each run: a linear congruence.
-#[derive(Drop)]
-struct Random {
-    state: u64,
-}
-
-impl Random {
-    /// A number below the bound.
-    fn below(&mut self, bound: u32) -> u32 {
-        self.state = self
-            .state
-            .wrapping_mul(6364136223846793005)
-            .wrapping_add(1442695040888963407);
-        ((self.state >> 33) as u32).checked_rem(bound).unwrap_or(0)
+/// A reply to a read: often what the machine wrote last, 0 or a small number, and now and then any number.
+fn reply(random: &mut SmallRng, written: u32, echoes: u32) -> u32 {
+    if random.random_range(0u32..8) < echoes {
+        return written;
     }
-
-    /// A reply to a read: often what the machine wrote last, 0 or a small number, and now and then any number.
-    fn reply(&mut self, written: u32, echoes: u32) -> u32 {
-        if self.below(8) < echoes {
-            return written;
-        }
-        match self.below(8) {
-            0 | 1 | 2 => 0,
-            3 => 1,
-            4 | 5 => self.below(17),
-            6 => LIMIT,
-            _ => self.below(LIMIT + 1),
-        }
+    match random.random_range(0u32..8) {
+        0 | 1 | 2 => 0,
+        3 => 1,
+        4 | 5 => random.random_range(0u32..17),
+        6 => LIMIT,
+        _ => random.random_range(0u32..=LIMIT),
     }
 }
 
@@ -179,11 +164,11 @@ fn beside<M: Machine>(
     rt: &impl Abort,
     native: &mut M,
     text: &mut Interp,
-    random: &mut Random,
+    random: &mut SmallRng,
 ) -> Pending {
     native.reset();
     text.reset();
-    let echoes = random.below(8);
+    let echoes = random.random_range(0u32..8);
     let mut written = 0;
     for _ in 0..1000 {
         let pending = native.pending();
@@ -193,7 +178,7 @@ fn beside<M: Machine>(
                 written = value;
                 0
             }
-            Pending::Wants(Access::Read(_)) => random.reply(written, echoes),
+            Pending::Wants(Access::Read(_)) => reply(random, written, echoes),
             over => return over,
         };
         assert!(rt; give(native, reply));
@@ -209,7 +194,7 @@ fn beside_often<M: Machine>(
     text: &mut Interp,
     end: &Pending,
 ) -> u32 {
-    let mut random = Random { state: 20250917 };
+    let mut random = SmallRng::seed_from_u64(20250917);
     let mut found = 0u32;
     for _ in 0..LISTS {
         if &beside(rt, native, text, &mut random) == end {
