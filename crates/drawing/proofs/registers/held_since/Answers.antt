@@ -1,5 +1,6 @@
 use Rattle.std.proofs.Common.{arith}
-use Rattle.drawing.proofs.Growing.{grown, whole}
+use Rattle.world.proofs.Growing.{grown}
+use Rattle.drawing.proofs.Growing.{whole}
 use Rattle.drawing.proofs.Rows.{count-told, held-told}
 use Rattle.drawing.proofs.registers.held_since.Goals as goal
 
