@@ -18,7 +18,7 @@ use machine::Machine;
 use reglang::{Source, check_line};
 use regmodel::laws::the_first_refused_is_a_schedule;
 use regmodel::{Outcome, Prefix, Settings};
-use report::Report;
+use report::Exploration;
 use world::World;
 
 /// What a schedule that fails breaks.
@@ -33,10 +33,10 @@ pub struct Breach {
 }
 
 /// What was found of a source, and what its least failing schedule breaks, where one fails.
-#[derive(Debug, Drop)]
+#[derive(Drop)]
 pub struct Verdict {
     /// What was found.
-    pub report: Report,
+    pub report: Exploration,
     /// What the least failing schedule breaks.
     pub breach: Option<Breach>,
 }
@@ -48,7 +48,7 @@ pub fn verdict_on(
     source: &Source,
     machines: Vec<Box<dyn Machine + Send>>,
     settings: Settings,
-    report: Report,
+    report: Exploration,
 ) -> Verdict
     requires machines { map program machines.items ≡ source_programs source.now }
     requires spelled { Spells text.now (contents_of source.now) }
@@ -67,7 +67,7 @@ fn breach_for(
     source: &Source,
     machines: Vec<Box<dyn Machine + Send>>,
     crashes: u32,
-    report: &Report,
+    report: &Exploration,
 ) -> Option<Breach>
     requires machines { map program machines.items ≡ source_programs source.now }
     requires few { crashes ≤ MOST_CRASHES }

@@ -6,7 +6,8 @@ ghost use Rattle.regmodel.specs.Judging.{is_running};
 ghost use Rattle.verdict.specs.VerdictText as spec;
 
 use regmodel::{End, Outcome};
-use report::Report;
+use report::Exploration;
+use subtree::Outcomes;
 
 /// How much was tried, and how far.
 #[derive(Clone, Copy)]
@@ -24,12 +25,12 @@ pub struct Reach {
 }
 
 /// How much a report tells to be tried, and how far.
-pub fn reach_of(report: &Report) -> Reach
+pub fn reach_of(report: &Exploration) -> Reach
     ensures { result ≡ spec.reach_of report.now }
 {
     Reach {
         tried: report.tried(),
-        outcomes: report.outcomes().len() as u64,
+        outcomes: report.outcome_count() as u64,
         length: u64::from(report.length()),
         crashes: u64::from(report.crashes()),
         cut_off: is_cut_off(report.outcomes()),
@@ -37,10 +38,10 @@ pub fn reach_of(report: &Report) -> Reach
 }
 
 /// Whether a process still runs in one of these outcomes.
-fn is_cut_off(outcomes: &[Outcome]) -> bool
-    ensures { result ≡ list_any (λ ends. list_any is_running ends) outcomes.now }
+fn is_cut_off(mut outcomes: Outcomes<'_>) -> bool
+    ensures { result ≡ list_any (λ ends. list_any is_running ends) outcomes.entry }
 {
-    outcomes.iter().any(some_running)
+    outcomes.any(|outcome| some_running(&outcome))
 }
 
 /// Whether a process of an outcome still runs.
