@@ -38,10 +38,15 @@ pub fn reach_of(report: &Exploration) -> Reach
 }
 
 /// Whether a process still runs in one of these outcomes.
-fn is_cut_off(mut outcomes: Outcomes<'_>) -> bool
+fn is_cut_off(outcomes: Outcomes<'_>) -> bool
     ensures { result ≡ list_any (λ ends. list_any is_running ends) outcomes.entry }
 {
-    outcomes.any(|outcome| some_running(&outcome))
+    for outcome in outcomes {
+        if some_running(&outcome) {
+            return true;
+        }
+    }
+    false
 }
 
 /// Whether a process of an outcome still runs.
