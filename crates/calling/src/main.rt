@@ -3,7 +3,7 @@
 
 ghost use Rattle.std.specs.Prelude.{◌≡◌, IfOk, map};
 ghost use Rattle.reglang.specs.Sources.{source_programs};
-ghost use Rattle.regmodel.specs.PlainReport.{IsPlainReport};
+ghost use Rattle.report.specs.PlainReport.{IsPlainReport};
 
 mod judge;
 mod looker;

@@ -4,7 +4,7 @@ use Rattle.regmodel.specs.declared.letters.Letter.{Letter}
 use Rattle.regmodel.specs.declared.accesses.Access.TheVariants as access
 use Rattle.regmodel.specs.declared.accesses.Pending.{Pending}
 use Rattle.regmodel.specs.declared.accesses.Pending.TheVariants.{Wants, Done, Fault}
-use Rattle.regmodel.specs.Conflict.{access_of, wanted_after}
+use Rattle.regmodel.specs.Wanted.{access_of, wanted_after}
 use Rattle.regmodel.specs.Lawful.{IsAccessWithin}
 use Rattle.regmodel.specs.Program.{Program}
 use Rattle.regmodel.specs.Replies.{pending_after}

@@ -3,7 +3,7 @@ use Rattle.std.specs.Prelude.{◌≡◌, ℕ, true, false, [], ◌∷◌, refl, 
 use Rattle.std.specs.Fmt.{digits}
 use Rattle.regmodel.specs.declared.letters.Letter.TheVariants.{Run, Crash}
 use Rattle.regmodel.specs.declared.outcomes.End.TheVariants as end
-use Rattle.regmodel.specs.Conflict.{wanted_after}
+use Rattle.regmodel.specs.Wanted.{wanted_after}
 use Rattle.regmodel.specs.Examples.{two_writers, writer_and_reader}
 use Rattle.regmodel.specs.Replies.{value_after}
 use Rattle.drawing.specs.declared.drawings.Deed.TheVariants as deed

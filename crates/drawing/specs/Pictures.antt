@@ -5,7 +5,7 @@ use Rattle.regmodel.specs.declared.accesses.Access.TheVariants as access
 use Rattle.regmodel.specs.declared.letters.Letter.{Letter}
 use Rattle.regmodel.specs.declared.letters.Letter.TheVariants as letter
 use Rattle.regmodel.specs.declared.outcomes.ProcEnd.{ProcEnd}
-use Rattle.regmodel.specs.Conflict.{wanted_after}
+use Rattle.regmodel.specs.Wanted.{wanted_after}
 use Rattle.regmodel.specs.Letters.{Schedule, process_of}
 use Rattle.regmodel.specs.Outcomes.{outcome_of}
 use Rattle.regmodel.specs.Program.{Program}

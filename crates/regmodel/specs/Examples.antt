@@ -17,9 +17,7 @@ use Rattle.regmodel.specs.Act.{act_of}
 use Rattle.regmodel.specs.AllSchedules.{all_schedules}
 use Rattle.regmodel.specs.Letters.{letter_at, all_letters}
 use Rattle.regmodel.specs.Outcomes.{outcome_of}
-use Rattle.regmodel.specs.PlainReport.{Findings}
 use Rattle.regmodel.specs.Summary.{first_refused}
-use Rattle.regmodel.specs.ReportText.{outcome_text, report_text, standing_text}
 use Rattle.regmodel.specs.ScheduleText.{schedule_text}
 
 abbrev pub over : ℕ → Block → Program
@@ -83,7 +81,7 @@ writes registers register value = over registers (Write (operand.Number register
 abbrev pub writer_and_reader : List Program
 writer_and_reader = writes 1 0 5 ∷ over 1 (Read (target.Var 0) (operand.Number 0) (Emit (One (operand.Var 0)) Stop)) ∷ []
 
-abbrev started : List ℕ → ProcEnd
+abbrev pub started : List ℕ → ProcEnd
 started numbers = record { started = true; fate = end.Done (record { items = numbers }) }
 
 abbrev is_five : ProcEnd → Bool
@@ -110,7 +108,7 @@ first_refused_of_both = refl
 abbrev pub two_writers : List Program
 two_writers = writes 2 0 5 ∷ writes 2 1 5 ∷ []
 
-abbrev idle : End → ProcEnd
+abbrev pub idle : End → ProcEnd
 idle fate = record { started = false; fate = fate }
 
 pub six_schedules : all_schedules two_writers 1 2 ≡ (Run 0 ∷ Run 1 ∷ []) ∷ (Run 0 ∷ Crash 1 ∷ []) ∷ (Run 1 ∷ Run 0 ∷ []) ∷ (Run 1 ∷ Crash 0 ∷ []) ∷ (Crash 0 ∷ Run 1 ∷ []) ∷ (Crash 1 ∷ Run 0 ∷ []) ∷ []
@@ -140,28 +138,3 @@ text_of_none = refl
 
 pub text_of_two : schedule_text (Run 0 ∷ Crash 1 ∷ []) ≡ codes "R0 C1"
 text_of_two = refl
-
--- ---- the text of a report
-
--- what is found of the writer and the reader at length 2
-abbrev found_of_both : Findings
-found_of_both = record {
-  processes = 2;
-  length = 2;
-  crashes = 0;
-  tried = 2;
-  outcomes = (started [] ∷ started (0 ∷ []) ∷ []) ∷ (started [] ∷ started (5 ∷ []) ∷ []) ∷ [];
-  least = None;
-}
-
-pub report_of_both : report_text found_of_both ≡ codes "processes 2\nlength 2\ncrashes 0\ntried 2\noutcomes 2\noutcome done; done 0\noutcome done; done 5\nleast none\n"
-unfolding digits
-report_of_both = refl
-
-pub texts_of_ends : outcome_text (started (1 ∷ 20 ∷ []) ∷ idle (end.Fault 2) ∷ idle end.Crashed ∷ idle end.Running ∷ []) ≡ codes "done 1 20; fault 2 idle; crashed idle; running idle"
-unfolding digits
-texts_of_ends = refl
-
-pub text_of_where_a_crash_leads : standing_text (started [] ∷ idle end.Crashed ∷ []) (5 ∷ 0 ∷ []) ≡ codes "outcome done; crashed idle\nregisters 5 0\n"
-unfolding digits
-text_of_where_a_crash_leads = refl

@@ -12,7 +12,6 @@ pub mod limits;
 mod memory;
 mod outcomes;
 mod programs;
-pub mod reductions;
 mod schedule_texts;
 mod schedules;
 mod settings;

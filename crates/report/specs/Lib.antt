@@ -1,1 +1,4 @@
 pub mod Appending
+pub mod Examples
+pub mod PlainReport
+pub mod ReportText

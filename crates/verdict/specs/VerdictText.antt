@@ -4,7 +4,7 @@ use Rattle.std.specs.List.{list_any}
 use Rattle.regmodel.specs.declared.limits.TheConstants.{MOST_LETTERS}
 use Rattle.regmodel.specs.Judging.{is_running}
 use Rattle.regmodel.specs.Letters.{Schedule}
-use Rattle.regmodel.specs.PlainReport.{Findings}
+use Rattle.report.specs.PlainReport.{Findings}
 use Rattle.regmodel.specs.ScheduleText.{schedule_text}
 use Rattle.reglang.specs.Checks.{line_at}
 use Rattle.drawing.specs.DrawingText.{drawing_text}

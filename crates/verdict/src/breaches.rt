@@ -3,7 +3,7 @@
 ghost use Rattle.std.specs.Prelude.{◌≡◌, ◌≤◌, List, Some, false, map};
 ghost use Rattle.regmodel.specs.Judging.{meets_all};
 ghost use Rattle.regmodel.specs.Letters.{Schedule};
-ghost use Rattle.regmodel.specs.PlainReport.{IsPlainReport};
+ghost use Rattle.report.specs.PlainReport.{IsPlainReport};
 ghost use Rattle.regmodel.specs.Schedules.{IsSchedule};
 ghost use Rattle.regmodel.specs.Summary.{IsRefusedWith};
 ghost use Rattle.regmodel.specs.declared.outcomes.ProcEnd.{ProcEnd};
