@@ -5,7 +5,7 @@ use Rattle.regmodel.specs.declared.programs.Stmt.{Stmt, If, Repeat}
 use Rattle.regmodel.specs.declared.programs.Stmt.TheVariants as stmt
 use Rattle.regmodel.specs.Program as program
 use Rattle.regmodel.specs.Program.{Block, Stop, with_stmt, block_of}
-use Rattle.regmodel.specs.Limits.{open_blocks, open_repeats, statements, operands_fit, target_fits, operand_fits, expr_fits}
+use Rattle.regmodel.specs.Limits.{open_blocks, open_repeats, statements, operands_fit, target_fits, operand_fits, expr_fits, scan_fits}
 use Rattle.regmodel.proofs.Rows.{with_stmt-If, with_stmt-Repeat}
 
 pub block_of-drop : (xs : List Stmt) (i : ℕ) (x : Stmt) → i < length xs → x ≡ get_or xs i x → block_of (drop i xs) ≡ with_stmt x (block_of (drop (i + 1) xs))
@@ -17,6 +17,7 @@ open_blocks-with_stmt : (s : Stmt) (b : Block) → open_blocks (with_stmt s b) �
 open_blocks-with_stmt (stmt.Assign t e) b = omega arith
 open_blocks-with_stmt (stmt.Read t a) b = omega arith
 open_blocks-with_stmt (stmt.Write a e) b = omega arith
+open_blocks-with_stmt (stmt.Scan cell first count) b = omega arith
 open_blocks-with_stmt (stmt.If' e m first k second) b = omega arith
 open_blocks-with_stmt (stmt.Repeat' e m body) b = omega arith
 open_blocks-with_stmt (stmt.Emit e) b = omega arith
@@ -26,6 +27,7 @@ open_repeats-with_stmt : (s : Stmt) (b : Block) → open_repeats (with_stmt s b)
 open_repeats-with_stmt (stmt.Assign t e) b = omega arith
 open_repeats-with_stmt (stmt.Read t a) b = omega arith
 open_repeats-with_stmt (stmt.Write a e) b = omega arith
+open_repeats-with_stmt (stmt.Scan cell first count) b = omega arith
 open_repeats-with_stmt (stmt.If' e m first k second) b = omega arith
 open_repeats-with_stmt (stmt.Repeat' e m body) b = omega arith
 open_repeats-with_stmt (stmt.Emit e) b = omega arith
@@ -35,6 +37,7 @@ statements-with_stmt : (s : Stmt) (b : Block) → statements (with_stmt s b) ≡
 statements-with_stmt (stmt.Assign t e) b = omega arith
 statements-with_stmt (stmt.Read t a) b = omega arith
 statements-with_stmt (stmt.Write a e) b = omega arith
+statements-with_stmt (stmt.Scan cell first count) b = omega arith
 statements-with_stmt (stmt.If' e m first k second) b = omega arith
 statements-with_stmt (stmt.Repeat' e m body) b = omega arith
 statements-with_stmt (stmt.Emit e) b = omega arith
@@ -45,14 +48,15 @@ parted : (a b : Bool) → a && b ≡ (a && true) && b
 parted true b = refl
 parted false b = refl
 
-operands_fit-with_stmt : (s : Stmt) (b : Block) → operands_fit (with_stmt s b) ≡ operands_fit (with_stmt s Stop) && operands_fit b
-operands_fit-with_stmt (stmt.Assign t e) b = parted (target_fits t && expr_fits e) (operands_fit b)
-operands_fit-with_stmt (stmt.Read t a) b = parted (target_fits t && operand_fits a) (operands_fit b)
-operands_fit-with_stmt (stmt.Write a e) b = parted (operand_fits a && expr_fits e) (operands_fit b)
-operands_fit-with_stmt (stmt.If' e m first k second) b = parted _ (operands_fit b)
-operands_fit-with_stmt (stmt.Repeat' e m body) b = parted _ (operands_fit b)
-operands_fit-with_stmt (stmt.Emit e) b = parted (expr_fits e) (operands_fit b)
-operands_fit-with_stmt stmt.Halt b = refl
+operands_fit-with_stmt : (n : ℕ) (s : Stmt) (b : Block) → operands_fit n (with_stmt s b) ≡ operands_fit n (with_stmt s Stop) && operands_fit n b
+operands_fit-with_stmt n (stmt.Assign t e) b = parted (target_fits t && expr_fits e) (operands_fit n b)
+operands_fit-with_stmt n (stmt.Read t a) b = parted (target_fits t && operand_fits a) (operands_fit n b)
+operands_fit-with_stmt n (stmt.Write a e) b = parted (operand_fits a && expr_fits e) (operands_fit n b)
+operands_fit-with_stmt n (stmt.Scan cell first count) b = parted (scan_fits n cell first count) (operands_fit n b)
+operands_fit-with_stmt n (stmt.If' e m first k second) b = parted _ (operands_fit n b)
+operands_fit-with_stmt n (stmt.Repeat' e m body) b = parted _ (operands_fit n b)
+operands_fit-with_stmt n (stmt.Emit e) b = parted (expr_fits e) (operands_fit n b)
+operands_fit-with_stmt n stmt.Halt b = refl
 
 -- ---- a loop over a list of statements, at statement x
 
@@ -65,8 +69,8 @@ open_repeats-step xs i x h e = ap open_repeats (block_of-drop xs i x h e) ∙ op
 pub statements-step : (xs : List Stmt) (i : ℕ) (x : Stmt) → i < length xs → x ≡ get_or xs i x → statements (block_of (drop i xs)) ≡ statements (with_stmt x Stop) + statements (block_of (drop (i + 1) xs))
 statements-step xs i x h e = ap statements (block_of-drop xs i x h e) ∙ statements-with_stmt x (block_of (drop (i + 1) xs))
 
-pub operands_fit-step : (xs : List Stmt) (i : ℕ) (x : Stmt) → i < length xs → x ≡ get_or xs i x → operands_fit (block_of (drop i xs)) ≡ operands_fit (with_stmt x Stop) && operands_fit (block_of (drop (i + 1) xs))
-operands_fit-step xs i x h e = ap operands_fit (block_of-drop xs i x h e) ∙ operands_fit-with_stmt x (block_of (drop (i + 1) xs))
+pub operands_fit-step : (n : ℕ) (xs : List Stmt) (i : ℕ) (x : Stmt) → i < length xs → x ≡ get_or xs i x → operands_fit n (block_of (drop i xs)) ≡ operands_fit n (with_stmt x Stop) && operands_fit n (block_of (drop (i + 1) xs))
+operands_fit-step n xs i x h e = ap (operands_fit n) (block_of-drop xs i x h e) ∙ operands_fit-with_stmt n x (block_of (drop (i + 1) xs))
 
 -- what is left of a list is not nested deeper than the whole
 pub open_blocks-drop : (k : ℕ) (xs : List Stmt) → open_blocks (block_of (drop k xs)) ≤ open_blocks (block_of xs)
@@ -92,6 +96,7 @@ pub statements_some : (s : Stmt) → 0 < statements (with_stmt s Stop)
 statements_some (stmt.Assign t e) = omega arith
 statements_some (stmt.Read t a) = omega arith
 statements_some (stmt.Write a e) = omega arith
+statements_some (stmt.Scan cell first count) = omega arith
 statements_some (stmt.If' e m first k second) = omega arith
 statements_some (stmt.Repeat' e m body) = omega arith
 statements_some (stmt.Emit e) = omega arith

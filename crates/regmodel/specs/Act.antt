@@ -1,14 +1,14 @@
 -- What a program does on a whole list of replies.
 use Rattle.std.specs.Prelude.{ℕ, zero, suc, List, [], ◌∷◌, ◌++◌, Result, Ok, Err, nat_lt, if◌then◌else◌, length}
-use Rattle.regmodel.specs.Reply.{Replies}
+use Rattle.regmodel.specs.Reply.{Replies, value_of}
 use Rattle.regmodel.specs.declared.accesses.Access.{Access}
 use Rattle.regmodel.specs.declared.accesses.Access.TheVariants as access
 use Rattle.regmodel.specs.declared.accesses.Pending.{Pending}
 use Rattle.regmodel.specs.declared.accesses.Pending.TheVariants as pending
 use Rattle.regmodel.specs.declared.limits.TheConstants.{MOST_NUMBERS, MOST_TURNS}
 use Rattle.regmodel.specs.declared.faults.TheConstants.{TOO_MANY_NUMBERS, TOO_MANY_TURNS}
-use Rattle.regmodel.specs.Values.{Env, Place, start_env, below_or_fault, and_then, operand_value, expr_value, target_place, store}
-use Rattle.regmodel.specs.Program.{Block, Program, Stop, Assign, Read, Write, If, Repeat, Emit, Halt}
+use Rattle.regmodel.specs.Values.{Env, Place, start_env, below_or_fault, and_then, operand_value, expr_value, target_place, store, store_from}
+use Rattle.regmodel.specs.Program.{Block, Program, Stop, Assign, Read, Write, Scan, If, Repeat, Emit, Halt}
 
 -- what a block leads to: it goes on with what is left of the replies, wants an access, is done with numbers, or is at fault
 pub data Flow : Type 0 where
@@ -29,10 +29,15 @@ then_do (Wants a) go = Wants a
 then_do (Ends numbers) go = Ends numbers
 then_do (Faults code) go = Faults code
 
--- a read stores the next reply, or wants its access where none is left
+-- a read stores the value of the next reply, or wants its access where none is left
 abbrev pub answer_read : Env → Place → ℕ → Replies → Flow
 answer_read env place r [] = Wants (access.Read r)
-answer_read env place r (reply ∷ replies) = GoesOn (store env place reply) replies
+answer_read env place r (reply ∷ replies) = GoesOn (store env place (value_of reply)) replies
+
+-- a scan stores the values of the next reply in the cells from one on, or wants its access
+abbrev pub answer_scan : Env → ℕ → ℕ → ℕ → Replies → Flow
+answer_scan env cell first count [] = Wants (access.Scan first count)
+answer_scan env cell first count (reply ∷ replies) = GoesOn (store_from env cell reply) replies
 
 -- a write uses up the next reply, or wants its access
 abbrev pub answer_write : Env → ℕ → ℕ → Replies → Flow
@@ -68,6 +73,7 @@ exec (Read t a rest) registers env replies =
 exec (Write a e rest) registers env replies =
     with_value (and_then (operand_value env a) (below_or_fault registers)) (λ r. with_value (expr_value env e) (λ v.
     then_do (answer_write env r v replies) (exec rest registers)))
+exec (Scan cell first count rest) registers env replies = then_do (answer_scan env cell first count replies) (exec rest registers)
 exec (If e first second rest) registers env replies =
     with_value (expr_value env e) (λ v.
     then_do (choose v (exec first registers env replies) (exec second registers env replies)) (exec rest registers))

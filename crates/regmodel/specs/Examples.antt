@@ -12,8 +12,9 @@ use Rattle.regmodel.specs.declared.programs.Expr.TheVariants.{One, Two}
 use Rattle.regmodel.specs.declared.programs.Op.TheVariants.{Add, Sub, Less}
 use Rattle.regmodel.specs.declared.programs.Operand.TheVariants as operand
 use Rattle.regmodel.specs.declared.programs.Target.TheVariants as target
-use Rattle.regmodel.specs.Program.{Block, Program, Stop, Assign, Read, Write, If, Repeat, Emit}
+use Rattle.regmodel.specs.Program.{Block, Program, Stop, Assign, Read, Write, Scan, If, Repeat, Emit}
 use Rattle.regmodel.specs.Act.{act_of}
+use Rattle.regmodel.specs.Reply.{one}
 use Rattle.regmodel.specs.AllSchedules.{all_schedules}
 use Rattle.regmodel.specs.Letters.{letter_at, all_letters}
 use Rattle.regmodel.specs.Outcomes.{outcome_of}
@@ -32,21 +33,31 @@ branches = over 1 (Read (target.Var 0) (operand.Number 0) (If (Two (operand.Var 
 pub wants_a_read : act_of branches [] ≡ pending.Wants (access.Read 0)
 wants_a_read = refl
 
-pub takes_the_first_part : act_of branches (2 ∷ []) ≡ pending.Done (record { items = 1 ∷ [] })
+pub takes_the_first_part : act_of branches (one 2 ∷ []) ≡ pending.Done (record { items = 1 ∷ [] })
 takes_the_first_part = refl
 
-pub takes_the_second_part : act_of branches (3 ∷ []) ≡ pending.Done (record { items = 4 ∷ [] })
+pub takes_the_second_part : act_of branches (one 3 ∷ []) ≡ pending.Done (record { items = 4 ∷ [] })
 takes_the_second_part = refl
 
 -- repeat 2: write 0 v1, read v0 0, emit v0, set v1 v1 + 1
 abbrev loops : Program
 loops = over 1 (Repeat (One (operand.Number 2)) (Write (operand.Number 0) (One (operand.Var 1)) (Read (target.Var 0) (operand.Number 0) (Emit (One (operand.Var 0)) (Assign (target.Var 1) (Two (operand.Var 1) Add (operand.Number 1)) Stop)))) Stop)
 
-pub wants_its_second_write : act_of loops (0 ∷ 7 ∷ []) ≡ pending.Wants (access.Write 0 1)
+pub wants_its_second_write : act_of loops (one 0 ∷ one 7 ∷ []) ≡ pending.Wants (access.Write 0 1)
 wants_its_second_write = refl
 
-pub two_turns : act_of loops (0 ∷ 7 ∷ 0 ∷ 8 ∷ []) ≡ pending.Done (record { items = 7 ∷ 8 ∷ [] })
+pub two_turns : act_of loops (one 0 ∷ one 7 ∷ one 0 ∷ one 8 ∷ []) ≡ pending.Done (record { items = 7 ∷ 8 ∷ [] })
 two_turns = refl
+
+-- scan 0 0 2: both registers at once into cells 0 and 1, which are emitted
+abbrev pub scans_two : Program
+scans_two = over 2 (Scan 0 0 2 (Emit (One (operand.Cell 0)) (Emit (One (operand.Cell 1)) Stop)))
+
+pub wants_a_scan : act_of scans_two [] ≡ pending.Wants (access.Scan 0 2)
+wants_a_scan = refl
+
+pub both_values : act_of scans_two ((5 ∷ 6 ∷ []) ∷ []) ≡ pending.Done (record { items = 5 ∷ 6 ∷ [] })
+both_values = refl
 
 -- ---- each fault at run time
 

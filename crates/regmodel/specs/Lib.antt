@@ -2,6 +2,7 @@ pub mod Act
 pub mod AllSchedules
 pub mod Settings
 pub mod Examples
+pub mod Footprints
 pub mod Lawful
 pub mod Letters
 pub mod Limits

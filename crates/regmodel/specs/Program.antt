@@ -12,6 +12,7 @@ pub data Block : Type 0 where
   Assign : (to : Target) (value : Expr) (rest : Block) → Block
   Read : (to : Target) (from : Operand) (rest : Block) → Block
   Write : (to : Operand) (value : Expr) (rest : Block) → Block
+  Scan : (cell first count : ℕ) (rest : Block) → Block
   If : (test : Expr) (first second rest : Block) → Block
   Repeat : (count : Expr) (body rest : Block) → Block
   Emit : (value : Expr) (rest : Block) → Block
@@ -28,6 +29,7 @@ abbrev mutual
   with_stmt (stmt.Assign t e) rest = Assign t e rest
   with_stmt (stmt.Read t a) rest = Read t a rest
   with_stmt (stmt.Write a e) rest = Write a e rest
+  with_stmt (stmt.Scan cell first count) rest = Scan cell first count rest
   with_stmt (stmt.If' e m first k second) rest = If e (row_block first) (row_block second) rest
   with_stmt (stmt.Repeat' e m body) rest = Repeat e (row_block body) rest
   with_stmt (stmt.Emit e) rest = Emit e rest

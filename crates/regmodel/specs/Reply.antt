@@ -1,9 +1,18 @@
 -- What a process is answered.
-use Rattle.std.specs.Prelude.{ℕ, List}
+use Rattle.std.specs.Prelude.{ℕ, List, [], ◌∷◌}
 
--- the reply to one access: the value that was read, or 0 for a write
+-- the reply to one access: the value of each register that was read, rising, or one 0 for a write
 abbrev pub Reply : Type 0
-Reply = ℕ
+Reply = List ℕ
+
+-- a reply of one value
+abbrev pub one : ℕ → Reply
+one v = v ∷ []
+
+-- the first value of a reply
+abbrev pub value_of : Reply → ℕ
+value_of [] = 0
+value_of (v ∷ values) = v
 
 -- the replies to one access after another, the first one first
 abbrev pub Replies : Type 0

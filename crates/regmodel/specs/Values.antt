@@ -1,5 +1,5 @@
 -- What expressions are worth: left to right, a value or the code of a fault.
-use Rattle.std.specs.Prelude.{ℕ, ◌+◌, ◌-◌, ◌*◌, List, [], Result, Ok, Err, nat_lt, nat_le, ◌==◌, if◌then◌else◌, slice_index, slice_set, replicate}
+use Rattle.std.specs.Prelude.{ℕ, ◌+◌, ◌-◌, ◌*◌, List, [], ◌∷◌, Result, Ok, Err, nat_lt, nat_le, ◌==◌, if◌then◌else◌, slice_index, slice_set, replicate}
 use Rattle.regmodel.specs.declared.limits.TheConstants.{CELLS, GREATEST_VALUE, VARIABLES}
 use Rattle.regmodel.specs.declared.faults.TheConstants.{NO_PLACE, NO_VALUE}
 use Rattle.regmodel.specs.declared.programs.Target.{Target}
@@ -69,3 +69,8 @@ target_place env (target.CellOf i) = if nat_lt (slice_index env.vars i) CELLS th
 abbrev pub store : Env → Place → ℕ → Env
 store env (InVar i) v = record env { vars = slice_set env.vars i v }
 store env (InCell i) v = record env { cells = slice_set env.cells i v }
+
+-- the environment with values in the cells from one on
+abbrev pub store_from : Env → ℕ → List ℕ → Env
+store_from env i [] = env
+store_from env i (v ∷ values) = store_from (store env (InCell i) v) (i + 1) values

@@ -4,25 +4,26 @@ ghost use Rattle.std.specs.Prelude.{◌≡◌, ◌+◌, ◌<◌, ◌≤◌, ◌�
 ghost use Rattle.regmodel.specs.Program.{block_of, with_stmt, Stop};
 ghost use Rattle.regmodel.specs.Limits as spec;
 
+use crate::limits::CELLS;
 use crate::programs::Stmt;
 
-/// Whether each target and operand of a block is within its limit.
+/// Whether each target, operand and scan of a block is within its limit, where there are so many registers.
 #[cycle(fits)]
-pub fn operands_fit(block: &[Stmt]) -> bool
-    ensures { result ≡ spec.operands_fit (block_of block.now) }
+pub fn operands_fit(registers: u32, block: &[Stmt]) -> bool
+    ensures { result ≡ spec.operands_fit registers (block_of block.now) }
 {
     for stmt in block {
-        if !stmt_fits(stmt) {
+        if !stmt_fits(registers, stmt) {
             return false;
         }
     }
     true
 }
 
-/// Whether each target and operand of a statement is within its limit.
+/// The same of one statement.
 #[cycle(fits)]
-fn stmt_fits(stmt: &Stmt) -> bool
-    ensures { result ≡ spec.operands_fit (with_stmt stmt.now Stop) }
+fn stmt_fits(registers: u32, stmt: &Stmt) -> bool
+    ensures { result ≡ spec.operands_fit registers (with_stmt stmt.now Stop) }
 {
     match stmt {
         Stmt::Assign(target, expr) => target.fits() && expr.fits(),
@@ -32,20 +33,30 @@ fn stmt_fits(stmt: &Stmt) -> bool
             if !expr.fits() {
                 return false;
             }
-            if !operands_fit(first.as_slice()) {
+            if !operands_fit(registers, first.as_slice()) {
                 return false;
             }
-            operands_fit(second.as_slice())
+            operands_fit(registers, second.as_slice())
         }
         Stmt::Repeat(expr, body) => {
             if !expr.fits() {
                 return false;
             }
-            operands_fit(body.as_slice())
+            operands_fit(registers, body.as_slice())
         }
+        Stmt::Scan(cell, first, count) => scan_fits(registers, *cell, *first, *count),
         Stmt::Emit(expr) => expr.fits(),
         Stmt::Halt => true,
     }
+}
+
+/// Whether a scan reads at least one register, and only such as are there, into cells that are there.
+pub fn scan_fits(registers: u32, cell: u32, first: u32, count: u32) -> bool
+    ensures { result ≡ spec.scan_fits registers cell first count }
+{
+    count > 0
+        && u64::from(cell) + u64::from(count) <= u64::from(CELLS)
+        && u64::from(first) + u64::from(count) <= u64::from(registers)
 }
 
 /// Whether `if` and `repeat` are nested at most so deep in a block, and `repeat` alone at most so deep.
@@ -85,6 +96,7 @@ fn stmt_nests_within(stmt: &Stmt, blocks: u32, repeats: u32) -> bool
         Stmt::Assign(_, _) => true,
         Stmt::Read(_, _) => true,
         Stmt::Write(_, _) => true,
+        Stmt::Scan(_, _, _) => true,
         Stmt::Emit(_) => true,
         Stmt::Halt => true,
     }
@@ -123,6 +135,7 @@ fn room_after_stmt(stmt: &Stmt, room: u32) -> Option<u32>
         Stmt::Assign(_, _) => Some(inner),
         Stmt::Read(_, _) => Some(inner),
         Stmt::Write(_, _) => Some(inner),
+        Stmt::Scan(_, _, _) => Some(inner),
         Stmt::Emit(_) => Some(inner),
         Stmt::Halt => Some(inner),
     }

@@ -16,7 +16,7 @@ mod schedule_texts;
 mod schedules;
 mod settings;
 
-pub use accesses::{Access, Numbers, Pending};
+pub use accesses::{Access, Footprint, Numbers, Pending};
 pub use clauses::{Clause, Clauses};
 pub use letters::Letter;
 pub use memory::OutOfMemory;

@@ -110,6 +110,8 @@ pub enum Stmt {
     If(Expr, Vec<Stmt>, Vec<Stmt>),
     /// Runs the block as often as the value says, which is taken once.
     Repeat(Expr, Vec<Stmt>),
+    /// Reads at once the registers from the second number on, as many as the third says, into the cells from the first on.
+    Scan(u32, u32, u32),
     /// Appends the value to the numbers of the process.
     Emit(Expr),
     /// Ends the process with its numbers.
@@ -123,7 +125,7 @@ pub struct Prog {
     body: Vec<Stmt>,
     ghost some_register: { 0 < registers },
     ghost few_registers: { registers ≤ MOST_REGISTERS },
-    ghost operands: { IsTrue (operands_fit (block_of body.items)) },
+    ghost operands: { IsTrue (operands_fit registers (block_of body.items)) },
     ghost statements: { statements (block_of body.items) ≤ MOST_STATEMENTS },
     ghost open_blocks: { open_blocks (block_of body.items) ≤ MOST_OPEN_BLOCKS },
     ghost open_repeats: { open_repeats (block_of body.items) ≤ MOST_OPEN_REPEATS },
@@ -133,7 +135,7 @@ impl Prog {
     ghost use Rattle.regmodel.specs.OfProg.{program_of};
 
     /// The program of these statements over so many registers. None where a limit is passed: 1 to 64 registers, numbers
-    /// up to 1000000000, variables 0 to 15, cells 0 to 31, 200 statements, 3 nested repeats, 16 open blocks.
+    /// up to 1000000000, variables 0 to 15, cells 0 to 31, scans of registers that are there into cells that are there, 200 statements, 3 nested repeats, 16 open blocks.
     pub fn new(registers: u32, body: Vec<Stmt>) -> Option<Prog>
         ensures value { IfSome result (λ p. program_of p ≡ record { registers = registers; body = block_of body.items }) }
         ensures limits { IsSome result ↔ IsWithin (record { registers = registers; body = block_of body.items }) }
@@ -142,7 +144,7 @@ impl Prog {
             return None;
         }
         let block = body.as_slice();
-        if !fitting::operands_fit(block) {
+        if !fitting::operands_fit(registers, block) {
             return None;
         }
         if !fitting::nests_within(block, MOST_OPEN_BLOCKS, MOST_OPEN_REPEATS) {

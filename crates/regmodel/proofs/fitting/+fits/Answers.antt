@@ -24,30 +24,30 @@ pub operands_fit-returns-then-not-stmt_fits : goal.operands_fit-returns-then-not
 operands_fit-returns-then-not-stmt_fits t c =
     let i = c.loop-stmt.stmt-index in
     let x = c.stmt-item.result in
-    sym (c.loop-stmt.invariant ∙ (operands_fit-step c.args.block.now i x (omega arith) c.stmt-item.is ∙ rw (← c.if-not-stmt_fits.ensures) refl))
+    sym (c.loop-stmt.invariant ∙ (operands_fit-step c.args.registers c.args.block.now i x (omega arith) c.stmt-item.is ∙ rw (← c.if-not-stmt_fits.ensures) refl))
 
 pub operands_fit-loop-stmt-preserved : goal.operands_fit-loop-stmt-preserved
 operands_fit-loop-stmt-preserved t c =
     let i = c.loop-stmt.stmt-index in
     let x = c.stmt-item.result in
-    c.loop-stmt.invariant ∙ (operands_fit-step c.args.block.now i x (omega arith) c.stmt-item.is ∙ rw (← c.if-not-stmt_fits.ensures) refl)
+    c.loop-stmt.invariant ∙ (operands_fit-step c.args.registers c.args.block.now i x (omega arith) c.stmt-item.is ∙ rw (← c.if-not-stmt_fits.ensures) refl)
 
 pub stmt_fits-returns-then-not-operands_fit : goal.stmt_fits-returns-then-not-operands_fit
 stmt_fits-returns-then-not-operands_fit t c =
     let w = c.in-If in
-    rw (with_stmt_if c.args.stmt.now w.expr w.first w.second w.is) (and_first _ _ (operands_fit (block_of w.second.items)) (c.if-not-operands_fit.ensures ∙ ap (λ xs. operands_fit (block_of xs)) c.as_slice.ensures.value) (sym c.if-not-fits.ensures))
+    rw (with_stmt_if c.args.stmt.now w.expr w.first w.second w.is) (and_first _ _ (operands_fit c.args.registers (block_of w.second.items)) (c.if-not-operands_fit.ensures ∙ ap (λ xs. operands_fit c.args.registers (block_of xs)) c.as_slice.ensures.value) (sym c.if-not-fits.ensures))
 
 pub stmt_fits-returns-else-not-operands_fit : goal.stmt_fits-returns-else-not-operands_fit
 stmt_fits-returns-else-not-operands_fit t c =
     let w = c.in-If in
     rw (with_stmt_if c.args.stmt.now w.expr w.first w.second w.is)
     (c.operands_fit-in-If.ensures
-    ∙ (ap (λ xs. operands_fit (block_of xs)) c.as_slice-in-If.ensures.value
-    ∙ and_last _ _ _ (sym c.if-not-fits.ensures) (sym (c.if-not-operands_fit.ensures ∙ ap (λ xs. operands_fit (block_of xs)) c.as_slice.ensures.value))))
+    ∙ (ap (λ xs. operands_fit c.args.registers (block_of xs)) c.as_slice-in-If.ensures.value
+    ∙ and_last _ _ _ (sym c.if-not-fits.ensures) (sym (c.if-not-operands_fit.ensures ∙ ap (λ xs. operands_fit c.args.registers (block_of xs)) c.as_slice.ensures.value))))
 
 pub stmt_fits-returns-else-not-fits-2 : goal.stmt_fits-returns-else-not-fits-2
 stmt_fits-returns-else-not-fits-2 t c =
     let w = c.in-Repeat in
     rw (with_stmt_repeat c.args.stmt.now w.expr w.body w.is)
     (c.operands_fit-in-Repeat.ensures
-    ∙ (ap (λ xs. operands_fit (block_of xs)) c.as_slice-in-Repeat.ensures.value ∙ and_only _ _ (sym c.if-not-fits-2.ensures)))
+    ∙ (ap (λ xs. operands_fit c.args.registers (block_of xs)) c.as_slice-in-Repeat.ensures.value ∙ and_only _ _ (sym c.if-not-fits-2.ensures)))
