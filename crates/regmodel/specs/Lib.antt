@@ -3,6 +3,7 @@ pub mod AllSchedules
 pub mod Settings
 pub mod Examples
 pub mod Footprints
+pub mod Kept
 pub mod Lawful
 pub mod Letters
 pub mod Limits

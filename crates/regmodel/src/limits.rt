@@ -33,6 +33,9 @@ pub const VARIABLES: u8 = 16;
 /// How many cells a process has.
 pub const CELLS: u8 = 32;
 
+/// The most registers that one scan reads: as many as a process has cells.
+pub const MOST_SCANNED: usize = 32;
+
 /// The most statements of a process, those of inner blocks counted.
 pub const MOST_STATEMENTS: u32 = 200;
 

@@ -1,0 +1,46 @@
+//! Replies, as plain values that can be kept.
+
+ghost use Rattle.std.specs.Prelude.{◌≡◌, ◌≤◌, [], length};
+ghost use Rattle.regmodel.specs.Kept.{values_in};
+ghost use Rattle.regmodel.specs.declared.limits.TheConstants.{MOST_SCANNED};
+
+use crate::limits::MOST_SCANNED;
+
+/// The reply to one access, as a plain value: at most 32 numbers. Places from the count on hold what they held.
+#[derive(Clone, Copy)]
+pub struct Reply {
+    places: [u32; MOST_SCANNED],
+    count: usize,
+}
+
+impl Reply {
+    /// The reply of no number.
+    pub fn none() -> Reply
+        ensures { values_in result ≡ [] }
+    {
+        Reply {
+            places: [0; MOST_SCANNED],
+            count: 0,
+        }
+    }
+
+    /// The reply of these numbers.
+    pub fn of(values: &[u32]) -> Reply
+        requires { length values.now ≤ MOST_SCANNED }
+        ensures { values_in result ≡ values.now }
+    {
+        let mut places = [0; MOST_SCANNED];
+        places[..values.len()].copy_from_slice(values);
+        Reply {
+            places,
+            count: values.len(),
+        }
+    }
+
+    /// Its numbers.
+    pub fn values(&self) -> &[u32]
+        ensures { result.now ≡ values_in self.now }
+    {
+        &self.places[..self.count.min(MOST_SCANNED)]
+    }
+}
