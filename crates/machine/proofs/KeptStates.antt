@@ -3,6 +3,7 @@ use Rattle.std.proofs.Common.{◌≡◌, ◌≢◌, inl, inr, ℕ, ◌+◌, ◌<
 use Rattle.std.specs.Prelude.{replicate, slice_index_or, slice_set}
 use Rattle.std.proofs.lemmas.List.{get_or-set_same, get_or-set_other, get_or-replicate, get_or_past, get_or_default, length-replicate}
 use Rattle.std.proofs.lemmas.Bool.{cases_eq, cases_lt}
+use Rattle.regmodel.specs.Kept.{values_in}
 use Rattle.regmodel.specs.Program.{Program}
 use Rattle.machine.specs.declared.states.Kept.{Kept}
 use Rattle.machine.specs.Rest.{Asks}
@@ -21,23 +22,23 @@ asks_after p kept place x h before own i = elim (cases_eq i place) [
   | inr n ↦ subst (λ k. Asks p k.state) (sym (kept_at-other kept place i x n)) (before i)
 ]
 
-leads_after : (p : Program) (kept : List Kept) (at : ℕ) (x : Kept) (known : ℕ) → IsKept p kept known → at < known → at + 1 < length kept → LeadsTo p (state_at kept at) x.reply x.state → (i : ℕ) → i + 1 < at + 2 → LeadsTo p (state_at (slice_set kept (at + 1) x) i) (kept_at (slice_set kept (at + 1) x) (i + 1)).reply (state_at (slice_set kept (at + 1) x) (i + 1))
+leads_after : (p : Program) (kept : List Kept) (at : ℕ) (x : Kept) (known : ℕ) → IsKept p kept known → at < known → at + 1 < length kept → LeadsTo p (state_at kept at) (values_in x.reply) x.state → (i : ℕ) → i + 1 < at + 2 → LeadsTo p (state_at (slice_set kept (at + 1) x) i) (values_in (kept_at (slice_set kept (at + 1) x) (i + 1)).reply) (state_at (slice_set kept (at + 1) x) (i + 1))
 leads_after p kept at x known before here room own i h =
     let from : kept_at (slice_set kept (at + 1) x) i ≡ kept_at kept i = kept_at-other kept (at + 1) i x (λ e. omega (arith, e, h)) in
     elim (cases_eq i at) [
       | inl e ↦
           let to : kept_at (slice_set kept (at + 1) x) (i + 1) ≡ x = ap (λ j. kept_at (slice_set kept (at + 1) x) (j + 1)) e ∙ kept_at-same kept (at + 1) x room in
-          subst (λ k. LeadsTo p (kept_at (slice_set kept (at + 1) x) i).state k.reply k.state) (sym to)
-          (subst (λ k. LeadsTo p k.state x.reply x.state) (sym (from ∙ ap (kept_at kept) e)) own)
+          subst (λ k. LeadsTo p (kept_at (slice_set kept (at + 1) x) i).state (values_in k.reply) k.state) (sym to)
+          (subst (λ k. LeadsTo p k.state (values_in x.reply) x.state) (sym (from ∙ ap (kept_at kept) e)) own)
       | inr n ↦
           let to : kept_at (slice_set kept (at + 1) x) (i + 1) ≡ kept_at kept (i + 1) = kept_at-other kept (at + 1) (i + 1) x (λ e. n (omega (arith, e))) in
           let apart : i < at = omega (arith, h, n) in
-          subst (λ k. LeadsTo p (kept_at (slice_set kept (at + 1) x) i).state k.reply k.state) (sym to)
-          (subst (λ k. LeadsTo p k.state (kept_at kept (i + 1)).reply (state_at kept (i + 1))) (sym from) (before.leads i (omega (arith, apart, here))))
+          subst (λ k. LeadsTo p (kept_at (slice_set kept (at + 1) x) i).state (values_in k.reply) k.state) (sym to)
+          (subst (λ k. LeadsTo p k.state (values_in (kept_at kept (i + 1)).reply) (state_at kept (i + 1))) (sym from) (before.leads i (omega (arith, apart, here))))
     ]
 
 -- one place more is known, and none behind it
-pub kept_after : (p : Program) (kept : List Kept) (at : ℕ) (x : Kept) (known : ℕ) → IsKept p kept known → at < known → at + 1 < length kept → LeadsTo p (state_at kept at) x.reply x.state → IsKept p (slice_set kept (at + 1) x) (at + 1 + 1)
+pub kept_after : (p : Program) (kept : List Kept) (at : ℕ) (x : Kept) (known : ℕ) → IsKept p kept known → at < known → at + 1 < length kept → LeadsTo p (state_at kept at) (values_in x.reply) x.state → IsKept p (slice_set kept (at + 1) x) (at + 1 + 1)
 kept_after p kept at x known before here room own = record {
   starts = λ some. subst (λ k. IsStart p k.state) (sym (kept_at-other kept (at + 1) 0 x (λ e. omega (arith, e)))) (before.starts (omega (arith, here)));
   leads = λ i h. leads_after p kept at x known before here room own i (omega (arith, h));

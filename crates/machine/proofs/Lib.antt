@@ -1,4 +1,6 @@
 pub mod Blocks
+pub mod CellLists
+pub mod Fitting
 pub mod Flows
 pub mod KeptStates
 pub mod Places

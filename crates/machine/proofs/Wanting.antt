@@ -1,11 +1,12 @@
 -- What is stopped without a reply wants one, or is over.
 use Rattle.std.proofs.Common.{ℕ, List, [], ◌∷◌}
+use Rattle.regmodel.specs.Reply.{Replies}
 use Rattle.regmodel.specs.Values.{Env}
 use Rattle.regmodel.specs.Act.{Flow, GoesOn, Wants, Ends, Faults, then_do}
 use Rattle.regmodel.specs.Program as program
 use Rattle.regmodel.specs.Program.{Block}
 use Rattle.machine.specs.declared.run.Part.{Part}
-use Rattle.machine.specs.declared.run.Part.TheVariants.{Reading, Writing, Within, Turn}
+use Rattle.machine.specs.declared.run.Part.TheVariants.{Reading, Writing, Scanning, Within, Turn}
 use Rattle.machine.specs.declared.run.Frame.{Frame}
 use Rattle.machine.specs.Paths.{access_flow, part_flow, resume, skip, of_arm}
 use Rattle.machine.specs.Exits.{IsWanting}
@@ -16,7 +17,7 @@ IsOver (Wants a) = Unit {0}
 IsOver (Ends numbers) = Unit {0}
 IsOver (Faults code) = Unit {0}
 
-then_over : (f : Flow) (go : Env → List ℕ → Flow) → IsOver f → IsOver (then_do f go)
+then_over : (f : Flow) (go : Env → Replies → Flow) → IsOver f → IsOver (then_do f go)
 then_over (GoesOn env s) go h = absurd h
 then_over (Wants a) go h = tt
 then_over (Ends numbers) go h = tt
@@ -27,18 +28,21 @@ access_over n program.Stop f h = tt
 access_over n (program.Assign t e rest) f h = then_over f _ h
 access_over n (program.Read t a rest) f h = then_over f _ h
 access_over n (program.Write a e rest) f h = then_over f _ h
+access_over n (program.Scan cell first count rest) f h = then_over f _ h
 access_over n (program.If e first second rest) f h = then_over f _ h
 access_over n (program.Repeat e body rest) f h = then_over f _ h
 access_over n (program.Emit e rest) f h = then_over f _ h
 access_over n (program.Halt rest) f h = then_over f _ h
 
-part_over : (part : Part) (n : ℕ) (b : Block) (go : Block → Env → List ℕ → Flow) (env : Env) → ((b : Block) → IsOver (go b env [])) → IsOver (part_flow part n b go env [])
+part_over : (part : Part) (n : ℕ) (b : Block) (go : Block → Env → Replies → Flow) (env : Env) → ((b : Block) → IsOver (go b env [])) → IsOver (part_flow part n b go env [])
 part_over (Reading r place) n b go env h = access_over n b _ tt
 part_over (Writing r v) n b go env h = access_over n b _ tt
+part_over (Scanning cell first count) n b go env h = access_over n b _ tt
 part_over (Within arm) n program.Stop go env h = tt
 part_over (Within arm) n (program.Assign t e rest) go env h = tt
 part_over (Within arm) n (program.Read t a rest) go env h = tt
 part_over (Within arm) n (program.Write a e rest) go env h = tt
+part_over (Within arm) n (program.Scan cell first count rest) go env h = tt
 part_over (Within arm) n (program.If e first second rest) go env h = then_over _ _ (h (of_arm arm first second))
 part_over (Within arm) n (program.Repeat e body rest) go env h = tt
 part_over (Within arm) n (program.Emit e rest) go env h = tt
@@ -47,6 +51,7 @@ part_over (Turn left) n program.Stop go env h = tt
 part_over (Turn left) n (program.Assign t e rest) go env h = tt
 part_over (Turn left) n (program.Read t a rest) go env h = tt
 part_over (Turn left) n (program.Write a e rest) go env h = tt
+part_over (Turn left) n (program.Scan cell first count rest) go env h = tt
 part_over (Turn left) n (program.If e first second rest) go env h = tt
 part_over (Turn left) n (program.Repeat e body rest) go env h = then_over _ _ (then_over _ _ (h body))
 part_over (Turn left) n (program.Emit e rest) go env h = tt
@@ -56,15 +61,15 @@ pub resume_over : (n : ℕ) (fs : List Frame) (b : Block) (env : Env) → IsOver
 resume_over n [] b env = tt
 resume_over n (f ∷ fs) b env = part_over f.part n (skip f.at b) (resume n fs) env (λ b. resume_over n fs b env)
 
-then_wanting : (f : Flow) (go : Env → List ℕ → Flow) → IsOver f → IsWanting (then_do f go) → IsWanting f
+then_wanting : (f : Flow) (go : Env → Replies → Flow) → IsOver f → IsWanting (then_do f go) → IsWanting f
 then_wanting (GoesOn env s) go h k = absurd h
 then_wanting (Wants a) go h k = tt
 then_wanting (Ends numbers) go h k = k
 then_wanting (Faults code) go h k = k
 
 -- a part is stopped where its statement is
-pub wanting_within : (n : ℕ) (fs : List Frame) (b : Block) (env : Env) (go : Env → List ℕ → Flow) → IsWanting (then_do (resume n fs b env []) go) → IsWanting (resume n fs b env [])
+pub wanting_within : (n : ℕ) (fs : List Frame) (b : Block) (env : Env) (go : Env → Replies → Flow) → IsWanting (then_do (resume n fs b env []) go) → IsWanting (resume n fs b env [])
 wanting_within n fs b env go h = then_wanting _ go (resume_over n fs b env) h
 
-pub wanting_turn : (n : ℕ) (fs : List Frame) (b : Block) (env : Env) (go next : Env → List ℕ → Flow) → IsWanting (then_do (then_do (resume n fs b env []) go) next) → IsWanting (resume n fs b env [])
+pub wanting_turn : (n : ℕ) (fs : List Frame) (b : Block) (env : Env) (go next : Env → Replies → Flow) → IsWanting (then_do (then_do (resume n fs b env []) go) next) → IsWanting (resume n fs b env [])
 wanting_turn n fs b env go next h = wanting_within n fs b env go (then_wanting _ next (then_over _ go (resume_over n fs b env)) h)

@@ -6,6 +6,7 @@ use Rattle.regmodel.specs.declared.programs.Expr.TheVariants.{One}
 use Rattle.regmodel.specs.declared.programs.Operand.TheVariants as operand
 use Rattle.regmodel.specs.declared.programs.Target.TheVariants as target
 use Rattle.regmodel.specs.Program.{Program, Stop, Read, Write, Repeat, Emit}
+use Rattle.regmodel.specs.Reply.{one}
 use Rattle.regmodel.specs.Values.{start_env}
 use Rattle.machine.specs.declared.run.BlockExit.TheVariants as block
 use Rattle.machine.specs.declared.run.Frame.{Frame}
@@ -27,7 +28,7 @@ at_the_read = record { at = 1; part = Reading 0 (place.Var 0) } ∷ []
 pub the_read_is_wanted : from_place write_and_read at_the_read start_env [] ≡ pending.Wants (access.Read 0)
 the_read_is_wanted = refl
 
-pub its_reply_is_emitted : from_place write_and_read at_the_read start_env (7 ∷ []) ≡ pending.Done (record { items = 7 ∷ [] })
+pub its_reply_is_emitted : from_place write_and_read at_the_read start_env (one 7 ∷ []) ≡ pending.Done (record { items = 7 ∷ [] })
 its_reply_is_emitted = refl
 
 -- ---- three turns of a write
@@ -38,14 +39,14 @@ three_writes = record { registers = 1; body = Repeat (One (operand.Number 3)) (W
 abbrev pub in_the_second_turn : List Frame
 in_the_second_turn = record { at = 0; part = Turn 1 } ∷ record { at = 0; part = Writing 0 5 } ∷ []
 
-pub one_more_write : from_place three_writes in_the_second_turn start_env (0 ∷ []) ≡ pending.Wants (access.Write 0 5)
+pub one_more_write : from_place three_writes in_the_second_turn start_env (one 0 ∷ []) ≡ pending.Wants (access.Write 0 5)
 one_more_write = refl
 
-pub no_more_write : from_place three_writes in_the_second_turn start_env (0 ∷ 0 ∷ []) ≡ pending.Done (record { items = [] })
+pub no_more_write : from_place three_writes in_the_second_turn start_env (one 0 ∷ one 0 ∷ []) ≡ pending.Done (record { items = [] })
 no_more_write = refl
 
 -- what is over stays so, whatever comes
-pub a_fault_stays : rest_from (pending.Fault 2) (from_place write_and_read at_the_read start_env) (7 ∷ []) ≡ pending.Fault 2
+pub a_fault_stays : rest_from (pending.Fault 2) (from_place write_and_read at_the_read start_env) (one 7 ∷ []) ≡ pending.Fault 2
 a_fault_stays = refl
 
 -- ---- what is kept of the first program after the reply to its write: the write, and the read to which that reply leads
@@ -57,14 +58,14 @@ at_the_write = record { at = 0; part = Writing 0 5 } ∷ []
 
 abbrev pub kept_at_the_read : List Kept
 kept_at_the_read =
-    record { reply = 0; state = record { store = empty_store; frames = at_the_write; exit = Ok (block.Wants (access.Write 0 5)) } }
-    ∷ record { reply = 0; state = record { store = empty_store; frames = at_the_read; exit = Ok (block.Wants (access.Read 0)) } }
+    record { reply = record { places = []; count = 0 }; state = record { store = empty_store; frames = at_the_write; exit = Ok (block.Wants (access.Write 0 5)) } }
+    ∷ record { reply = record { places = 0 ∷ []; count = 1 }; state = record { store = empty_store; frames = at_the_read; exit = Ok (block.Wants (access.Read 0)) } }
     ∷ []
 
 pub the_write_is_the_start : IsStart write_and_read (state_at kept_at_the_read 0)
 the_write_is_the_start = λ s. refl
 
-pub its_reply_leads_to_the_read : LeadsTo write_and_read (state_at kept_at_the_read 0) 0 (state_at kept_at_the_read 1)
+pub its_reply_leads_to_the_read : LeadsTo write_and_read (state_at kept_at_the_read 0) (one 0) (state_at kept_at_the_read 1)
 its_reply_leads_to_the_read = λ s. refl
 
 pub the_read_asks : Asks write_and_read (state_at kept_at_the_read 1)

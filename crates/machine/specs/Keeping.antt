@@ -1,6 +1,7 @@
 -- Inside the crate: the states in which a program stood since its start, kept to be taken up again.
 use Rattle.std.specs.Prelude.{◌≡◌, ℕ, ◌+◌, ◌<◌, List, [], ◌∷◌, Ok, slice_index_or}
-use Rattle.regmodel.specs.Reply.{Replies}
+use Rattle.regmodel.specs.Kept.{values_in}
+use Rattle.regmodel.specs.Reply.{Reply, Replies}
 use Rattle.regmodel.specs.Act.{act_of}
 use Rattle.regmodel.specs.Program.{Program}
 use Rattle.machine.specs.declared.run.BlockExit.TheVariants as block
@@ -10,7 +11,7 @@ use Rattle.machine.specs.Rest.{rest_in}
 
 -- what stands past the last place
 abbrev pub blank : Kept
-blank = record { reply = 0; state = record { store = record { vars = []; cells = []; emitted = record { places = []; count = 0 } }; frames = []; exit = Ok block.Halts } }
+blank = record { reply = record { places = []; count = 0 }; state = record { store = record { vars = []; cells = []; emitted = record { places = []; count = 0 } }; frames = []; exit = Ok block.Halts } }
 
 -- what is kept at a place
 abbrev pub kept_at : List Kept → ℕ → Kept
@@ -25,10 +26,10 @@ abbrev pub IsStart : Program → State → Type 0
 IsStart program state = (s : Replies) → rest_in program state s ≡ act_of program s
 
 -- the reply leads from the one state to the other
-abbrev pub LeadsTo : Program → State → ℕ → State → Type 0
+abbrev pub LeadsTo : Program → State → Reply → State → Type 0
 LeadsTo program from reply to = (s : Replies) → rest_in program to s ≡ rest_in program from (reply ∷ s)
 
 -- the first of so many places is the start, and to each next one its reply leads
 pub record IsKept (program : Program) (kept : List Kept) (known : ℕ) : Type 0 where
   pub starts : 0 < known → IsStart program (state_at kept 0)
-  pub leads : (place : ℕ) → place + 1 < known → LeadsTo program (state_at kept place) (kept_at kept (place + 1)).reply (state_at kept (place + 1))
+  pub leads : (place : ℕ) → place + 1 < known → LeadsTo program (state_at kept place) (values_in (kept_at kept (place + 1)).reply) (state_at kept (place + 1))

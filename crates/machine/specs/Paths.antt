@@ -2,12 +2,12 @@
 use Rattle.std.specs.Prelude.{ℕ, zero, suc, List, [], ◌∷◌}
 use Rattle.regmodel.specs.Reply.{Replies}
 use Rattle.regmodel.specs.Values.{Env}
-use Rattle.regmodel.specs.Act.{Flow, Faults, exec, answer_read, answer_write, then_do, times}
-use Rattle.regmodel.specs.Program.{Block, Stop, Assign, Read, Write, If, Repeat, Emit, Halt}
+use Rattle.regmodel.specs.Act.{Flow, Faults, exec, answer_read, answer_scan, answer_write, then_do, times}
+use Rattle.regmodel.specs.Program.{Block, Stop, Assign, Read, Write, Scan, If, Repeat, Emit, Halt}
 use Rattle.machine.specs.declared.run.Arm.{Arm}
 use Rattle.machine.specs.declared.run.Arm.TheVariants.{First, Second}
 use Rattle.machine.specs.declared.run.Part.{Part}
-use Rattle.machine.specs.declared.run.Part.TheVariants.{Reading, Writing, Within, Turn}
+use Rattle.machine.specs.declared.run.Part.TheVariants.{Reading, Writing, Scanning, Within, Turn}
 use Rattle.machine.specs.declared.run.Frame.{Frame}
 use Rattle.machine.specs.Stores.{as_place}
 
@@ -27,6 +27,7 @@ rest_of Stop = Stop
 rest_of (Assign t e rest) = rest
 rest_of (Read t a rest) = rest
 rest_of (Write a e rest) = rest
+rest_of (Scan cell first count rest) = rest
 rest_of (If e first second rest) = rest
 rest_of (Repeat e body rest) = rest
 rest_of (Emit e rest) = rest
@@ -43,6 +44,7 @@ access_flow n Stop f = Faults 0
 access_flow n (Assign t e rest) f = then_do f (exec rest n)
 access_flow n (Read t a rest) f = then_do f (exec rest n)
 access_flow n (Write a e rest) f = then_do f (exec rest n)
+access_flow n (Scan cell first count rest) f = then_do f (exec rest n)
 access_flow n (If e first second rest) f = then_do f (exec rest n)
 access_flow n (Repeat e body rest) f = then_do f (exec rest n)
 access_flow n (Emit e rest) f = then_do f (exec rest n)
@@ -63,6 +65,7 @@ turn_flow left n _ go env s = Faults 0
 abbrev pub part_flow : Part → ℕ → Block → (Block → Env → Replies → Flow) → Env → Replies → Flow
 part_flow (Reading r place) n b go env s = access_flow n b (answer_read env (as_place place) r s)
 part_flow (Writing r v) n b go env s = access_flow n b (answer_write env r v s)
+part_flow (Scanning cell first count) n b go env s = access_flow n b (answer_scan env cell first count s)
 part_flow (Within arm) n b go env s = arm_flow arm n b go env s
 part_flow (Turn left) n b go env s = turn_flow left n b go env s
 

@@ -1,16 +1,18 @@
 //! The interpreter: a machine that runs a program's statements.
 
-ghost use Rattle.std.specs.Prelude.{◌≡◌, ℕ, ◌+◌, ◌<◌, ◌≤◌, List, IfOk, length, true};
+ghost use Rattle.std.specs.Prelude.{◌≡◌, ℕ, ◌+◌, ◌<◌, ◌≤◌, IfOk, length, true};
 ghost use Rattle.regmodel.specs.OfProg.{program_of};
 ghost use Rattle.regmodel.specs.Lawful.{IsLawful, IsReplyTo};
 ghost use Rattle.regmodel.specs.Act.{act_of};
+ghost use Rattle.regmodel.specs.Kept.{values_in};
+ghost use Rattle.regmodel.specs.Reply.{Replies};
 ghost use Rattle.machine.specs.Keeping.{IsKept, LeadsTo, kept_at, state_at};
 ghost use Rattle.machine.specs.Rest.{Asks, pending_in};
 
 use crate::Machine;
 use crate::states::{Kept, State};
 use regmodel::limits::MOST_LETTERS;
-use regmodel::{OutOfMemory, Pending, Prog};
+use regmodel::{OutOfMemory, Pending, Prog, Reply};
 use std::alloc::Global;
 
 /// A place for the start, and one past each reply of a schedule.
@@ -38,10 +40,10 @@ impl Interp {
     /// is dropped then. No later call takes memory.
     pub fn make(alloc: Global, prog: Prog) -> Result<Interp, OutOfMemory>
         ensures same { IfOk result (λ m. ⟦<Interp as Machine>⟧.program m ≡ program_of prog) }
-        ensures starts { IfOk result (λ m. (s : List ℕ) → IsLawful (act_of (program_of prog)) s → ⟦<Interp as Machine>⟧.rest m s ≡ act_of (program_of prog) s) }
+        ensures starts { IfOk result (λ m. (s : Replies) → IsLawful (act_of (program_of prog)) s → ⟦<Interp as Machine>⟧.rest m s ≡ act_of (program_of prog) s) }
     {
         let blank = Kept {
-            reply: 0,
+            reply: Reply::none(),
             state: State::over(),
         };
         let kept = vec![in alloc; blank; PLACES]?;
@@ -56,34 +58,37 @@ impl Interp {
     }
 
     /// Whether the next place is known and this reply led there.
-    fn is_known(&self, reply: u32) -> bool
-        ensures { result ≡ true → (self.now.at + 1 < self.now.known) × ((kept_at self.now.kept.items (self.now.at + 1)).reply ≡ reply) }
+    fn is_known(&self, reply: &[u32]) -> bool
+        ensures { result ≡ true → (self.now.at + 1 < self.now.known) × (values_in (kept_at self.now.kept.items (self.now.at + 1)).reply ≡ reply.now) }
     {
         let next = self.at + 1;
-        next < self.known && self.kept[next].reply == reply
+        next < self.known && self.kept[next].reply.values() == reply
     }
 
     /// Copies the present state to the next place, and runs past the reply there. What was known from there on is known no longer.
-    fn run_on(&mut self, reply: u32)
+    fn run_on(&mut self, reply: &[u32])
         requires known { self.old.at < self.old.known }
         requires room { self.old.at + 1 < length self.old.kept.items }
-        requires wanted { IsReplyTo (pending_in (state_at self.old.kept.items self.old.at)) reply }
+        requires wanted { IsReplyTo (pending_in (state_at self.old.kept.items self.old.at)) reply.now }
         ensures same { self.new.prog ≡ self.old.prog }
-        ensures goes_on { LeadsTo (program_of self.old.prog) (state_at self.old.kept.items self.old.at) reply (state_at self.new.kept.items self.new.at) }
+        ensures goes_on { LeadsTo (program_of self.old.prog) (state_at self.old.kept.items self.old.at) reply.now (state_at self.new.kept.items self.new.at) }
     {
         let state = self.kept[self.at].state;
         let next = &mut self.kept[self.at + 1];
-        *next = Kept { reply, state };
+        *next = Kept {
+            reply: Reply::of(reply),
+            state,
+        };
         next.state.go_on(&self.prog, reply);
         self.at += 1;
         self.known = self.at + 1;
     }
 
     /// Runs past the reply at the present place, which is known no longer.
-    fn run_in_place(&mut self, reply: u32)
-        requires wanted { IsReplyTo (pending_in (state_at self.old.kept.items self.old.at)) reply }
+    fn run_in_place(&mut self, reply: &[u32])
+        requires wanted { IsReplyTo (pending_in (state_at self.old.kept.items self.old.at)) reply.now }
         ensures same { self.new.prog ≡ self.old.prog }
-        ensures goes_on { LeadsTo (program_of self.old.prog) (state_at self.old.kept.items self.old.at) reply (state_at self.new.kept.items self.new.at) }
+        ensures goes_on { LeadsTo (program_of self.old.prog) (state_at self.old.kept.items self.old.at) reply.now (state_at self.new.kept.items self.new.at) }
     {
         self.known = self.known.min(self.at);
         self.kept[self.at].state.go_on(&self.prog, reply);
@@ -91,7 +96,6 @@ impl Interp {
 }
 
 impl Machine for Interp {
-    ghost use Rattle.std.specs.Prelude.{ℕ, List};
     ghost use Rattle.regmodel.specs.OfProg.{program_of};
     ghost use Rattle.machine.specs.Keeping.{state_at};
     ghost use Rattle.machine.specs.Rest.{rest_in};
@@ -112,7 +116,7 @@ impl Machine for Interp {
         self.kept[self.at].state.pending()
     }
 
-    fn feed(&mut self, reply: u32) {
+    fn feed(&mut self, reply: &[u32]) {
         if self.is_known(reply) {
             self.at += 1;
         } else if self.at < self.known && self.at + 1 < self.kept.len() {

@@ -37,11 +37,11 @@ pub trait Machine: Drop + Send {
     fn pending(&self) -> Pending
         ensures { result ≡ rest self.now [] };
 
-    /// Goes on past one reply: at most 1000000000 to a read, 0 to a write.
-    fn feed(&mut self, reply: u32)
-        requires { IsReplyTo (rest self.old []) reply }
+    /// Goes on past one reply: the value of each register that was read, rising, each at most 1000000000; or one 0 to a write.
+    fn feed(&mut self, reply: &[u32])
+        requires { IsReplyTo (rest self.old []) reply.now }
         ensures same { program self.new ≡ program self.old }
-        ensures goes_on { (s : Replies) → rest self.new s ≡ rest self.old (reply ∷ s) };
+        ensures goes_on { (s : Replies) → rest self.new s ≡ rest self.old (reply.now ∷ s) };
 
     /// Gives up what it holds; it is done with no numbers until it is reset.
     fn end(&mut self)
@@ -59,10 +59,10 @@ pub fn pending_of_box(machine: &Box<dyn Machine + Send>) -> Pending
 }
 
 /// Feeds a boxed machine.
-pub fn feed_box(machine: &mut Box<dyn Machine + Send>, reply: u32)
-    requires { IsReplyTo (rest machine.old []) reply }
+pub fn feed_box(machine: &mut Box<dyn Machine + Send>, reply: &[u32])
+    requires { IsReplyTo (rest machine.old []) reply.now }
     ensures same { program machine.new ≡ program machine.old }
-    ensures goes_on { (s : Replies) → rest machine.new s ≡ rest machine.old (reply ∷ s) }
+    ensures goes_on { (s : Replies) → rest machine.new s ≡ rest machine.old (reply.now ∷ s) }
 {
     machine.feed(reply);
 }

@@ -1,8 +1,10 @@
 //! Goes on past a reply from the place where a program stopped.
 
-ghost use Rattle.std.specs.Prelude.{◌≡◌, ℕ, ◌+◌, ◌<◌, ◌≤◌, List, [], ◌∷◌, length, drop};
+ghost use Rattle.std.specs.Prelude.{◌≡◌, ℕ, ◌+◌, ◌<◌, ◌≤◌, [], ◌∷◌, IsTrue, length, drop};
+ghost use Rattle.regmodel.specs.Reply.{Replies};
+ghost use Rattle.regmodel.specs.Reply as replies;
 ghost use Rattle.regmodel.specs.Program.{Block, Stop, with_stmt, block_of};
-ghost use Rattle.regmodel.specs.Limits.{open_blocks};
+ghost use Rattle.regmodel.specs.Limits.{open_blocks, operands_fit};
 ghost use Rattle.regmodel.specs.declared.limits.TheConstants.{MOST_REGISTERS};
 ghost use Rattle.machine.specs.Stores.{env_of};
 ghost use Rattle.machine.specs.Paths.{resume, part_flow};
@@ -12,13 +14,20 @@ use crate::run::{BlockExit, Frame, Part, StmtExit, block_of_arm, run_block, run_
 use crate::values::Store;
 use regmodel::Stmt;
 
+/// The first value of a reply; 0 where it has none.
+fn value_of(reply: &[u32]) -> u32
+    ensures { result ≡ replies.value_of reply.now }
+{
+    reply.first().copied().unwrap_or(0)
+}
+
 /// Goes on with a statement from its part past the reply. The path further down lies in the frames above the depth, and
 /// so does the one to the place where it stops again.
 #[cycle(resume)]
 fn resume_stmt(
     stmt: &Stmt,
     part: Part,
-    reply: u32,
+    reply: &[u32],
     registers: u32,
     depth: usize,
     store: &mut Store,
@@ -26,16 +35,21 @@ fn resume_stmt(
 ) -> Result<StmtExit, u8>
     requires small { registers ≤ MOST_REGISTERS }
     requires room { depth + open_blocks (with_stmt stmt.now Stop) < length frames.old }
+    requires fits { IsTrue (operands_fit registers (with_stmt stmt.now Stop)) }
     requires wanting { (rest : Block) × IsWanting (part_flow part registers (with_stmt stmt.now rest) (resume registers (drop (depth + 1) frames.old)) (env_of store.old) []) }
-    ensures flow { (rest : Block) (s : List ℕ) → part_flow part registers (with_stmt stmt.now rest) (resume registers (drop (depth + 1) frames.old)) (env_of store.old) (reply ∷ s) ≡ stmt_flow result registers (drop (depth + 1) frames.new) (with_stmt stmt.now rest) rest (env_of store.new) s }
+    ensures flow { (rest : Block) (s : Replies) → part_flow part registers (with_stmt stmt.now rest) (resume registers (drop (depth + 1) frames.old)) (env_of store.old) (reply.now ∷ s) ≡ stmt_flow result registers (drop (depth + 1) frames.new) (with_stmt stmt.now rest) rest (env_of store.new) s }
     ensures asks { (rest : Block) → StmtAsks result registers (drop (depth + 1) frames.new) (with_stmt stmt.now rest) (env_of store.new) }
 {
     match part {
         Part::Reading(_, place) => {
-            store.put(place, reply);
+            store.put(place, value_of(reply));
             Ok(StmtExit::GoesOn)
         }
         Part::Writing(_, _) => Ok(StmtExit::GoesOn),
+        Part::Scanning(cell, _, _) => {
+            store.put_from(cell, reply);
+            Ok(StmtExit::GoesOn)
+        }
         Part::Within(arm) => {
             let Stmt::If(_, first, second) = stmt else {
                 unreachable!()
@@ -61,10 +75,10 @@ fn resume_stmt(
 /// Goes on past the reply with a block, from the place to which the frames from the depth on lead. Where it stops again,
 /// they lead there.
 #[cycle(resume)]
-#[tactic(auto, using(crate::proofs::Blocks::open_blocks_at))]
+#[tactic(auto, using(crate::proofs::Blocks::open_blocks_at, crate::proofs::Fitting::operands_fit_at))]
 pub fn resume_block(
     block: &[Stmt],
-    reply: u32,
+    reply: &[u32],
     registers: u32,
     depth: usize,
     store: &mut Store,
@@ -72,8 +86,9 @@ pub fn resume_block(
 ) -> Result<BlockExit, u8>
     requires small { registers ≤ MOST_REGISTERS }
     requires room { depth + open_blocks (block_of block.now) < length frames.old }
+    requires fits { IsTrue (operands_fit registers (block_of block.now)) }
     requires wanting { IsWanting (resume registers (drop depth frames.old) (block_of block.now) (env_of store.old) []) }
-    ensures flow { (s : List ℕ) → resume registers (drop depth frames.old) (block_of block.now) (env_of store.old) (reply ∷ s) ≡ block_flow result registers (drop depth frames.new) (block_of block.now) (env_of store.new) s }
+    ensures flow { (s : Replies) → resume registers (drop depth frames.old) (block_of block.now) (env_of store.old) (reply.now ∷ s) ≡ block_flow result registers (drop depth frames.new) (block_of block.now) (env_of store.new) s }
     ensures asks { BlockAsks result registers (drop depth frames.new) (block_of block.now) (env_of store.new) }
 {
     let Frame { at, part } = frames[depth];

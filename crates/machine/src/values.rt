@@ -1,7 +1,7 @@
 //! What expressions are worth, and where values are kept.
 
 ghost use Rattle.std.specs.Prelude.{◌≡◌, slice_index};
-ghost use Rattle.regmodel.specs.Values.{within, below_or_fault, operand_value, expr_value, apply_op, target_place, store};
+ghost use Rattle.regmodel.specs.Values.{within, below_or_fault, operand_value, expr_value, apply_op, target_place, store, store_from, InCell};
 ghost use Rattle.regmodel.specs.declared.limits.TheConstants.{CELLS};
 ghost use Rattle.machine.specs.Stores.{env_of, as_place, as_place_or_fault};
 
@@ -123,11 +123,25 @@ impl Store {
                     self.vars[i as usize] = value;
                 }
             }
-            Place::Cell(i) => {
-                if (i as usize) < self.cells.len() {
-                    self.cells[i as usize] = value;
-                }
-            }
+            Place::Cell(i) => self.put_cell(i as usize, value),
+        }
+    }
+
+    /// Stores a value in a cell; nowhere where there is none with this number.
+    fn put_cell(&mut self, i: usize, value: u32)
+        ensures { env_of self.new ≡ store (env_of self.old) (InCell i) value }
+    {
+        if i < self.cells.len() {
+            self.cells[i] = value;
+        }
+    }
+
+    /// Stores values in the cells from one on.
+    pub fn put_from(&mut self, cell: u8, values: &[u32])
+        ensures { env_of self.new ≡ store_from (env_of self.old) cell values.now }
+    {
+        for (offset, value) in values.iter().enumerate() {
+            self.put_cell(usize::from(cell) + offset, *value);
         }
     }
 }

@@ -1,5 +1,5 @@
 -- Blocks, and the lists of statements that they are made of.
-use Rattle.std.proofs.Common.{◌≡◌, ℕ, zero, suc, ◌+◌, ◌<◌, ◌≤◌, Bool, true, false, ◌&&◌, max, List, [], ◌∷◌, Vec, Global, length, get_or, drop, refl, ap, ◌∙◌, arith, drop-cons, add-one}
+use Rattle.std.proofs.Common.{◌≡◌, ℕ, zero, suc, ◌+◌, ◌<◌, ◌≤◌, Bool, true, false, ◌&&◌, max, List, [], ◌∷◌, Vec, Global, IsTrue, length, get_or, drop, refl, ap, ◌∙◌, subst, arith, drop-cons, add-one}
 use Rattle.regmodel.specs.declared.programs.Expr.{Expr}
 use Rattle.regmodel.specs.declared.programs.Stmt.{Stmt, If, Repeat}
 use Rattle.regmodel.specs.declared.programs.Stmt.TheVariants as stmt
@@ -71,6 +71,16 @@ statements-step xs i x h e = ap statements (block_of-drop xs i x h e) ∙ statem
 
 pub operands_fit-step : (n : ℕ) (xs : List Stmt) (i : ℕ) (x : Stmt) → i < length xs → x ≡ get_or xs i x → operands_fit n (block_of (drop i xs)) ≡ operands_fit n (with_stmt x Stop) && operands_fit n (block_of (drop (i + 1) xs))
 operands_fit-step n xs i x h e = ap (operands_fit n) (block_of-drop xs i x h e) ∙ operands_fit-with_stmt n x (block_of (drop (i + 1) xs))
+
+-- what is left of a list is within the limits where the whole is
+pub operands_fit-drop : (n k : ℕ) (xs : List Stmt) → IsTrue (operands_fit n (block_of xs)) → IsTrue (operands_fit n (block_of (drop k xs)))
+operands_fit-drop n zero xs h = h
+operands_fit-drop n (suc k) [] h = h
+operands_fit-drop n (suc k) (s ∷ xs) h = operands_fit-drop n k xs (second (operands_fit n (with_stmt s Stop)) (operands_fit n (block_of xs)) (subst IsTrue (operands_fit-with_stmt n s (block_of xs)) h))
+  where
+    second : (a b : Bool) → IsTrue (a && b) → IsTrue b
+    second true b e = e
+    second false b e = absurd (cc e)
 
 -- what is left of a list is not nested deeper than the whole
 pub open_blocks-drop : (k : ℕ) (xs : List Stmt) → open_blocks (block_of (drop k xs)) ≤ open_blocks (block_of xs)

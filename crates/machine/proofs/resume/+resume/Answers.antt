@@ -1,5 +1,5 @@
 use Rattle.std.proofs.Common.{rules, ◌+◌, [], ◌∷◌, drop, get_or, Ok, refl, ap, sym, subst, ◌∙◌, arith}
-use Rattle.regmodel.specs.Act.{exec, answer_read, answer_write, times}
+use Rattle.regmodel.specs.Act.{exec, answer_read, answer_scan, answer_write, times}
 use Rattle.regmodel.specs.Program.{with_stmt, block_of}
 use Rattle.regmodel.specs.Limits.{open_blocks}
 use Rattle.machine.specs.declared.run.Frame.{Frame}
@@ -9,6 +9,8 @@ use Rattle.machine.specs.Stores.{env_of, as_place}
 use Rattle.machine.specs.Paths.{resume, part_flow}
 use Rattle.machine.specs.Exits.{stmt_flow, StmtAsks, BlockAsks, IsWanting}
 use Rattle.machine.proofs.Blocks.{if_block, repeat_block, open_blocks_at, open_blocks_if, open_blocks_repeat}
+use Rattle.regmodel.specs.Values.{store}
+use Rattle.machine.proofs.Fitting.{operands_fit_arm, operands_fit_at, operands_fit_repeat}
 use Rattle.machine.proofs.Flows.{resume-set, resume-at, resume-past, then_exit, exit_asks, arm_part, turn_part, arm_block, open_blocks-arm, access_flow-with_stmt, known_exit}
 use Rattle.machine.proofs.Wanting.{wanting_within, wanting_turn}
 use Rattle.machine.proofs.resume.+resume.Goals as goal
@@ -27,14 +29,14 @@ resume_block-resume_stmt-requires t c =
     let f = get_or c.args.frames.now c.args.depth none in
     let h = open_blocks_at block f.at x (omega arith) c.index-block-at.is in
     let told = resume-at c.args.registers c.args.depth block x c.args.frames.now none (env_of c.args.store.now) [] (omega arith) (omega arith) c.index-block-at.is in
-    (omega arith, (c.requires.small, (omega (arith, h), (block_of (drop (f.at + 1) block), subst IsWanting told c.requires.wanting))))
+    (omega arith, (c.requires.small, (omega (arith, h), (operands_fit_at c.args.registers block f.at x (omega arith) c.index-block-at.is c.requires.fits, (block_of (drop (f.at + 1) block), subst IsWanting told c.requires.wanting)))))
 
 pub resume_block-returns-in_err-resume_stmt-clause-flow : goal.resume_block-returns-in_err-resume_stmt-clause-flow
 resume_block-returns-in_err-resume_stmt-clause-flow t c = λ s.
     let block = c.args.block.now in
     let x = c.index-block-at.result in
     let f = get_or c.args.frames.now c.args.depth none in
-    let told = resume-at c.args.registers c.args.depth block x c.args.frames.now none (env_of c.args.store.now) (c.args.reply ∷ s) (omega arith) (omega arith) c.index-block-at.is ∙ c.in_err-resume_stmt.ensures.flow (block_of (drop (f.at + 1) block)) s in
+    let told = resume-at c.args.registers c.args.depth block x c.args.frames.now none (env_of c.args.store.now) (c.args.reply.now ∷ s) (omega arith) (omega arith) c.index-block-at.is ∙ c.in_err-resume_stmt.ensures.flow (block_of (drop (f.at + 1) block)) s in
     search (rules, told)
 
 pub resume_block-returns-in-GoesOn-clause-flow : goal.resume_block-returns-in-GoesOn-clause-flow
@@ -44,7 +46,7 @@ resume_block-returns-in-GoesOn-clause-flow t c = λ s.
     let x = c.index-block-at.result in
     let f = get_or c.args.frames.now c.args.depth none in
     let rest = block_of (drop (f.at + 1) block) in
-    resume-at n c.args.depth block x c.args.frames.now none (env_of c.args.store.now) (c.args.reply ∷ s) (omega arith) (omega arith) c.index-block-at.is
+    resume-at n c.args.depth block x c.args.frames.now none (env_of c.args.store.now) (c.args.reply.now ∷ s) (omega arith) (omega arith) c.index-block-at.is
     ∙ c.in_ok-resume_stmt.ensures.flow rest s
     ∙ ap (λ r. stmt_flow (Ok r) n (drop (c.args.depth + 1) c.resume_stmt.new.frames) (with_stmt x rest) rest (env_of c.resume_stmt.new.store) s) c.in-GoesOn.is
     ∙ c.run_block.ensures.flow s
@@ -57,7 +59,7 @@ resume_block-returns-in-Wants-clause-flow t c = λ s.
     let f = get_or c.args.frames.now c.args.depth none in
     let rest = block_of (drop (f.at + 1) block) in
     let env = env_of c.resume_stmt.new.store in
-    resume-at n c.args.depth block x c.args.frames.now none (env_of c.args.store.now) (c.args.reply ∷ s) (omega arith) (omega arith) c.index-block-at.is
+    resume-at n c.args.depth block x c.args.frames.now none (env_of c.args.store.now) (c.args.reply.now ∷ s) (omega arith) (omega arith) c.index-block-at.is
     ∙ c.in_ok-resume_stmt.ensures.flow rest s
     ∙ ap (λ r. stmt_flow (Ok r) n (drop (c.args.depth + 1) c.resume_stmt.new.frames) (with_stmt x rest) rest env s) c.in-Wants.is
     ∙ sym (resume-set n c.args.depth block f.at x c.resume_stmt.new.frames c.in-Wants.part env s (omega arith) c.index-block-at.is (omega arith))
@@ -80,7 +82,7 @@ resume_block-returns-in-Halts-clause-flow t c = λ s.
     let x = c.index-block-at.result in
     let f = get_or c.args.frames.now c.args.depth none in
     let rest = block_of (drop (f.at + 1) block) in
-    resume-at n c.args.depth block x c.args.frames.now none (env_of c.args.store.now) (c.args.reply ∷ s) (omega arith) (omega arith) c.index-block-at.is
+    resume-at n c.args.depth block x c.args.frames.now none (env_of c.args.store.now) (c.args.reply.now ∷ s) (omega arith) (omega arith) c.index-block-at.is
     ∙ c.in_ok-resume_stmt.ensures.flow rest s
     ∙ ap (λ r. stmt_flow (Ok r) n (drop (c.args.depth + 1) c.resume_stmt.new.frames) (with_stmt x rest) rest (env_of c.resume_stmt.new.store) s) c.in-Halts.is
 
@@ -89,8 +91,9 @@ resume_stmt-returns-in-Reading-clause-flow t c = λ rest s.
     let w = c.in-Reading in
     let n = c.args.registers in
     let env = env_of c.args.store.now in
-    ap (λ p. part_flow p n (with_stmt c.args.stmt.now rest) (resume n (drop (c.args.depth + 1) c.args.frames.now)) env (c.args.reply ∷ s)) w.is
-    ∙ access_flow-with_stmt c.args.stmt.now n rest (answer_read env (as_place w.place) w.field-0 (c.args.reply ∷ s))
+    ap (λ p. part_flow p n (with_stmt c.args.stmt.now rest) (resume n (drop (c.args.depth + 1) c.args.frames.now)) env (c.args.reply.now ∷ s)) w.is
+    ∙ access_flow-with_stmt c.args.stmt.now n rest (answer_read env (as_place w.place) w.field-0 (c.args.reply.now ∷ s))
+    ∙ ap (λ v. exec rest n (store env (as_place w.place) v) s) (sym c.value_of.ensures)
     ∙ ap (λ x. exec rest n x s) (sym c.put.ensures)
 
 pub resume_stmt-returns-in-Writing-clause-flow : goal.resume_stmt-returns-in-Writing-clause-flow
@@ -98,8 +101,17 @@ resume_stmt-returns-in-Writing-clause-flow t c = λ rest s.
     let w = c.in-Writing in
     let n = c.args.registers in
     let env = env_of c.args.store.now in
-    ap (λ p. part_flow p n (with_stmt c.args.stmt.now rest) (resume n (drop (c.args.depth + 1) c.args.frames.now)) env (c.args.reply ∷ s)) w.is
-    ∙ access_flow-with_stmt c.args.stmt.now n rest (answer_write env w.field-0 w.field-1 (c.args.reply ∷ s))
+    ap (λ p. part_flow p n (with_stmt c.args.stmt.now rest) (resume n (drop (c.args.depth + 1) c.args.frames.now)) env (c.args.reply.now ∷ s)) w.is
+    ∙ access_flow-with_stmt c.args.stmt.now n rest (answer_write env w.field-0 w.field-1 (c.args.reply.now ∷ s))
+
+pub resume_stmt-returns-in-Scanning-clause-flow : goal.resume_stmt-returns-in-Scanning-clause-flow
+resume_stmt-returns-in-Scanning-clause-flow t c = λ rest s.
+    let w = c.in-Scanning in
+    let n = c.args.registers in
+    let env = env_of c.args.store.now in
+    ap (λ p. part_flow p n (with_stmt c.args.stmt.now rest) (resume n (drop (c.args.depth + 1) c.args.frames.now)) env (c.args.reply.now ∷ s)) w.is
+    ∙ access_flow-with_stmt c.args.stmt.now n rest (answer_scan env w.cell w.field-1 w.field-2 (c.args.reply.now ∷ s))
+    ∙ ap (λ x. exec rest n x s) (sym c.put_from.ensures)
 
 pub resume_stmt-resume_block-exit-requires : goal.resume_stmt-resume_block-exit-requires
 resume_stmt-resume_block-exit-requires t c =
@@ -117,7 +129,7 @@ resume_stmt-resume_block-exit-requires t c =
     let h = open_blocks_if _ _ _ _ w.is in
     let b = open_blocks-arm arm block first second told in
     let e = arm_part c.args.part arm n (with_stmt c.args.stmt.now rest) w.field-0 block first second rest (resume n fs) env [] _ c.in-Within.is seen told refl in
-    (omega arith, (c.requires.small, (omega (arith, h, b), wanting_within n fs block env (exec rest n) (subst IsWanting e c.requires.wanting.1))))
+    (omega arith, (c.requires.small, (omega (arith, h, b), (operands_fit_arm n c.args.stmt.now w.field-0 w.first w.second arm block w.is c.requires.fits told, wanting_within n fs block env (exec rest n) (subst IsWanting e c.requires.wanting.1)))))
 
 pub resume_stmt-returns-in-If-clause-flow : goal.resume_stmt-returns-in-If-clause-flow
 resume_stmt-returns-in-If-clause-flow t c = λ rest s.
@@ -133,7 +145,7 @@ resume_stmt-returns-in-If-clause-flow t c = λ rest s.
     let env = env_of c.resume_block-exit.new.store in
     let told = arm_block _ c.block_of_arm-block.ensures c.as_slice.ensures.value c.as_slice-in-Within.ensures.value in
     let seen = if_block _ _ _ _ rest w.is in
-    arm_part c.args.part arm n whole w.field-0 block first second rest (resume n old) (env_of c.args.store.now) (c.args.reply ∷ s) _ c.in-Within.is seen told (c.resume_block-exit.ensures.flow s)
+    arm_part c.args.part arm n whole w.field-0 block first second rest (resume n old) (env_of c.args.store.now) (c.args.reply.now ∷ s) _ c.in-Within.is seen told (c.resume_block-exit.ensures.flow s)
     ∙ then_exit c.resume_block-exit.result (Within arm) n fs block whole rest env s (arm_part (Within arm) arm n whole w.field-0 block first second rest (resume n fs) env s _ refl seen told refl)
     ∙ ap (λ r. stmt_flow r n fs whole rest env s) (sym c.stmt_exit.ensures)
 
@@ -162,7 +174,7 @@ resume_stmt-resume_block-requires t c =
     let h = open_blocks_repeat _ _ _ w.is in
     let b = ap (λ xs. open_blocks (block_of xs)) c.as_slice-block.ensures.value in
     let e = turn_part c.args.part c.in-Turn.turns n (with_stmt c.args.stmt.now rest) w.field-0 (block_of row) rest (resume n fs) env [] _ c.in-Turn.is seen refl in
-    (omega arith, (c.requires.small, (omega (arith, h, b), wanting_turn n fs (block_of row) env (times c.in-Turn.turns (exec (block_of row) n)) (exec rest n) (subst IsWanting e c.requires.wanting.1))))
+    (omega arith, (c.requires.small, (omega (arith, h, b), (operands_fit_repeat n c.args.stmt.now w.field-0 w.body row w.is c.as_slice-block.ensures.value c.requires.fits, wanting_turn n fs (block_of row) env (times c.in-Turn.turns (exec (block_of row) n)) (exec rest n) (subst IsWanting e c.requires.wanting.1)))))
 
 pub resume_stmt-returns-in_err-resume_block-in-Turn-clause-flow : goal.resume_stmt-returns-in_err-resume_block-in-Turn-clause-flow
 resume_stmt-returns-in_err-resume_block-in-Turn-clause-flow t c = λ rest s.
@@ -170,8 +182,13 @@ resume_stmt-returns-in_err-resume_block-in-Turn-clause-flow t c = λ rest s.
     let n = c.args.registers in
     let row = c.as_slice-block.result.now in
     let seen = repeat_block _ _ _ _ rest w.is c.as_slice-block.ensures.value in
-    let told = turn_part c.args.part c.in-Turn.turns n (with_stmt c.args.stmt.now rest) w.field-0 (block_of row) rest (resume n (drop (c.args.depth + 1) c.args.frames.now)) (env_of c.args.store.now) (c.args.reply ∷ s) _ c.in-Turn.is seen (c.in_err-resume_block-in-Turn.ensures.flow s) in
+    let told = turn_part c.args.part c.in-Turn.turns n (with_stmt c.args.stmt.now rest) w.field-0 (block_of row) rest (resume n (drop (c.args.depth + 1) c.args.frames.now)) (env_of c.args.store.now) (c.args.reply.now ∷ s) _ c.in-Turn.is seen (c.in_err-resume_block-in-Turn.ensures.flow s) in
     search (rules, told)
+
+pub resume_stmt-run_turns-requires-clause-fits : goal.resume_stmt-run_turns-requires-clause-fits
+resume_stmt-run_turns-requires-clause-fits t c =
+    let w = c.in-Repeat in
+    operands_fit_repeat c.args.registers c.args.stmt.now w.field-0 w.body c.as_slice-block.result.now w.is c.as_slice-block.ensures.value c.requires.fits
 
 pub resume_stmt-run_turns-requires-clause-room : goal.resume_stmt-run_turns-requires-clause-room
 resume_stmt-run_turns-requires-clause-room t c =
@@ -189,7 +206,7 @@ resume_stmt-returns-in-GoesOn-clause-flow t c = λ rest s.
     let env = env_of c.resume_block.new.store in
     let fs = drop (c.args.depth + 1) c.resume_block.new.frames in
     let seen = repeat_block _ _ _ _ rest w.is c.as_slice-block.ensures.value in
-    turn_part c.args.part c.in-Turn.turns n (with_stmt c.args.stmt.now rest) w.field-0 (block_of row) rest go (env_of c.args.store.now) (c.args.reply ∷ s) _ c.in-Turn.is seen (known_exit (go (block_of row) (env_of c.args.store.now) (c.args.reply ∷ s)) _ _ n fs (block_of row) env s (c.in_ok-resume_block-in-Turn.ensures.flow s) c.in-GoesOn.is)
+    turn_part c.args.part c.in-Turn.turns n (with_stmt c.args.stmt.now rest) w.field-0 (block_of row) rest go (env_of c.args.store.now) (c.args.reply.now ∷ s) _ c.in-Turn.is seen (known_exit (go (block_of row) (env_of c.args.store.now) (c.args.reply.now ∷ s)) _ _ n fs (block_of row) env s (c.in_ok-resume_block-in-Turn.ensures.flow s) c.in-GoesOn.is)
     ∙ c.run_turns.ensures.flow w.field-0 rest s
     ∙ ap (λ x. stmt_flow c.run_turns.result n (drop (c.args.depth + 1) c.run_turns.new.frames) x rest (env_of c.run_turns.new.store) s) (sym seen)
 
@@ -209,7 +226,7 @@ resume_stmt-returns-in-Wants-clause-flow t c = λ rest s.
     let env = env_of c.resume_block.new.store in
     let fs = drop (c.args.depth + 1) c.resume_block.new.frames in
     let seen = repeat_block _ _ _ _ rest w.is c.as_slice-block.ensures.value in
-    turn_part c.args.part left n whole w.field-0 (block_of row) rest go (env_of c.args.store.now) (c.args.reply ∷ s) (resume n fs (block_of row) env s) c.in-Turn.is seen (known_exit (go (block_of row) (env_of c.args.store.now) (c.args.reply ∷ s)) _ _ n fs (block_of row) env s (c.in_ok-resume_block-in-Turn.ensures.flow s) c.in-Wants.is)
+    turn_part c.args.part left n whole w.field-0 (block_of row) rest go (env_of c.args.store.now) (c.args.reply.now ∷ s) (resume n fs (block_of row) env s) c.in-Turn.is seen (known_exit (go (block_of row) (env_of c.args.store.now) (c.args.reply.now ∷ s)) _ _ n fs (block_of row) env s (c.in_ok-resume_block-in-Turn.ensures.flow s) c.in-Wants.is)
     ∙ sym (turn_part (Turn left) left n whole w.field-0 (block_of row) rest (resume n fs) env s (resume n fs (block_of row) env s) refl seen refl)
 
 pub resume_stmt-returns-in-Wants-clause-asks : goal.resume_stmt-returns-in-Wants-clause-asks
@@ -232,4 +249,4 @@ resume_stmt-returns-in-Halts-clause-flow t c = λ rest s.
     let env = env_of c.resume_block.new.store in
     let fs = drop (c.args.depth + 1) c.resume_block.new.frames in
     let seen = repeat_block _ _ _ _ rest w.is c.as_slice-block.ensures.value in
-    turn_part c.args.part c.in-Turn.turns n (with_stmt c.args.stmt.now rest) w.field-0 (block_of row) rest go (env_of c.args.store.now) (c.args.reply ∷ s) _ c.in-Turn.is seen (known_exit (go (block_of row) (env_of c.args.store.now) (c.args.reply ∷ s)) _ _ n fs (block_of row) env s (c.in_ok-resume_block-in-Turn.ensures.flow s) c.in-Halts.is)
+    turn_part c.args.part c.in-Turn.turns n (with_stmt c.args.stmt.now rest) w.field-0 (block_of row) rest go (env_of c.args.store.now) (c.args.reply.now ∷ s) _ c.in-Turn.is seen (known_exit (go (block_of row) (env_of c.args.store.now) (c.args.reply.now ∷ s)) _ _ n fs (block_of row) env s (c.in_ok-resume_block-in-Turn.ensures.flow s) c.in-Halts.is)

@@ -7,6 +7,7 @@ use Rattle.machine.specs.Paths.{resume}
 use Rattle.machine.specs.Exits.{stmt_flow, StmtAsks, block_flow}
 use Rattle.regmodel.proofs.Blocks.{block_of-drop}
 use Rattle.machine.proofs.Blocks.{if_block, repeat_block, open_blocks_if}
+use Rattle.machine.proofs.Fitting.{operands_fit_arm}
 use Rattle.machine.proofs.Flows.{resume-set, then_exit, exit_asks, arm_part, arm_block, open_blocks-arm, exec-if, exec-repeat, turn_flow-left, times-more, known_exit}
 use Rattle.machine.proofs.run.+run.Goals as goal
 
@@ -41,7 +42,7 @@ run_stmt-run_block-exit-requires t c =
     let h = open_blocks_if _ _ _ _ w.is in
     let told = arm_block c.arm_at-arm.result c.block_of_arm-block.ensures c.as_slice.ensures.value c.as_slice-in-If.ensures.value in
     let b = open_blocks-arm c.arm_at-arm.result _ _ _ told in
-    (omega arith, (c.requires.small, omega (arith, h, b)))
+    (omega arith, (c.requires.small, (omega (arith, h, b), operands_fit_arm c.args.registers c.args.stmt.now w.test w.first w.second c.arm_at-arm.result (block_of c.block_of_arm-block.result.now) w.is c.requires.fits told)))
 
 pub run_stmt-returns-in_ok-expr-in-If-clause-flow : goal.run_stmt-returns-in_ok-expr-in-If-clause-flow
 run_stmt-returns-in_ok-expr-in-If-clause-flow t c = λ rest s.

@@ -1,4 +1,5 @@
 use Rattle.std.proofs.Common.{◌≡◌, ℕ, ◌+◌, ◌-◌, ◌*◌, List, drop, length}
+use Rattle.regmodel.specs.Reply.{Replies}
 use Rattle.regmodel.specs.Act.{exec, times}
 use Rattle.regmodel.specs.Program.{block_of}
 use Rattle.machine.specs.Stores.{env_of}
@@ -6,11 +7,11 @@ use Rattle.machine.proofs.run.+run.Given as goal
 
 abbrev pub invariant-run_block-loop-at : goal.invariant-run_block-loop-at
 invariant-run_block-loop-at l =
-    (s : List ℕ) → exec (block_of (drop l.fn.start l.block)) l.registers (env_of l.fn.store) s ≡ exec (block_of (drop l.at l.block)) l.registers (env_of l.store) s
+    (s : Replies) → exec (block_of (drop l.fn.start l.block)) l.registers (env_of l.fn.store) s ≡ exec (block_of (drop l.at l.block)) l.registers (env_of l.store) s
 
 abbrev pub invariant-run_turns-loop-left : goal.invariant-run_turns-loop-left
 invariant-run_turns-loop-left l =
-    (s : List ℕ) → times l.fn.turns (exec (block_of l.body) l.registers) (env_of l.fn.store) s ≡ times l.left (exec (block_of l.body) l.registers) (env_of l.store) s
+    (s : Replies) → times l.fn.turns (exec (block_of l.body) l.registers) (env_of l.fn.store) s ≡ times l.left (exec (block_of l.body) l.registers) (env_of l.store) s
 
 abbrev pub decreases-run_turns-loop-left : goal.decreases-run_turns-loop-left
 decreases-run_turns-loop-left l = l.left
