@@ -62,7 +62,7 @@ impl Interp {
         ensures { result ≡ true → (self.now.at + 1 < self.now.known) × (values_in (kept_at self.now.kept.items (self.now.at + 1)).reply ≡ reply.now) }
     {
         let next = self.at + 1;
-        next < self.known && self.kept[next].reply.values() == reply
+        next < self.known && self.kept[next].reply.is(reply)
     }
 
     /// Copies the present state to the next place, and runs past the reply there. What was known from there on is known no longer.

@@ -1,6 +1,6 @@
 //! Replies, as plain values that can be kept.
 
-ghost use Rattle.std.specs.Prelude.{◌≡◌, ◌≤◌, [], length};
+ghost use Rattle.std.specs.Prelude.{◌≡◌, ◌≤◌, ◌↔◌, IsTrue, [], length};
 ghost use Rattle.regmodel.specs.Kept.{values_in};
 ghost use Rattle.regmodel.specs.declared.limits.TheConstants.{MOST_SCANNED};
 
@@ -42,5 +42,12 @@ impl Reply {
         ensures { result.now ≡ values_in self.now }
     {
         &self.places[..self.count.min(MOST_SCANNED)]
+    }
+
+    /// Whether it has just these numbers.
+    pub fn is(&self, values: &[u32]) -> bool
+        ensures { IsTrue result ↔ (values_in self.now ≡ values.now) }
+    {
+        self.values() == values
     }
 }
