@@ -1,7 +1,7 @@
 //! Does what was asked, and gives the status.
 
 ghost use Rattle.std.specs.Prelude.{◌≡◌, ◌≤◌, ◌⊎◌, IfErr, IfOk, IsNone, None, OnErr, OnOk, if◌then◌else◌, option_and_then};
-ghost use Rattle.report.specs.Appending.{Writes};
+ghost use Rattle.texts.specs.Appending.{Writes};
 ghost use Rattle.cli.specs.Findings.{HasBeginning, IsAnswered, IsCutShort, IsRefusal, IsRefusedWith, IsTextOf, IsTooLong, finding_text};
 
 use crate::findings::{Finding, found};

@@ -1,14 +1,14 @@
 //! How many pieces were taken and how many are known, told on a writer while workers run.
 
 ghost use Rattle.std.specs.Prelude.{◌≡◌, ◌+◌, ◌-◌, ◌^◌, min};
-ghost use Rattle.report.specs.Appending.{Puts, Writes, write_fault_of};
+ghost use Rattle.texts.specs.Appending.{Puts, Writes, write_fault_of};
 ghost use Rattle.cli.specs.Progress.{noun_text, pieces_text, progress_line, progress_text};
 
 use explorer::Gate;
 use regmodel::Prefix;
-use report::{Block, WriteFault, put_digits};
 use std::io::Write;
 use std::sync::{Mutex, Wait};
+use texts::{Block, WriteFault, put_digits};
 
 /// How many pieces were taken, and how many are said to be known. Both stop at the greatest u64.
 #[derive(Drop)]

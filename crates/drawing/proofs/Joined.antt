@@ -1,8 +1,8 @@
 -- Texts joined one after another, as a loop puts them.
 use Rattle.std.proofs.Common.{◌≡◌, ℕ, zero, suc, ◌+◌, ◌-◌, ◌<◌, Bool, List, ◌++◌, Option, Some, None, add-one, add-suc, ap, sym, ◌∙◌, subst, append_assoc, arith}
 use Rattle.std.proofs.lemmas.List.{append-nil}
-use Rattle.report.specs.Appending.{Puts}
-use Rattle.report.proofs.Texts.{after_text, fault_before}
+use Rattle.texts.specs.Appending.{Puts}
+use Rattle.texts.proofs.Texts.{after_text, fault_before}
 use Rattle.drawing.specs.DrawingText.{drawing_text, gap_before, gap_past, joined, table_text}
 use Rattle.drawing.specs.Layout.{columns_shown, widths}
 use Rattle.drawing.specs.Pictures.{Picture}

@@ -1,7 +1,7 @@
 -- A cell's text behind the spaces that are due.
 use Rattle.std.proofs.Common.{◌≡◌, ℕ, ◌+◌, ◌≤◌, ◌==◌, Bool, true, false, List, ◌++◌, length, Option, Some, None, if◌then◌else◌, ap, sym, ◌∙◌, subst, arith}
-use Rattle.report.specs.Appending.{Puts}
-use Rattle.report.proofs.Texts.{after_text, fault_before}
+use Rattle.texts.specs.Appending.{Puts}
+use Rattle.texts.proofs.Texts.{after_text, fault_before}
 use Rattle.drawing.specs.DrawingText.{gap_past, joined, placed, spaces}
 
 placed-some : (gap : ℕ) (text bytes : List ℕ) (empty : Bool) → bytes ≡ text → empty ≡ (length bytes == 0) → empty ≡ false → placed gap text ≡ spaces gap ++ bytes

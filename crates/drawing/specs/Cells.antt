@@ -1,7 +1,7 @@
 -- The texts of a drawing, cell by cell: lines from 0, the header, the start, a line a letter, the ends; columns from 0, the letters'
 -- numbers, a column a process, a column a register.
 use Rattle.std.specs.Prelude.{ℕ, ◌-◌, ◌==◌, List, [], ◌++◌, length, Option, Some, None, codes, decimal, if◌then◌else◌, nat_le, slice_get}
-use Rattle.report.specs.ReportText.{end_text}
+use Rattle.texts.specs.OutcomeText.{end_text}
 use Rattle.drawing.specs.declared.drawings.Deed.{Deed}
 use Rattle.drawing.specs.declared.drawings.Deed.TheVariants.{Read, Write, Crash}
 use Rattle.drawing.specs.declared.drawings.Held.{Held}

@@ -1,7 +1,7 @@
 //! The texts of a drawing, cell by cell.
 
 ghost use Rattle.std.specs.Prelude.{◌≡◌, ◌≤◌, ◌<◌, ◌+◌, ◌++◌, [], codes, decimal, length};
-ghost use Rattle.report.specs.ReportText.{end_text, fate_text};
+ghost use Rattle.texts.specs.OutcomeText.{end_text, fate_text};
 ghost use Rattle.drawing.specs.Cells as texts;
 ghost use Rattle.drawing.specs.DrawingText.{left_out_text, to_last_text};
 ghost use Rattle.drawing.specs.Layout.{column_count, line_count};

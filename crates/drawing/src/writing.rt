@@ -1,7 +1,7 @@
 //! The text of a drawing, put piece by piece into blocks for a writer. No call takes memory.
 
 ghost use Rattle.std.specs.Prelude.{◌≡◌, ◌≤◌, ◌*◌, codes, get_or, length};
-ghost use Rattle.report.specs.Appending.{Puts, Writes, write_fault_of};
+ghost use Rattle.texts.specs.Appending.{Puts, Writes, write_fault_of};
 ghost use Rattle.drawing.specs.Cells.{cell_text};
 ghost use Rattle.drawing.specs.DrawingText as texts;
 ghost use Rattle.drawing.specs.DrawingText.{drawing_text, joined, line_text, placed, spaces, table_text};
@@ -10,8 +10,8 @@ ghost use Rattle.drawing.specs.Layout.{column_count, line_count};
 use crate::cells::{Cell, MOST_COLUMNS, left_out_cell};
 use crate::drawings::Drawing;
 use crate::layout::{PARTING, columns_shown, widths_of};
-use report::{Block, WriteFault};
 use std::io::Write;
+use texts::{Block, WriteFault};
 
 /// Writes the text of a drawing: a header, a line with what each register holds at the start, a line a letter, and a line with how each
 /// process stands at the end. A line is at most 80 places long where there are at most two processes, else 132, as far as leaving out the last

@@ -4,7 +4,7 @@ use Rattle.std.specs.Fmt.{digits}
 use Rattle.regmodel.specs.declared.outcomes.End.TheVariants as end
 use Rattle.regmodel.specs.Examples.{idle, started}
 use Rattle.report.specs.PlainReport.{Findings}
-use Rattle.report.specs.ReportText.{outcome_text, report_text, standing_text}
+use Rattle.report.specs.ReportText.{report_text, standing_text}
 
 -- what is found of the writer and the reader at length 2
 abbrev found_of_both : Findings
@@ -20,10 +20,6 @@ found_of_both = record {
 pub report_of_both : report_text found_of_both ≡ codes "processes 2\nlength 2\ncrashes 0\ntried 2\noutcomes 2\noutcome done; done 0\noutcome done; done 5\nleast none\n"
 unfolding digits
 report_of_both = refl
-
-pub texts_of_ends : outcome_text (started (1 ∷ 20 ∷ []) ∷ idle (end.Fault 2) ∷ idle end.Crashed ∷ idle end.Running ∷ []) ≡ codes "done 1 20; fault 2 idle; crashed idle; running idle"
-unfolding digits
-texts_of_ends = refl
 
 pub text_of_where_a_crash_leads : standing_text (started [] ∷ idle end.Crashed ∷ []) (5 ∷ 0 ∷ []) ≡ codes "outcome done; crashed idle\nregisters 5 0\n"
 unfolding digits

@@ -1,4 +1,3 @@
-pub mod Appending
 pub mod Examples
 pub mod PlainReport
 pub mod ReportText

@@ -1,8 +1,8 @@
 -- How texts that are written one after another come together.
 use Rattle.std.proofs.Common.{◌≡◌, ℕ, List, ◌++◌, Option, Some, None, ap, sym, ◌∙◌, append_assoc, refl}
 use Rattle.std.proofs.lemmas.List.{append-nil}
-use Rattle.report.specs.Appending.{Writes}
-use Rattle.report.proofs.Texts.{Appends-then}
+use Rattle.texts.specs.Appending.{Writes}
+use Rattle.texts.proofs.Texts.{Appends-then}
 
 -- where the first of two texts is written, what comes of the second comes of both
 pub written_after : {old mid new : Option (List ℕ)} {x y : List ℕ} {fault : Option ℕ} → Writes old mid x None → Writes mid new y fault → Writes old new (x ++ y) fault

@@ -2,14 +2,14 @@
 
 ghost use Rattle.std.specs.Prelude.{◌≡◌, ◌++◌, codes};
 ghost use Rattle.reglang.specs.Explanations.{change_text, wrong_text};
-ghost use Rattle.report.specs.Appending.{Puts, Writes, write_fault_of};
+ghost use Rattle.texts.specs.Appending.{Puts, Writes, write_fault_of};
 ghost use Rattle.verdict.specs.ExplanationText as spec;
 ghost use Rattle.verdict.specs.Shown.{printable, printable_text};
 
 use crate::shown::shown_line;
 use reglang::{Culprit, Rejection, what_is_wrong, what_to_change, word_at_fault};
-use report::{Block, WriteFault, put_digits};
 use std::io::Write;
+use texts::{Block, WriteFault, put_digits};
 
 /// Writes what is wrong with the text in the file of this path, which was refused so: the number of the line and what is wrong, with the word
 /// at fault where there is one, the line itself, a question mark for each byte that is not printable ASCII, and what to change. After a fault

@@ -7,7 +7,7 @@ ghost use Rattle.verdict.specs.VerdictText as spec;
 
 use regmodel::{End, Outcome};
 use report::Exploration;
-use subtree::Outcomes;
+use tallies::Outcomes;
 
 /// How much was tried, and how far.
 #[derive(Clone, Copy)]

@@ -1,7 +1,7 @@
 //! Whether a source holds, put in words for a writer. No call takes memory.
 
 ghost use Rattle.std.specs.Prelude.{◌≡◌};
-ghost use Rattle.report.specs.Appending.{Puts, Writes, write_fault_of};
+ghost use Rattle.texts.specs.Appending.{Puts, Writes, write_fault_of};
 ghost use Rattle.verdict.specs.VerdictText as spec;
 
 use crate::breaches::{Breach, Verdict};
@@ -10,8 +10,8 @@ use crate::shown::{shown_line, without_indent};
 use drawing::write_drawing;
 use regmodel::Prefix;
 use regmodel::limits::MOST_LETTERS;
-use report::{Block, WriteFault, put_digits, put_schedule};
 use std::io::Write;
+use texts::{Block, WriteFault, put_digits, put_schedule};
 
 /// Writes whether the source holds that the text in the file of this path spells: the schedule that fails, the check that it breaks, its
 /// drawing and the command that replays it; or how much was tried, and whether schedules were cut off. After a fault the writer has taken

@@ -1,5 +1,5 @@
 use Rattle.std.proofs.lemmas.Result.{err_from_is_err_and}
-use Rattle.report.proofs.Texts.{fault_before, after_text}
+use Rattle.texts.proofs.Texts.{fault_before, after_text}
 use Rattle.cli.specs.Progress.{noun_text}
 use Rattle.cli.proofs.progress.put_pieces.Goals as goal
 

@@ -1,4 +1,4 @@
-use Rattle.report.proofs.Texts.{flushed}
+use Rattle.texts.proofs.Texts.{flushed}
 use Rattle.cli.proofs.progress.write_progress.Goals as goal
 
 pub returns : goal.returns

@@ -1,5 +1,5 @@
 use Rattle.std.proofs.Common.{◌≡◌, ◌≤◌, ◌+◌, ◌*◌, ◌++◌, codes, length, take}
-use Rattle.report.specs.ReportText.{numbers_text}
+use Rattle.texts.specs.NumberText.{numbers_text}
 use Rattle.drawing.proofs.cells.fate_cell.Given as goal
 
 abbrev pub invariant-loop-number : goal.invariant-loop-number

@@ -1,6 +1,6 @@
 use Rattle.std.proofs.Common.{codes, get_or, arith}
 use Rattle.std.proofs.lemmas.Result.{err_from_is_err_and}
-use Rattle.report.proofs.Texts.{after_text, fault_before}
+use Rattle.texts.proofs.Texts.{after_text, fault_before}
 use Rattle.drawing.specs.Cells.{cell_text}
 use Rattle.drawing.specs.DrawingText.{gap_before, placed}
 use Rattle.drawing.proofs.Joined.{fault-in, gap-more, text-more}

@@ -1,5 +1,5 @@
 use Rattle.std.proofs.Common.{◌≡◌, ◌≤◌, ◌*◌, None, get_or}
-use Rattle.report.specs.Appending.{Puts}
+use Rattle.texts.specs.Appending.{Puts}
 use Rattle.drawing.specs.Cells.{cell_text}
 use Rattle.drawing.specs.DrawingText.{gap_before, joined, placed}
 use Rattle.drawing.proofs.writing.put_line.Given as goal

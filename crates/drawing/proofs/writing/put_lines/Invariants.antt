@@ -1,5 +1,5 @@
 use Rattle.std.proofs.Common.{None, get_or}
-use Rattle.report.specs.Appending.{Puts}
+use Rattle.texts.specs.Appending.{Puts}
 use Rattle.drawing.specs.Cells.{cell_text}
 use Rattle.drawing.specs.DrawingText.{joined, line_text}
 use Rattle.drawing.proofs.writing.put_lines.Given as goal

@@ -1,5 +1,5 @@
 use Rattle.std.proofs.Common.{None}
-use Rattle.report.specs.Appending.{Puts}
+use Rattle.texts.specs.Appending.{Puts}
 use Rattle.drawing.specs.DrawingText.{spaces}
 use Rattle.drawing.proofs.writing.put_spaces.Given as goal
 

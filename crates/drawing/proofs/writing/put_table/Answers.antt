@@ -1,6 +1,6 @@
 use Rattle.std.proofs.Common.{◌≡◌, ◌-◌, length, ap, ◌∙◌, arith}
 use Rattle.std.proofs.lemmas.Result.{err_from_is_err_and}
-use Rattle.report.proofs.Texts.{fault_before}
+use Rattle.texts.proofs.Texts.{fault_before}
 use Rattle.drawing.specs.DrawingText.{left_out_text}
 use Rattle.drawing.proofs.Joined.{after-same}
 use Rattle.drawing.proofs.writing.put_table.Goals as goal

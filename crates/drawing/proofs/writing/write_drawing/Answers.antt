@@ -1,6 +1,6 @@
 use Rattle.std.proofs.Common.{sym, ◌∙◌, ap}
 use Rattle.std.proofs.lemmas.Result.{err_from_is_err_and}
-use Rattle.report.proofs.Texts.{flushed, stopped}
+use Rattle.texts.proofs.Texts.{flushed, stopped}
 use Rattle.drawing.specs.Layout.{columns_shown}
 use Rattle.drawing.proofs.Joined.{table-drawn}
 use Rattle.drawing.proofs.writing.write_drawing.Goals as goal

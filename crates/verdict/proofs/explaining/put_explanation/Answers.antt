@@ -1,6 +1,6 @@
 use Rattle.std.proofs.Common.{codes}
 use Rattle.std.proofs.lemmas.Result.{err_from_is_err_and}
-use Rattle.report.proofs.Texts.{fault_before, after_text}
+use Rattle.texts.proofs.Texts.{fault_before, after_text}
 use Rattle.reglang.specs.Explanations.{change_text}
 use Rattle.verdict.specs.ExplanationText as spec
 use Rattle.verdict.specs.Shown.{printable_text}

@@ -1,5 +1,5 @@
 use Rattle.std.proofs.lemmas.Result.{err_from_is_err_and}
-use Rattle.report.proofs.Texts.{fault_before, after_text}
+use Rattle.texts.proofs.Texts.{fault_before, after_text}
 use Rattle.verdict.specs.ExplanationText as spec
 use Rattle.verdict.proofs.explaining.put_fault.Goals as goal
 

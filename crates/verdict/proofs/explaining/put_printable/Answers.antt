@@ -1,7 +1,7 @@
 use Rattle.std.proofs.Common.{[], ◌∷◌, arith, sym}
 use Rattle.std.proofs.lemmas.Grind.{get_or_default_zero}
 use Rattle.std.proofs.lemmas.Result.{err_from_is_err_and}
-use Rattle.report.proofs.Texts.{fault_at, text_more}
+use Rattle.texts.proofs.Texts.{fault_at, text_more}
 use Rattle.verdict.specs.Shown.{printable}
 use Rattle.verdict.proofs.explaining.put_printable.Goals as goal
 

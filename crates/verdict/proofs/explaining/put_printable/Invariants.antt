@@ -1,5 +1,5 @@
 use Rattle.std.proofs.Common.{take, None}
-use Rattle.report.specs.Appending.{Puts}
+use Rattle.texts.specs.Appending.{Puts}
 use Rattle.verdict.specs.Shown.{printable_text}
 use Rattle.verdict.proofs.explaining.put_printable.Given as goal
 

@@ -1,6 +1,6 @@
 use Rattle.std.proofs.Common.{codes}
 use Rattle.std.proofs.lemmas.Result.{err_from_is_err_and}
-use Rattle.report.proofs.Texts.{fault_before, after_text}
+use Rattle.texts.proofs.Texts.{fault_before, after_text}
 use Rattle.verdict.specs.VerdictText as spec
 use Rattle.verdict.proofs.telling.put_bounds.Goals as goal
 

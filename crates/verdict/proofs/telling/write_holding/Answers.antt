@@ -1,5 +1,5 @@
 use Rattle.std.proofs.lemmas.Result.{err_from_is_err_and}
-use Rattle.report.proofs.Texts.{flushed, stopped}
+use Rattle.texts.proofs.Texts.{flushed, stopped}
 use Rattle.verdict.proofs.telling.write_holding.Goals as goal
 
 pub returns-in_err-put_holding : goal.returns-in_err-put_holding

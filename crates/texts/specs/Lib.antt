@@ -1,0 +1,4 @@
+pub mod Appending
+pub mod Examples
+pub mod NumberText
+pub mod OutcomeText
