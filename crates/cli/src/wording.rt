@@ -4,9 +4,9 @@ ghost use Rattle.std.specs.Prelude.{◌≡◌};
 ghost use Rattle.cli.specs.Statuses.{status_of};
 
 use crate::refusals::Refusal;
+use explanations::write_explanation;
 use std::io;
 use std::io::Write;
-use verdict::write_explanation;
 
 /// Where a source is refused, writes what is wrong with the text in the file of this path, as far as that can be written.
 pub fn explain<E: Write>(path: &str, text: &[u8], refusal: &Refusal, err: &mut E) {

@@ -1,5 +1,4 @@
 mod Appending
-mod CheckLines
 mod ClausesFit
 mod Cuts
 mod Digits

@@ -1,8 +1,5 @@
-pub mod CheckExamples
-pub mod Checks
 pub mod Contents
 pub mod Drafts
-pub mod Explanations
 pub mod FaultExamples
 pub mod Faults
 pub mod Forms
@@ -10,7 +7,6 @@ pub mod Grammar
 pub mod GrammarExamples
 pub mod LineExamples
 pub mod Lines
-pub mod Misfits
 pub mod Sources
 pub mod Spelling
 pub mod Words

@@ -1,15 +1,12 @@
 //! Sources: texts of the register language, read into programs.
 #![tactic(auto)]
 
-mod checks;
 mod clauses;
 mod copies;
 mod draft;
-mod explanations;
 mod forms;
 pub mod laws;
 mod lines;
-mod misfits;
 mod open_process;
 mod operands;
 mod parts;
@@ -20,10 +17,15 @@ mod spellings;
 mod words;
 mod writer;
 
-pub use checks::{check_line, line_at};
-pub use explanations::{Culprit, what_is_wrong, what_to_change};
-pub use misfits::word_at_fault;
+pub use clauses::number_to;
+pub use forms::{Line, is_known, read_line};
+pub use lines::{split_line, split_word};
+pub use operands::{number_in, operand_of, operator_of, target_of};
 pub use reader::{ReadFault, Rejection, read_source, read_text};
+pub use refusals::{
+    MISPLACED, NO_CLAUSE, NO_FORM, NO_NUMBER, NO_REGISTERS, NOT_PRINTABLE, PAST_LIMIT, UNKNOWN_WORD,
+};
 pub use source::Source;
 pub use uses::{ExpandFault, Use, expand};
+pub use words::{Keyword, Kind, Property, Word, word_of};
 pub use writer::write_source;

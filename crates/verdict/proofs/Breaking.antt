@@ -13,7 +13,7 @@ use Rattle.regmodel.specs.declared.outcomes.ProcEnd.{ProcEnd}
 use Rattle.regmodel.specs.Judging.{meets}
 use Rattle.regmodel.specs.Program.{Program}
 use Rattle.regmodel.specs.Schedules.{IsSchedule, is_possible}
-use Rattle.reglang.specs.Checks.{ChecksAt, check_lines}
+use Rattle.explanations.specs.Checks.{ChecksAt, check_lines}
 use Rattle.reglang.specs.Contents.{Contents}
 use Rattle.reglang.specs.Grammar.{Spells}
 use Rattle.verdict.specs.Breaches.{IsBrokenLine}

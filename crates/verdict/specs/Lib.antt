@@ -1,4 +1,3 @@
 pub mod Breaches
-pub mod ExplanationText
-pub mod Shown
+pub mod Indents
 pub mod VerdictText

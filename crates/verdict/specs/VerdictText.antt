@@ -6,9 +6,10 @@ use Rattle.regmodel.specs.Judging.{is_running}
 use Rattle.regmodel.specs.Letters.{Schedule}
 use Rattle.report.specs.PlainReport.{Findings}
 use Rattle.regmodel.specs.ScheduleText.{schedule_text}
-use Rattle.reglang.specs.Checks.{line_at}
+use Rattle.explanations.specs.Checks.{line_at}
 use Rattle.drawing.specs.DrawingText.{drawing_text}
-use Rattle.verdict.specs.Shown.{shown, without_indent}
+use Rattle.explanations.specs.Shown.{shown}
+use Rattle.verdict.specs.Indents.{without_indent}
 use Rattle.verdict.specs.declared.breaches.Breach.{Breach}
 use Rattle.verdict.specs.declared.breaches.Verdict.{Verdict}
 use Rattle.verdict.specs.declared.reaches.Reach.{Reach}

@@ -14,8 +14,9 @@ ghost use Rattle.drawing.specs.Pictures.{IsPictureOf};
 ghost use Rattle.verdict.specs.Breaches.{IsBreachFor, IsBreachOf, IsBrokenLine};
 
 use drawing::{Drawing, draw};
+use explanations::check_line;
 use machine::Machine;
-use reglang::{Source, check_line};
+use reglang::Source;
 use regmodel::laws::the_first_refused_is_a_schedule;
 use regmodel::{Outcome, Prefix, Settings};
 use report::Exploration;

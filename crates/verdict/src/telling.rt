@@ -5,9 +5,10 @@ ghost use Rattle.texts.specs.Appending.{Puts, Writes, write_fault_of};
 ghost use Rattle.verdict.specs.VerdictText as spec;
 
 use crate::breaches::{Breach, Verdict};
+use crate::indents::without_indent;
 use crate::reaches::{Reach, reach_of};
-use crate::shown::{shown_line, without_indent};
 use drawing::write_drawing;
+use explanations::shown_line;
 use regmodel::Prefix;
 use regmodel::limits::MOST_LETTERS;
 use std::io::Write;

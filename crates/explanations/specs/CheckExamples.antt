@@ -1,0 +1,34 @@
+-- Where checks stand in a text, and the words at fault of lines.
+use Rattle.std.specs.Prelude.{◌≡◌, [], ◌∷◌, Some, None, refl, codes}
+use Rattle.explanations.specs.Checks.{line_at, check_lines}
+use Rattle.explanations.specs.Misfits.{word_at_fault}
+
+-- the second of three lines, which is the first check
+pub second_line : line_at 2 (codes "registers 1\n check ended\ncheck nofault") ≡ Some (codes " check ended")
+second_line = refl
+
+-- a check in a comment is none, one without a clause is one
+pub checks : check_lines (codes "# check ended\ncheck\nprocess\nend\n\ncheck ended\n") ≡ 2 ∷ 6 ∷ []
+checks = refl
+
+-- a word that no line begins with
+pub unknown_line : word_at_fault 2 (codes "reads v0 v16") ≡ Some (codes "reads")
+unknown_line = refl
+
+pub unknown_word : word_at_fault 2 (codes "set v0 v16 + x") ≡ Some (codes "v16")
+unknown_word = refl
+
+-- a number where a target stands
+pub wrong_sort : word_at_fault 4 (codes "read 0 v0") ≡ Some (codes "0")
+wrong_sort = refl
+
+pub one_too_many : word_at_fault 4 (codes "use split 0 1 2") ≡ Some (codes "2")
+one_too_many = refl
+
+-- an operand is missing
+pub missing : word_at_fault 4 (codes "emit v0 +") ≡ None
+missing = refl
+
+-- at most 8 processes have a name
+pub past_limit : word_at_fault 8 (codes "check atmost 9 9") ≡ Some (codes "9")
+past_limit = refl

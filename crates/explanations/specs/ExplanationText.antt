@@ -1,0 +1,39 @@
+-- What is wrong with a source that is refused, in words.
+use Rattle.std.specs.Prelude.{ℕ, if◌then◌else◌, List, [], ◌++◌, Option, Some, None, codes, decimal, is_some}
+use Rattle.explanations.specs.Checks.{line_at}
+use Rattle.explanations.specs.Wording.{change_text, wrong_text}
+use Rattle.explanations.specs.Misfits.{word_at_fault}
+use Rattle.explanations.specs.declared.wording.Culprit.{Culprit}
+use Rattle.explanations.specs.declared.wording.Culprit.TheVariants.{End, Line, Word}
+use Rattle.reglang.specs.declared.reader.Rejection.{Rejection}
+use Rattle.explanations.specs.Shown.{printable_text, shown}
+
+-- what is at fault: the end of the text where it is told to be, else a word of the line where there is one, else the line
+abbrev pub culprit_of : Rejection → List ℕ → Culprit
+culprit_of rejection line = if rejection.is_of_end then End else (if is_some (word_at_fault rejection.fault.code line) then Word else Line)
+
+-- a word, where there is one
+abbrev pub maybe_word_text : Option (List ℕ) → List ℕ
+maybe_word_text (Some word) = codes ": " ++ word
+maybe_word_text None = []
+
+-- the word of the line that is at fault, where the end of the text is not
+abbrev pub word_text : Rejection → List ℕ → List ℕ
+word_text rejection line = if rejection.is_of_end then [] else maybe_word_text (word_at_fault rejection.fault.code line)
+
+-- what is wrong, and the word at fault
+abbrev pub fault_text : Rejection → List ℕ → List ℕ
+fault_text rejection line = wrong_text rejection.fault.code (culprit_of rejection line) ++ word_text rejection line
+
+-- where the line stands, and what is wrong
+abbrev pub heading : List ℕ → Rejection → List ℕ → List ℕ
+heading path rejection line = path ++ codes ":" ++ decimal rejection.fault.line ++ codes ": " ++ fault_text rejection line ++ codes "\n"
+
+-- what is wrong with the text in the file of this path, at this line, the line, and what to change
+abbrev pub line_explained : List ℕ → Rejection → List ℕ → List ℕ
+line_explained path rejection line =
+    heading path rejection line ++ printable_text line ++ codes "\n" ++ change_text rejection.fault.code (culprit_of rejection line) ++ codes "\n"
+
+-- what is wrong with a text that is refused
+abbrev pub explanation_text : List ℕ → List ℕ → Rejection → List ℕ
+explanation_text path text rejection = line_explained path rejection (shown (line_at rejection.fault.line text))

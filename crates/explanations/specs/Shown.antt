@@ -1,0 +1,16 @@
+-- Lines of a source, as they are shown.
+use Rattle.std.specs.Prelude.{ℕ, ◌&&◌, if◌then◌else◌, List, [], ◌∷◌, Option, Some, None, nat_le}
+use Rattle.std.specs.List.{flat_map}
+
+-- a line; no bytes where there is none
+abbrev pub shown : Option (List ℕ) → List ℕ
+shown (Some line) = line
+shown None = []
+
+-- a byte of printable ASCII; a question mark for any other
+abbrev pub printable : ℕ → ℕ
+printable b = if nat_le 32 b && nat_le b 126 then b else 63
+
+-- bytes, each as a printable one
+abbrev pub printable_text : List ℕ → List ℕ
+printable_text bytes = flat_map (λ b. printable b ∷ []) bytes

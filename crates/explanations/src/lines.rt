@@ -1,0 +1,33 @@
+//! Lines of a text, by their numbers.
+
+ghost use Rattle.std.specs.Prelude.{◌≡◌, MatchOption, None, Some};
+ghost use Rattle.explanations.specs.Checks as spec;
+ghost use Rattle.explanations.specs.Shown.{shown};
+
+use reglang::split_line;
+
+/// The line of a text with this number, counted from 1, without its byte 10. None where there is none.
+pub fn line_at(text: &[u8], number: u64) -> Option<&[u8]>
+    ensures { MatchOption result (spec.line_at number text.now ≡ None) (λ line. spec.line_at number text.now ≡ Some line.now) }
+{
+    let mut before = number.checked_sub(1)?;
+    let mut rest = text;
+    while let Some((line, after)) = split_line(rest) {
+        if before == 0 {
+            return Some(line);
+        }
+        before -= 1;
+        rest = after;
+    }
+    None
+}
+
+/// The line of a text with this number, counted from 1; no bytes where there is none.
+pub fn shown_line(text: &[u8], number: u64) -> &[u8]
+    ensures { result.now ≡ shown (spec.line_at number text.now) }
+{
+    match line_at(text, number) {
+        Some(line) => line,
+        None => &[],
+    }
+}
