@@ -1,12 +1,12 @@
 -- The expansion of a use line within its limits is within the limits of a program.
 use Rattle.std.proofs.Common.{◌≡◌, ℕ, ◌+◌, ◌-◌, ◌*◌, ◌^◌, ◌≤◌, true, leb, ltb, refl, arith}
-use Rattle.std.proofs.lemmas.Bool.{and_parts, leb-true, ltb-true, le-leb}
+use Rattle.std.proofs.lemmas.Bool.{and_parts, leb-true, ltb-true, le-leb, lt-ltb}
 use Rattle.std.specs.Prelude.{◌&&◌}
 use Rattle.regmodel.specs.Limits.{IsWithin}
 use Rattle.uses.specs.Expansions.{expansion}
 use Rattle.uses.specs.Uses.{is_between, use_fits, numbers_fit, registers_end}
 use Rattle.uses.specs.declared.kinds.Use.{Use}
-use Rattle.uses.specs.declared.kinds.Use.TheVariants.{Split, Grid, Tree, Name}
+use Rattle.uses.specs.declared.kinds.Use.TheVariants.{Split, Grid, Tree, Name, Names}
 
 pub between : (first last n : ℕ) → is_between first last n ≡ true → (first ≤ n) × (n ≤ last)
 between first last n h =
@@ -91,8 +91,25 @@ fitting_name base slots slot n h =
       open_repeats = omega arith;
     }
 
+fitting_names : (base slots slot n : ℕ) → Fits (Names base slots slot) n → IsWithin (expansion (Names base slots slot) n)
+fitting_names base slots slot n h =
+    let numbers = and_parts (is_between 1 8 slots) (ltb slot slots) h.numbers in
+    let count = between 1 8 slots numbers.0 in
+    let own = ltb-true slot slots numbers.1 in
+    let room : base + slots ≤ n = h.room in
+    let few = h.few in
+    record {
+      some_register = h.some;
+      registers = h.few;
+      operands = rw (le-leb (base + slot) 1000000000 (omega arith), lt-ltb 0 slots (omega (arith, count.0)), le-leb (0 + slots) 32 (omega (arith, count.1)), le-leb (base + slots) n room, lt-ltb slot 32 (omega (arith, own, count.1)), le-leb slots 1000000000 (omega (arith, count.1)), le-leb slot 1000000000 (omega (arith, count.1)), le-leb (2 * slots - 1) 1000000000 (omega (arith, count.1))) refl;
+      statements = omega arith;
+      open_blocks = omega arith;
+      open_repeats = omega arith;
+    }
+
 pub fitting : (kind : Use) (registers : ℕ) → use_fits kind registers ≡ true → IsWithin (expansion kind registers)
 fitting (Split base id) n h = fitting_split base id n (fits (Split base id) n h)
 fitting (Grid base side id) n h = fitting_grid base side id n (fits (Grid base side id) n h)
 fitting (Tree base depth id value) n h = fitting_tree base depth id value n (fits (Tree base depth id value) n h)
 fitting (Name base slots slot) n h = fitting_name base slots slot n (fits (Name base slots slot) n h)
+fitting (Names base slots slot) n h = fitting_names base slots slot n (fits (Names base slots slot) n h)

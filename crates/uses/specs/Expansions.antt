@@ -7,9 +7,9 @@ use Rattle.regmodel.specs.declared.programs.Operand.TheVariants.{Number, Var, Ce
 use Rattle.regmodel.specs.declared.programs.Op.TheVariants.{Add, Sub, Mul, Equal, Less}
 use Rattle.regmodel.specs.declared.programs.Expr.{Expr}
 use Rattle.regmodel.specs.declared.programs.Expr.TheVariants.{One, Two}
-use Rattle.regmodel.specs.Program.{Block, Program, Stop, Assign, Read, Write, If, Repeat, Emit, Halt}
+use Rattle.regmodel.specs.Program.{Block, Program, Stop, Assign, Read, Write, Scan, If, Repeat, Emit, Halt}
 use Rattle.uses.specs.declared.kinds.Use.{Use}
-use Rattle.uses.specs.declared.kinds.Use.TheVariants.{Split, Grid, Tree, Name}
+use Rattle.uses.specs.declared.kinds.Use.TheVariants.{Split, Grid, Tree, Name, Names}
 
 -- a statement, and what comes after it
 infixr 5 ◌▸◌
@@ -216,6 +216,15 @@ name_next slots =
 abbrev pub name_turn : ℕ → Block
 name_turn slots = If (One (Var 2)) (name_next slots) Stop ▸ Stop
 
+-- once the slots were read: keeps the proposal where no other slot held it, or makes the next one
+abbrev pub name_after : ℕ → Block
+name_after slots =
+    If (Two (Var 1) Equal (Number 0)) (Emit (One (Var 0)) ▸ Halt ▸ Stop) Stop ▸
+    set 4 (One (Number 0)) ▸
+    Repeat (One (Number (2 * slots - 1))) (name_turn slots) ▸
+    set 0 (One (Var 4)) ▸
+    Stop
+
 -- writes the proposal, reads the other slots, and keeps the proposal or makes the next one
 abbrev pub name_round : ℕ → ℕ → ℕ → Block
 name_round base slots slot =
@@ -224,17 +233,42 @@ name_round base slots slot =
     set 2 (One (Number 1)) ▸
     set 3 (One (Number 0)) ▸
     Repeat (One (Number slots)) (name_slot base slot) ▸
-    If (Two (Var 1) Equal (Number 0)) (Emit (One (Var 0)) ▸ Halt ▸ Stop) Stop ▸
-    set 4 (One (Number 0)) ▸
-    Repeat (One (Number (2 * slots - 1))) (name_turn slots) ▸
-    set 0 (One (Var 4)) ▸
-    Stop
+    name_after slots
 
 -- rounds until no other slot holds the proposal, or there were as many as a `repeat` has
 abbrev pub name_body : ℕ → ℕ → ℕ → Block
 name_body base slots slot =
     set 0 (One (Number 1)) ▸
     Repeat (One (Number MOST_TURNS)) (name_round base slots slot) ▸
+    Stop
+
+-- ---- names: a renaming that scans its slots at once, into the cells
+
+-- what a slot held, whose number is variable 3: a clash where it is the proposal, a higher rank where the slot is smaller and held something
+abbrev pub names_slot : ℕ → Block
+names_slot slot =
+    If (Two (CellOf 3) Equal (Var 0)) (set 1 (One (Number 1)) ▸ Stop) Stop ▸
+    If (Two (Var 3) Less (Number slot)) name_rank Stop ▸
+    set 3 (Two (Var 3) Add (Number 1)) ▸
+    Stop
+
+-- writes the proposal, scans the slots, of which the own one counts as empty, and keeps the proposal or makes the next one
+abbrev pub names_round : ℕ → ℕ → ℕ → Block
+names_round base slots slot =
+    Write (Number (base + slot)) (One (Var 0)) ▸
+    Scan 0 base slots ▸
+    Assign (target.Cell slot) (One (Number 0)) ▸
+    set 1 (One (Number 0)) ▸
+    set 2 (One (Number 1)) ▸
+    set 3 (One (Number 0)) ▸
+    Repeat (One (Number slots)) (names_slot slot) ▸
+    name_after slots
+
+-- rounds until no other slot holds the proposal, or there were as many as a `repeat` has
+abbrev pub names_body : ℕ → ℕ → ℕ → Block
+names_body base slots slot =
+    set 0 (One (Number 1)) ▸
+    Repeat (One (Number MOST_TURNS)) (names_round base slots slot) ▸
     Stop
 
 -- ---- each kind over so many registers, its numbers in the order of the use line
@@ -255,12 +289,17 @@ tree_program base depth id value registers = record { registers = registers; bod
 abbrev pub name_program : ℕ → ℕ → ℕ → ℕ → Program
 name_program base slots slot registers = record { registers = registers; body = name_body base slots slot }
 
+-- a renaming that scans
+abbrev pub names_program : ℕ → ℕ → ℕ → ℕ → Program
+names_program base slots slot registers = record { registers = registers; body = names_body base slots slot }
+
 -- the statements that a use line stands for
 abbrev pub use_body : Use → Block
 use_body (Split base id) = split_body base id
 use_body (Grid base side id) = grid_body base side id
 use_body (Tree base depth id value) = tree_body base depth id value
 use_body (Name base slots slot) = name_body base slots slot
+use_body (Names base slots slot) = names_body base slots slot
 
 -- the program that a use line stands for
 abbrev pub expansion : Use → ℕ → Program

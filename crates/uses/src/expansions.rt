@@ -10,12 +10,14 @@ ghost use Rattle.uses.specs.Uses.{numbers_fit, registers_end, use_fits};
 
 mod grid;
 mod name;
+mod names;
 mod split;
 mod tree;
 
 use crate::kinds::Use;
 use grid::grid_block;
 use name::name_block;
+use names::names_block;
 use regmodel::{OutOfMemory, Prog, Stmt};
 use split::split_block;
 use std::alloc::Global;
@@ -63,5 +65,6 @@ fn block(alloc: Global, kind: &Use) -> Result<Vec<Stmt>, OutOfMemory>
         Use::Grid(base, side, id) => grid_block(alloc, base, side, id),
         Use::Tree(base, depth, id, value) => tree_block(alloc, base, depth, id, value),
         Use::Name(base, slots, slot) => name_block(alloc, base, slots, slot),
+        Use::Names(base, slots, slot) => names_block(alloc, base, slots, slot),
     }
 }

@@ -20,6 +20,8 @@ pub enum Use {
     Tree(u32, u32, u32, u32),
     /// A renaming: BASE; SLOTS, 1 to 8; SLOT, that of the process, below SLOTS. It takes SLOTS registers.
     Name(u32, u32, u32),
+    /// A renaming that scans its slots at once: BASE, SLOTS, SLOT, as those of a renaming. It takes SLOTS registers.
+    Names(u32, u32, u32),
 }
 
 impl Use {
@@ -64,7 +66,9 @@ fn numbers_fit(kind: &Use) -> bool
         Use::Tree(_, depth, id, value) => {
             is_between(1, MOST_LEVELS, depth) && is_mark(id) && is_mark(value)
         }
-        Use::Name(_, slots, slot) => is_between(1, MOST_SLOTS, slots) && slot < slots,
+        Use::Name(_, slots, slot) | Use::Names(_, slots, slot) => {
+            is_between(1, MOST_SLOTS, slots) && slot < slots
+        }
     }
 }
 
@@ -77,7 +81,9 @@ fn registers_end(kind: &Use) -> u64
         Use::Split(base, _) => u64::from(base) + 2,
         Use::Grid(base, side, _) => u64::from(base) + u64::from(side * (side + 1)),
         Use::Tree(base, depth, _, _) => u64::from(base) + u64::from(4 * vertices(depth)),
-        Use::Name(base, slots, _) => u64::from(base) + u64::from(slots),
+        Use::Name(base, slots, _) | Use::Names(base, slots, _) => {
+            u64::from(base) + u64::from(slots)
+        }
     }
 }
 

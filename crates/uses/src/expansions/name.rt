@@ -77,7 +77,7 @@ fn other(alloc: Global, base: u32, slot: u32) -> Result<Vec<Stmt>, OutOfMemory>
 }
 
 /// A higher rank where a smaller slot holds something.
-fn rank(alloc: Global) -> Result<Vec<Stmt>, OutOfMemory>
+pub(super) fn rank(alloc: Global) -> Result<Vec<Stmt>, OutOfMemory>
     ensures { IfOk result (λ block. block_of block.items ≡ name_rank) }
 {
     let higher = vec![in alloc; Assign(Target::Var(2), Two(Var(2), Add, Number(1)))]?;
@@ -85,7 +85,7 @@ fn rank(alloc: Global) -> Result<Vec<Stmt>, OutOfMemory>
 }
 
 /// The next number, until the rank is used up.
-fn turn(alloc: Global, slots: u32) -> Result<Vec<Stmt>, OutOfMemory>
+pub(super) fn turn(alloc: Global, slots: u32) -> Result<Vec<Stmt>, OutOfMemory>
     ensures { IfOk result (λ block. block_of block.items ≡ name_turn slots) }
 {
     let next = next(alloc, slots)?;
