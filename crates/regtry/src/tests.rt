@@ -1,21 +1,210 @@
-//! The program over files in memory.
+//! What no run of the program shows: writers that take nothing or pass nothing on, and what the words ask for.
 
-mod agreements;
-mod asking;
-mod checks;
-mod drawings;
-mod examples;
-mod explanations;
-mod files;
-mod least;
-mod native_machines;
-mod progress;
-mod replays;
-mod reports;
-mod several_workers;
-mod sources;
-mod texts;
-mod transcripts;
-mod tutorial;
-mod words;
-mod writes;
+use cli::{Refusal, Task, command, perform};
+use std::alloc::Global;
+use std::io;
+use std::io::Write;
+use std::process::Abort;
+use std::sync::Wait;
+use std::test::Fail;
+use std::thread::Threads;
+
+/// One process writes a register, another reads and emits it.
+const WRITER_AND_READER: &[u8] =
+    b"registers 1\nprocess\nwrite 0 5\nend\nprocess\nread v0 0\nemit v0\nend\n";
+
+/// Two processes at a splitter, of which at most none may have the name 3.
+const SPLITTER: &[u8] =
+    b"registers 2\nprocess\nuse split 0 1\nend\nprocess\nuse split 0 2\nend\ncheck atmost 3 0\n";
+
+/// Words that explore, and words that replay.
+const PRINTING: [&[&str]; 2] = [
+    &[
+        "regtry",
+        "explore",
+        "FILE",
+        "--length",
+        "2",
+        "--crashes",
+        "0",
+        "--workers",
+        "2",
+        "--cut",
+        "1",
+        "--room",
+        "16",
+    ],
+    &["regtry", "replay", "FILE", "R1 R0"],
+];
+
+/// Runs of which one process may crash. The last word asks for progress.
+const TELLING: [&[&str]; 3] = [
+    &[
+        "regtry",
+        "explore",
+        "FILE",
+        "--length",
+        "2",
+        "--crashes",
+        "1",
+        "--cut",
+        "2",
+        "--room",
+        "16",
+        "--workers",
+        "2",
+        "--progress",
+    ],
+    &[
+        "regtry",
+        "explore",
+        "FILE",
+        "--least",
+        "--length",
+        "2",
+        "--crashes",
+        "1",
+        "--cut",
+        "2",
+        "--room",
+        "16",
+        "--workers",
+        "2",
+        "--progress",
+    ],
+    &[
+        "regtry",
+        "check",
+        "FILE",
+        "--crashes",
+        "1",
+        "--workers",
+        "2",
+        "--progress",
+    ],
+];
+
+/// A writer that takes no byte.
+#[derive(Drop)]
+struct Closed;
+
+impl Write for Closed {
+    fn write(&mut self, _buf: &[u8]) -> io::Result<usize> {
+        Ok(0)
+    }
+
+    fn flush(&mut self) -> io::Result<()> {
+        Ok(())
+    }
+}
+
+/// A writer that takes each byte and does not pass them on.
+#[derive(Drop)]
+struct Stuck;
+
+impl Write for Stuck {
+    fn write(&mut self, buf: &[u8]) -> io::Result<usize> {
+        Ok(buf.len())
+    }
+
+    fn flush(&mut self) -> io::Result<()> {
+        Err(io::Error::from(io::ErrorKind::Other))
+    }
+}
+
+/// The list of these words.
+fn list_of<'a>(alloc: Global, words: &[&'a str]) -> Result<Vec<&'a str>, Refusal> {
+    let mut list = Vec::new(alloc);
+    for word in words {
+        list.push(*word)?;
+    }
+    Ok(list)
+}
+
+/// The status of words on a file, where standard output and standard error are these.
+fn asked<H: Threads + Wait + Sync + AllocGlobal, W: Write, E: Write + Send>(
+    rt: &H,
+    words: &[&str],
+    file: &'static [u8],
+    out: &mut W,
+    err: &mut E,
+) -> u8 {
+    let words = list_of(rt.alloc(), words);
+    perform(rt, rt.alloc(), words, |_path: &str| Some(file), out, err)
+}
+
+/// Asserts that a fault of this writer is told.
+fn assert_fault_told<H: Abort + Threads + Wait + Sync + AllocGlobal, W: Write>(
+    rt: &H,
+    words: &[&str],
+    out: &mut W,
+) {
+    let mut err = Vec::new(rt.alloc());
+    let status = asked(rt, words, WRITER_AND_READER, out, &mut err);
+    let line = b"regtry: write\n".as_slice();
+    assert_eq!(rt; (status, err.as_slice()), (3, line));
+}
+
+#[test]
+fn output_that_is_not_taken_is_a_write_fault(rt: HostRuntime) {
+    for words in PRINTING {
+        assert_fault_told(&rt, words, &mut Closed);
+        let status = asked(&rt, words, WRITER_AND_READER, &mut Closed, &mut Closed);
+        assert_eq!(rt; status, 3);
+    }
+}
+
+#[test]
+fn output_that_is_not_passed_on_is_a_write_fault(rt: HostRuntime) {
+    for words in PRINTING {
+        assert_fault_told(&rt, words, &mut Stuck);
+    }
+}
+
+#[test]
+fn a_writer_that_takes_no_line_of_progress_changes_nothing(rt: HostRuntime) {
+    for words in TELLING {
+        let (mut silent, mut err) = (Vec::new(rt.alloc()), Vec::new(rt.alloc()));
+        let (_, unasked) = words.split_last().unwrap_or((&"", words));
+        let status = asked(&rt, unasked, SPLITTER, &mut silent, &mut err);
+        let mut told = Vec::new(rt.alloc());
+        let answer = asked(&rt, words, SPLITTER, &mut told, &mut Closed);
+        assert_eq!(rt; (answer, told.as_slice()), (status, silent.as_slice()));
+    }
+}
+
+#[test]
+fn each_option_says_its_own_setting(rt: HostRuntime) -> Result<(), Fail> {
+    let words = [
+        "regtry",
+        "explore",
+        "FILE",
+        "--crashes",
+        "1",
+        "--length",
+        "5",
+        "--room",
+        "16",
+        "--workers",
+        "2",
+        "--cut",
+        "3",
+        "--text",
+    ];
+    for (words, interpreted) in [(words.as_slice(), true), (&words[..13], false)] {
+        let mut err = Vec::new(rt.alloc());
+        let order = command(rt.alloc(), words, 2, &mut err)
+            .ok()
+            .ok_or("refused words")?;
+        let Task::Explore { settings, native } = order.task() else {
+            return Err(Fail::from("no exploration"));
+        };
+        let bounds = (settings.length(), settings.crashes());
+        let sharing = (settings.workers(), settings.cut(), settings.room());
+        assert_eq!(rt;
+            (bounds, sharing, *native),
+            ((5, 1), (2, 3, 16), !interpreted)
+        );
+    }
+    Ok(())
+}
