@@ -7,6 +7,7 @@ use Rattle.regmodel.specs.declared.programs.Operand.TheVariants as operand
 use Rattle.regmodel.specs.declared.programs.Target.TheVariants as target
 use Rattle.regmodel.specs.Program.{Program, Read, Emit, Stop}
 use Rattle.regmodel.specs.Act.{act_of}
+use Rattle.regmodel.specs.Reply.{Replies}
 use Rattle.calling.specs.declared.looker.Stage.{Stage}
 use Rattle.calling.specs.declared.looker.Stage.TheVariants.{Looks, Saw, Ended}
 
@@ -15,7 +16,7 @@ abbrev pub looking : ℕ → ℕ → Program
 looking registers register = record { registers = registers; body = Read (target.Var 0) (operand.Number register) (Emit (One (operand.Var 0)) Stop) }
 
 -- at its read what its program does from its start; then it is done
-abbrev pub looker_rest : Program → Stage → List ℕ → Pending
+abbrev pub looker_rest : Program → Stage → Replies → Pending
 looker_rest program Looks s = act_of program s
 looker_rest program (Saw value) s = Done (record { items = value ∷ [] })
 looker_rest program Ended s = Done (record { items = [] })

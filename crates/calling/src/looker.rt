@@ -3,7 +3,7 @@
 ghost use Rattle.std.specs.Prelude.{◌≡◌, ◌<◌, ◌≤◌, IfSome};
 ghost use Rattle.regmodel.specs.OfProg.{program_of};
 
-use machine::Machine;
+use machine::{Machine, value_of};
 use regmodel::{Access, Expr, Numbers, Operand, Pending, Prog, Stmt, Target};
 
 /// Where a looker stands.
@@ -72,9 +72,9 @@ impl Machine for Looker {
         }
     }
 
-    fn feed(&mut self, reply: u32) {
+    fn feed(&mut self, reply: &[u32]) {
         self.stage = match self.stage {
-            Stage::Looks => Stage::Saw(reply),
+            Stage::Looks => Stage::Saw(value_of(reply)),
             over => over,
         };
     }

@@ -36,7 +36,7 @@ impl Machine for Player {
         }
     }
 
-    fn feed(&mut self, reply: u32) {
+    fn feed(&mut self, reply: &[u32]) {
         match self {
             Player::Text(machine) => machine.feed(reply),
             Player::Looker(machine) => machine.feed(reply),

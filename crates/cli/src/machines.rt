@@ -8,7 +8,7 @@ ghost use Rattle.cli.specs.declared.machines.ProcessMachine.TheVariants as proce
 
 use crate::refusals::Refusal;
 use machine::{Interp, Machine};
-use natives::{Grid, MakeFault, NameSlots, Split, Tree};
+use natives::{Grid, MakeFault, NameSlots, Names, Split, Tree};
 use reglang::{Source, Use};
 use regmodel::Pending;
 use std::alloc::Global;
@@ -21,12 +21,13 @@ pub enum ProcessMachine {
     Grid(Grid),
     Tree(Tree),
     Name(NameSlots),
+    Names(Names),
 }
 
 impl Machine for ProcessMachine {
-    ghost program = { λ m. elim m [ process.Text i ↦ ⟦<Interp as Machine>⟧.program i | process.Split i ↦ ⟦<Split as Machine>⟧.program i | process.Grid i ↦ ⟦<Grid as Machine>⟧.program i | process.Tree i ↦ ⟦<Tree as Machine>⟧.program i | process.Name i ↦ ⟦<NameSlots as Machine>⟧.program i ] };
+    ghost program = { λ m. elim m [ process.Text i ↦ ⟦<Interp as Machine>⟧.program i | process.Split i ↦ ⟦<Split as Machine>⟧.program i | process.Grid i ↦ ⟦<Grid as Machine>⟧.program i | process.Tree i ↦ ⟦<Tree as Machine>⟧.program i | process.Name i ↦ ⟦<NameSlots as Machine>⟧.program i | process.Names i ↦ ⟦<Names as Machine>⟧.program i ] };
 
-    ghost rest = { λ m. elim m [ process.Text i ↦ ⟦<Interp as Machine>⟧.rest i | process.Split i ↦ ⟦<Split as Machine>⟧.rest i | process.Grid i ↦ ⟦<Grid as Machine>⟧.rest i | process.Tree i ↦ ⟦<Tree as Machine>⟧.rest i | process.Name i ↦ ⟦<NameSlots as Machine>⟧.rest i ] };
+    ghost rest = { λ m. elim m [ process.Text i ↦ ⟦<Interp as Machine>⟧.rest i | process.Split i ↦ ⟦<Split as Machine>⟧.rest i | process.Grid i ↦ ⟦<Grid as Machine>⟧.rest i | process.Tree i ↦ ⟦<Tree as Machine>⟧.rest i | process.Name i ↦ ⟦<NameSlots as Machine>⟧.rest i | process.Names i ↦ ⟦<Names as Machine>⟧.rest i ] };
 
     fn reset(&mut self) {
         match self {
@@ -35,6 +36,7 @@ impl Machine for ProcessMachine {
             ProcessMachine::Grid(machine) => machine.reset(),
             ProcessMachine::Tree(machine) => machine.reset(),
             ProcessMachine::Name(machine) => machine.reset(),
+            ProcessMachine::Names(machine) => machine.reset(),
         }
     }
 
@@ -45,16 +47,18 @@ impl Machine for ProcessMachine {
             ProcessMachine::Grid(machine) => machine.pending(),
             ProcessMachine::Tree(machine) => machine.pending(),
             ProcessMachine::Name(machine) => machine.pending(),
+            ProcessMachine::Names(machine) => machine.pending(),
         }
     }
 
-    fn feed(&mut self, reply: u32) {
+    fn feed(&mut self, reply: &[u32]) {
         match self {
             ProcessMachine::Text(machine) => machine.feed(reply),
             ProcessMachine::Split(machine) => machine.feed(reply),
             ProcessMachine::Grid(machine) => machine.feed(reply),
             ProcessMachine::Tree(machine) => machine.feed(reply),
             ProcessMachine::Name(machine) => machine.feed(reply),
+            ProcessMachine::Names(machine) => machine.feed(reply),
         }
     }
 
@@ -65,6 +69,7 @@ impl Machine for ProcessMachine {
             ProcessMachine::Grid(machine) => machine.end(),
             ProcessMachine::Tree(machine) => machine.end(),
             ProcessMachine::Name(machine) => machine.end(),
+            ProcessMachine::Names(machine) => machine.end(),
         }
     }
 }
@@ -113,6 +118,9 @@ fn native_of(kind: &Use, registers: u32) -> Result<ProcessMachine, MakeFault>
             base, depth, id, value, registers,
         )?)),
         Use::Name(base, slots, slot) => Ok(ProcessMachine::Name(NameSlots::make(
+            base, slots, slot, registers,
+        )?)),
+        Use::Names(base, slots, slot) => Ok(ProcessMachine::Names(Names::make(
             base, slots, slot, registers,
         )?)),
     }

@@ -1,5 +1,5 @@
 -- What a process reads is a register that is there.
-use Rattle.std.proofs.Common.{◌≡◌, ℕ, ◌<◌, List, Some, subst}
+use Rattle.std.proofs.Common.{◌≡◌, ℕ, ◌<◌, List, Some, arith}
 use Rattle.regmodel.specs.declared.letters.Letter.{Letter}
 use Rattle.regmodel.specs.declared.accesses.Access.TheVariants as access
 use Rattle.regmodel.specs.declared.accesses.Pending.{Pending}
@@ -12,8 +12,9 @@ use Rattle.world.specs.Fit.{AreFit}
 use Rattle.world.proofs.Limits.{WantsWithin, pending_after-there}
 
 read-within : (n : ℕ) (x : Pending) (r : ℕ) → access_of x ≡ Some (access.Read r) → IsAccessWithin n x → r < n
-read-within n (Wants (access.Read q)) r e h = let same : q ≡ r = cc in subst (λ k. k < n) same h
+read-within n (Wants (access.Read q)) r e h = let same : q ≡ r = cc in omega (arith, same, h.2)
 read-within n (Wants (access.Write q v)) r e h = absurd (cc e)
+read-within n (Wants (access.Scan first count)) r e h = absurd (cc e)
 read-within n (Done numbers) r e h = absurd (cc e)
 read-within n (Fault code) r e h = absurd (cc e)
 

@@ -3,7 +3,7 @@
 use Rattle.std.specs.Prelude.{ℕ, ◌-◌, ◌==◌, List, [], ◌++◌, length, Option, Some, None, codes, decimal, if◌then◌else◌, nat_le, slice_get}
 use Rattle.texts.specs.OutcomeText.{end_text}
 use Rattle.drawing.specs.declared.drawings.Deed.{Deed}
-use Rattle.drawing.specs.declared.drawings.Deed.TheVariants.{Read, Write, Crash}
+use Rattle.drawing.specs.declared.drawings.Deed.TheVariants.{Read, Write, Scan, Crash}
 use Rattle.drawing.specs.declared.drawings.Held.{Held}
 use Rattle.drawing.specs.declared.drawings.Row.{Row}
 use Rattle.drawing.specs.Pictures.{Picture}
@@ -12,6 +12,7 @@ use Rattle.drawing.specs.Pictures.{Picture}
 abbrev pub deed_text : Deed → List ℕ
 deed_text (Read r v) = codes "read " ++ decimal r ++ codes " = " ++ decimal v
 deed_text (Write r v) = codes "write " ++ decimal r ++ codes " " ++ decimal v
+deed_text (Scan first count) = codes "scan " ++ decimal first ++ codes " " ++ decimal count
 deed_text Crash = codes "crash"
 
 -- what a register holds; a star follows where the letter changed it

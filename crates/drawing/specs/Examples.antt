@@ -4,7 +4,7 @@ use Rattle.std.specs.Fmt.{digits}
 use Rattle.regmodel.specs.declared.letters.Letter.TheVariants.{Run, Crash}
 use Rattle.regmodel.specs.declared.outcomes.End.TheVariants as end
 use Rattle.regmodel.specs.Wanted.{wanted_after}
-use Rattle.regmodel.specs.Examples.{two_writers, writer_and_reader}
+use Rattle.regmodel.specs.Examples.{scans_two, two_writers, writer_and_reader}
 use Rattle.regmodel.specs.Replies.{value_after}
 use Rattle.drawing.specs.declared.drawings.Deed.TheVariants as deed
 use Rattle.drawing.specs.declared.drawings.Held.{Held}
@@ -23,6 +23,9 @@ changed_to value = record { value = value; changed = true }
 
 pub reads_what_was_written : deed_by (value_after writer_and_reader (Run 0 ∷ [])) (Run 1) (wanted_after writer_and_reader (Run 0 ∷ []) 1) ≡ Some (deed.Read 0 5)
 reads_what_was_written = refl
+
+pub a_scan_is_drawn_without_its_values : deed_by (value_after (scans_two ∷ []) []) (Run 0) (wanted_after (scans_two ∷ []) [] 0) ≡ Some (deed.Scan 0 2)
+a_scan_is_drawn_without_its_values = refl
 
 pub crash_reads_nothing : deed_by (value_after writer_and_reader []) (Crash 1) (wanted_after writer_and_reader [] 1) ≡ Some deed.Crash
 crash_reads_nothing = refl

@@ -27,6 +27,7 @@ pub record Picture : Type 0 where
 abbrev pub deed_by : (ℕ → ℕ) → Letter → Option Access → Option Deed
 deed_by values (letter.Run p) (Some (access.Read r)) = Some (deed.Read r (values r))
 deed_by values (letter.Run p) (Some (access.Write r v)) = Some (deed.Write r v)
+deed_by values (letter.Run p) (Some (access.Scan first count)) = Some (deed.Scan first count)
 deed_by values (letter.Run p) None = None
 deed_by values (letter.Crash p) wanted = Some deed.Crash
 

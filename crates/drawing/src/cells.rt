@@ -90,6 +90,11 @@ fn deed_cell(deed: Deed) -> Cell
             .with_number(u32::from(r))
             .with(b" ")
             .with_number(value),
+        Deed::Scan(first, count) => Cell::new()
+            .with(b"scan ")
+            .with_number(u32::from(first))
+            .with(b" ")
+            .with_number(u32::from(count)),
         Deed::Crash => Cell::new().with(b"crash"),
     }
 }

@@ -13,6 +13,8 @@ pub enum Deed {
     Read(u8, u32),
     /// It wrote into this register this value.
     Write(u8, u32),
+    /// It read from this register on so many at once; what they held stands in their columns.
+    Scan(u8, u8),
     /// Its process crashed. It is the default because `ArrayVec` asks for one.
     #[default]
     Crash,

@@ -7,6 +7,7 @@ ghost use Rattle.regmodel.specs.declared.accesses.Pending.TheVariants.{Done};
 ghost use Rattle.regmodel.specs.Program.{Program};
 ghost use Rattle.regmodel.specs.Act.{act_of};
 ghost use Rattle.regmodel.specs.Lawful.{IsReplyTo, IsLawful};
+ghost use Rattle.regmodel.specs.Reply as replies;
 ghost use Rattle.regmodel.specs.Reply.{Replies};
 
 mod emitted;
@@ -47,6 +48,13 @@ pub trait Machine: Drop + Send {
     fn end(&mut self)
         ensures same { program self.new ≡ program self.old }
         ensures ended { (s : Replies) → rest self.new s ≡ Done (record { items = [] }) };
+}
+
+/// The first value of a reply; 0 where it has none.
+pub fn value_of(reply: &[u32]) -> u32
+    ensures { result ≡ replies.value_of reply.now }
+{
+    reply.first().copied().unwrap_or(0)
 }
 
 // Each call of a boxed machine stands in a function of its own, by whose name a proof knows what it promises.

@@ -2,7 +2,6 @@
 
 ghost use Rattle.std.specs.Prelude.{◌≡◌, ℕ, ◌+◌, ◌<◌, ◌≤◌, [], ◌∷◌, IsTrue, length, drop};
 ghost use Rattle.regmodel.specs.Reply.{Replies};
-ghost use Rattle.regmodel.specs.Reply as replies;
 ghost use Rattle.regmodel.specs.Program.{Block, Stop, with_stmt, block_of};
 ghost use Rattle.regmodel.specs.Limits.{open_blocks, operands_fit};
 ghost use Rattle.regmodel.specs.declared.limits.TheConstants.{MOST_REGISTERS};
@@ -11,15 +10,9 @@ ghost use Rattle.machine.specs.Paths.{resume, part_flow};
 ghost use Rattle.machine.specs.Exits.{stmt_flow, StmtAsks, block_flow, BlockAsks, IsWanting};
 
 use crate::run::{BlockExit, Frame, Part, StmtExit, block_of_arm, run_block, run_turns, stmt_exit};
+use crate::value_of;
 use crate::values::Store;
 use regmodel::Stmt;
-
-/// The first value of a reply; 0 where it has none.
-fn value_of(reply: &[u32]) -> u32
-    ensures { result ≡ replies.value_of reply.now }
-{
-    reply.first().copied().unwrap_or(0)
-}
 
 /// Goes on with a statement from its part past the reply. The path further down lies in the frames above the depth, and
 /// so does the one to the place where it stops again.
