@@ -71,7 +71,10 @@ const READ: [(&[u8], &[u8]); 33] = [
     (b"scan 0 62 2", b"scan 0 62 2\n"),
     (b"  scan  31 63  1 ", b"scan 31 63 1\n"),
     (b"scan 0 32 32", b"scan 0 32 32\n"),
-    (b"repeat 2\n scan 3 0 1\ndone", b"repeat 2\nscan 3 0 1\ndone\n"),
+    (
+        b"repeat 2\n scan 3 0 1\ndone",
+        b"repeat 2\nscan 3 0 1\ndone\n",
+    ),
     (b"if v1\nelse\nfi", b"if v1\nfi\n"),
     (b"repeat 99\ndone", b"repeat 99\ndone\n"),
     (b"halt", b"halt\n"),

@@ -69,7 +69,11 @@ const REFUSED: [(&[u8], u64, u8); 66] = [
     (b"registers 2\nprocess\nread v0 scan\nend\n", 3, 2),
     (b"registers 2\nprocess\nnames 0 2 0\nend\n", 3, 2),
     (b"registers 2\nscan 0 0 2\n", 2, 5),
-    (b"registers 2\nprocess\nuse names 0 2 0\nscan 0 0 2\nend\n", 4, 5),
+    (
+        b"registers 2\nprocess\nuse names 0 2 0\nscan 0 0 2\nend\n",
+        4,
+        5,
+    ),
     (b"registers 1\nprocess\nhalt\nend\ncheck atmost 1\n", 5, 8),
     (b"registers 1\nprocess\nhalt\nend\ncheck atmost 1 9\n", 5, 8),
     (
