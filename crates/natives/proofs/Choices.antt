@@ -1,8 +1,9 @@
 -- What a renaming in progress does, by where it stands.
-use Rattle.std.proofs.Common.{◌≡◌, ◌≢◌, ℕ, zero, suc, ◌+◌, ◌-◌, ◌*◌, ◌≤◌, Bool, true, false, not, ◌&&◌, ◌||◌, cond, List, [], ◌∷◌, take, refl, ap, ◌∙◌, arith}
+use Rattle.std.proofs.Common.{◌≡◌, ◌≢◌, ℕ, zero, suc, ◌+◌, ◌-◌, ◌*◌, ◌≤◌, Bool, true, false, not, ◌&&◌, ◌||◌, cond, [], ◌∷◌, take, refl, ap, ◌∙◌, arith}
 use Rattle.std.specs.Prelude.{nat_lt, ◌==◌, slice_set}
 use Rattle.regmodel.specs.declared.accesses.Pending.{Pending}
 use Rattle.regmodel.specs.declared.accesses.Pending.TheVariants.{Done}
+use Rattle.regmodel.specs.Reply.{Reply, Replies, value_of}
 use Rattle.natives.specs.declared.names.NameSlots.{NameSlots}
 use Rattle.natives.specs.declared.names.Reading.{Reading}
 use Rattle.natives.specs.declared.names.Stage.{Stage}
@@ -34,39 +35,40 @@ rank-past true (suc held) rank = let some : suc held ≢ 0 = omega arith in rw (
 rank-past false held rank = refl
 
 module _ (m : NameSlots) where
-  abbrev pub rest_at : Stage → List ℕ → Pending
+  abbrev pub rest_at : Stage → Replies → Pending
   rest_at stage s = name_rest (from_round m.base m.slots m.slot m.registers (suc m.later) m.proposal (cells_of m.seen)) (from_reading m.base m.slots m.slot m.registers m.later m.proposal m.seen) m.proposal stage s
 
-  abbrev reads_on : Reading → List ℕ → Pending
+  abbrev reads_on : Reading → Replies → Pending
   reads_on = from_reading m.base m.slots m.slot m.registers m.later m.proposal m.seen
 
-  abbrev ends_round : Reading → List ℕ → Pending
+  abbrev ends_round : Reading → Replies → Pending
   ends_round reading s = from_after m.base m.slots m.slot m.registers m.later (at_slot m.proposal (bit reading.clash) reading.rank reading.at (cells_of m.seen)) s
 
   -- a round that ends with a clash
-  pub ends-clash : (reading : Reading) (s : List ℕ) → reading.clash ≡ true → ends_round reading s ≡ from_round m.base m.slots m.slot m.registers m.later (number_from (take m.slots m.seen) (2 * m.slots - 1) reading.rank 0) (cells_of m.seen) s
+  pub ends-clash : (reading : Reading) (s : Replies) → reading.clash ≡ true → ends_round reading s ≡ from_round m.base m.slots m.slot m.registers m.later (number_from (take m.slots m.seen) (2 * m.slots - 1) reading.rank 0) (cells_of m.seen) s
   ends-clash reading s e =
       ap (λ b. from_after m.base m.slots m.slot m.registers m.later (at_slot m.proposal (bit b) reading.rank reading.at (cells_of m.seen)) s) e
       ∙ finish-next m.base m.slots m.slot m.registers (choice m) m.seen m.eight m.later m.proposal reading.rank reading.at s
 
-  pub ends-over : (reading : Reading) (s : List ℕ) → reading.clash ≡ true → m.later ≡ 0 → ends_round reading s ≡ Done (record { items = [] })
+  pub ends-over : (reading : Reading) (s : Replies) → reading.clash ≡ true → m.later ≡ 0 → ends_round reading s ≡ Done (record { items = [] })
   ends-over reading s e none =
       let number = number_from (take m.slots m.seen) (2 * m.slots - 1) reading.rank 0 in
       ends-clash reading s e ∙ ap (λ n. from_round m.base m.slots m.slot m.registers n number (cells_of m.seen) s) none
 
-  pub reads-last : (reading : Reading) (s : List ℕ) → m.slots ≡ reading.at → ends_round reading s ≡ reads_on reading s
+  pub reads-last : (reading : Reading) (s : Replies) → m.slots ≡ reading.at → ends_round reading s ≡ reads_on reading s
   reads-last reading s e =
       let none : 0 ≡ m.slots - reading.at = omega arith in
       ap (λ n. from_slot m.base m.slots m.slot m.registers m.later n (at_slot m.proposal (bit reading.clash) reading.rank reading.at (cells_of m.seen)) s) none
 
-  pub reads-own : (reading : Reading) (s : List ℕ) → reading.at ≡ m.slot → reading.rank ≤ 8 → reads_on reading s ≡ reads_on (record reading { at = reading.at + 1 }) s
+  pub reads-own : (reading : Reading) (s : Replies) → reading.at ≡ m.slot → reading.rank ≤ 8 → reads_on reading s ≡ reads_on (record reading { at = reading.at + 1 }) s
   reads-own reading s e small = read-own m.base m.slots m.slot m.registers (choice m) m.seen m.eight m.later m.proposal reading.at reading.rank (bit reading.clash) s e m.own_empty small
 
-  pub reads-other : (reading : Reading) (held : ℕ) (s : List ℕ) → IsRead m.slots m.slot reading → reads_on reading (held ∷ s) ≡ from_reading m.base m.slots m.slot m.registers m.later m.proposal (slice_set m.seen reading.at held) (after_slot m.slot m.proposal held reading) s
-  reads-other reading held s h =
-      read-other m.base m.slots m.slot m.registers (choice m) m.seen m.eight m.later m.proposal reading.at reading.rank (bit reading.clash) held s h.other h.inside h.small
+  pub reads-other : (reading : Reading) (reply : Reply) (s : Replies) → IsRead m.slots m.slot reading → reads_on reading (reply ∷ s) ≡ from_reading m.base m.slots m.slot m.registers m.later m.proposal (slice_set m.seen reading.at (value_of reply)) (after_slot m.slot m.proposal (value_of reply) reading) s
+  reads-other reading reply s h =
+      let held = value_of reply in
+      read-other m.base m.slots m.slot m.registers (choice m) m.seen m.eight m.later m.proposal reading.at reading.rank (bit reading.clash) reply s h.other h.inside h.small
       ∙ ap (λ c. from_slot m.base m.slots m.slot m.registers m.later (m.slots - (reading.at + 1)) (at_slot m.proposal c (rank_after (nat_lt reading.at m.slot) held reading.rank) (reading.at + 1) (cells_of (slice_set m.seen reading.at held))) s) (clash-past reading.clash held m.proposal)
       ∙ ap (λ r. from_slot m.base m.slots m.slot m.registers m.later (m.slots - (reading.at + 1)) (at_slot m.proposal (bit (reading.clash || held == m.proposal)) r (reading.at + 1) (cells_of (slice_set m.seen reading.at held))) s) (rank-past (nat_lt reading.at m.slot) held reading.rank)
 
-  pub round-begins : (w : ℕ) (s : List ℕ) → from_round m.base m.slots m.slot m.registers (suc m.later) m.proposal (cells_of m.seen) (w ∷ s) ≡ reads_on first_slot s
+  pub round-begins : (w : Reply) (s : Replies) → from_round m.base m.slots m.slot m.registers (suc m.later) m.proposal (cells_of m.seen) (w ∷ s) ≡ reads_on first_slot s
   round-begins w s = round-read m.base m.slots m.slot m.registers (choice m) m.seen m.eight m.later m.proposal w s

@@ -6,6 +6,7 @@ use Rattle.regmodel.specs.declared.accesses.Access.TheVariants as access
 use Rattle.regmodel.specs.declared.accesses.Pending.{Pending}
 use Rattle.regmodel.specs.declared.accesses.Pending.TheVariants as pending
 use Rattle.regmodel.specs.Lawful.{IsReplyTo}
+use Rattle.regmodel.specs.Reply.{Reply, one}
 use Rattle.regmodel.specs.Act.{Flow, GoesOn, Wants, Ends, Faults, then_do, exec}
 use Rattle.regmodel.specs.Program.{Stop}
 
@@ -24,8 +25,8 @@ eq_yes a b h = grind (arith, nat_tests)
 pub eq_no : (a b : ℕ) → a ≢ b → (a == b) ≡ false
 eq_no a b h = grind (arith, nat_tests)
 
--- a write is answered by 0
-pub reply-zero : (p : Pending) (r v reply : ℕ) → p ≡ pending.Wants (access.Write r v) → IsReplyTo p reply → reply ≡ 0
+-- a write is answered by one 0
+pub reply-zero : (p : Pending) (r v : ℕ) (reply : Reply) → p ≡ pending.Wants (access.Write r v) → IsReplyTo p reply → reply ≡ one 0
 reply-zero p r v reply e h = subst (λ q. IsReplyTo q reply) e h
 
 -- a program's body ends where its loop does

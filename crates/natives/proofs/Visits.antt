@@ -1,9 +1,10 @@
 -- One turn of a grid: the splitter of a vertex.
-use Rattle.std.proofs.Common.{◌≡◌, ◌≢◌, ℕ, zero, suc, ◌+◌, ◌-◌, ◌*◌, ◌<◌, ◌≤◌, true, false, List, [], ◌∷◌, refl, ap, ◌∙◌, arith, replicate, mul-le-mul}
+use Rattle.std.proofs.Common.{◌≡◌, ◌≢◌, ℕ, zero, suc, ◌+◌, ◌-◌, ◌*◌, ◌<◌, ◌≤◌, true, false, [], ◌∷◌, refl, ap, sym, ◌∙◌, arith, replicate, mul-le-mul}
 use Rattle.std.specs.Prelude.{nat_lt, nat_le}
 use Rattle.regmodel.specs.declared.accesses.Access.TheVariants as access
 use Rattle.regmodel.specs.declared.accesses.Pending.TheVariants as pending
 use Rattle.regmodel.specs.Values.{Env}
+use Rattle.regmodel.specs.Reply.{Reply, Replies, value_of, one}
 use Rattle.regmodel.specs.Act.{Flow, GoesOn, Wants, Ends, exec, times, flow_pending, then_do}
 use Rattle.regmodel.specs.declared.accesses.Pending.{Pending}
 use Rattle.uses.specs.Expansions.{grid_visit}
@@ -58,26 +59,30 @@ module _ (base id registers level vertex : ℕ) (h : IsVertex base registers lev
   pub visit-marks : (a b c : ℕ) → exec (grid_visit base id) registers (at_vertex_with level vertex a b c) [] ≡ Wants (access.Write mark id)
   visit-marks a b c = rw (double, first, above, next, mark_there) refl
 
-  pub visit-tries : (a b c w : ℕ) → exec (grid_visit base id) registers (at_vertex_with level vertex a b c) (w ∷ []) ≡ Wants (access.Read (mark + 1))
+  pub visit-tries : (a b c : ℕ) (w : Reply) → exec (grid_visit base id) registers (at_vertex_with level vertex a b c) (w ∷ []) ≡ Wants (access.Read (mark + 1))
   visit-tries a b c w = rw (double, first, above, next, mark_there, door_there) refl
 
-  pub visit-right : (a b c w d : ℕ) (s : List ℕ) → exec (grid_visit base id) registers (at_vertex_with level vertex a b c) (w ∷ suc d ∷ s) ≡ GoesOn (at_vertex_with (level + 1) (vertex + level + 2) mark (mark + 1) (suc d)) s
-  visit-right a b c w d s = rw (double, first, above, next, mark_there, door_there, sum, sum_right, deeper) refl
+  pub visit-right : (a b c v : ℕ) (w door : Reply) (s : Replies) → value_of door ≡ suc v → exec (grid_visit base id) registers (at_vertex_with level vertex a b c) (w ∷ door ∷ s) ≡ GoesOn (at_vertex_with (level + 1) (vertex + level + 2) mark (mark + 1) (suc v)) s
+  visit-right a b c v w door s e = rw (double, first, above, next, mark_there, door_there, e, sum, sum_right, deeper) refl
 
-  pub visit-closes : (a b c w : ℕ) → exec (grid_visit base id) registers (at_vertex_with level vertex a b c) (w ∷ 0 ∷ []) ≡ Wants (access.Write (mark + 1) 1)
+  -- an open door is read as 0
+  pub visit-open : (a b c : ℕ) (w door : Reply) (s : Replies) → value_of door ≡ 0 → exec (grid_visit base id) registers (at_vertex_with level vertex a b c) (w ∷ door ∷ s) ≡ exec (grid_visit base id) registers (at_vertex_with level vertex a b c) (w ∷ one 0 ∷ s)
+  visit-open a b c w door s e = rw (double, first, above, next, mark_there, door_there, e) refl
+
+  pub visit-closes : (a b c : ℕ) (w : Reply) → exec (grid_visit base id) registers (at_vertex_with level vertex a b c) (w ∷ one 0 ∷ []) ≡ Wants (access.Write (mark + 1) 1)
   visit-closes a b c w = rw (double, first, above, next, mark_there, door_there) refl
 
-  pub visit-looks : (a b c w x : ℕ) → exec (grid_visit base id) registers (at_vertex_with level vertex a b c) (w ∷ 0 ∷ x ∷ []) ≡ Wants (access.Read mark)
+  pub visit-looks : (a b c : ℕ) (w x : Reply) → exec (grid_visit base id) registers (at_vertex_with level vertex a b c) (w ∷ one 0 ∷ x ∷ []) ≡ Wants (access.Read mark)
   visit-looks a b c w x = rw (double, first, above, next, mark_there, door_there) refl
 
-  pub visit-stops : (a b c w x last : ℕ) (s : List ℕ) → last ≡ id → exec (grid_visit base id) registers (at_vertex_with level vertex a b c) (w ∷ 0 ∷ x ∷ last ∷ s) ≡ Ends (vertex ∷ [])
-  visit-stops a b c w x last s e = rw (double, first, above, next, mark_there, door_there, eq_yes last id e) refl
+  pub visit-stops : (a b c : ℕ) (w x last : Reply) (s : Replies) → value_of last ≡ id → exec (grid_visit base id) registers (at_vertex_with level vertex a b c) (w ∷ one 0 ∷ x ∷ last ∷ s) ≡ Ends (vertex ∷ [])
+  visit-stops a b c w x last s e = rw (double, first, above, next, mark_there, door_there, eq_yes (value_of last) id e) refl
 
-  pub visit-down : (a b c w x last : ℕ) (s : List ℕ) → last ≢ id → exec (grid_visit base id) registers (at_vertex_with level vertex a b c) (w ∷ 0 ∷ x ∷ last ∷ s) ≡ GoesOn (at_vertex_with (level + 1) (vertex + level + 1) mark (mark + 1) last) s
-  visit-down a b c w x last s e = rw (double, first, above, next, mark_there, door_there, eq_no last id e, sum, sum_down, deeper) refl
+  pub visit-down : (a b c : ℕ) (w x last : Reply) (s : Replies) → value_of last ≢ id → exec (grid_visit base id) registers (at_vertex_with level vertex a b c) (w ∷ one 0 ∷ x ∷ last ∷ s) ≡ GoesOn (at_vertex_with (level + 1) (vertex + level + 1) mark (mark + 1) (value_of last)) s
+  visit-down a b c w x last s e = rw (double, first, above, next, mark_there, door_there, eq_no (value_of last) id e, sum, sum_down, deeper) refl
 
   -- what is left of the last turn plays no part
-  pub visit-same : (a b c : ℕ) (s : List ℕ) → exec (grid_visit base id) registers (at_vertex_with level vertex a b c) s ≡ exec (grid_visit base id) registers (at_vertex_with level vertex 0 0 0) s
+  pub visit-same : (a b c : ℕ) (s : Replies) → exec (grid_visit base id) registers (at_vertex_with level vertex a b c) s ≡ exec (grid_visit base id) registers (at_vertex_with level vertex 0 0 0) s
   visit-same a b c [] = rw (double, first, above, next, mark_there) refl
   visit-same a b c (w ∷ []) = rw (double, first, above, next, mark_there, door_there) refl
   visit-same a b c (w ∷ d ∷ s) = rw (double, first, above, next, mark_there, door_there) refl
@@ -86,33 +91,39 @@ module _ (base id registers : ℕ) where
   abbrev then_turns : ℕ → Flow → Pending
   then_turns turns f = flow_pending (then_do f (times turns (exec (grid_visit base id) registers)))
 
-  pub from-any : (turns level vertex a b c : ℕ) (s : List ℕ) → (0 < turns → IsVertex base registers level vertex) → flow_pending (times turns (exec (grid_visit base id) registers) (at_vertex_with level vertex a b c) s) ≡ grid_from base id registers turns level vertex s
+  pub from-any : (turns level vertex a b c : ℕ) (s : Replies) → (0 < turns → IsVertex base registers level vertex) → flow_pending (times turns (exec (grid_visit base id) registers) (at_vertex_with level vertex a b c) s) ≡ grid_from base id registers turns level vertex s
   from-any zero level vertex a b c s h = refl
   from-any (suc turns) level vertex a b c s h = ap (then_turns turns) (visit-same base id registers level vertex (h (omega arith)) a b c s)
 
   -- a turn, and then the others
-  one_turn : (turns k level vertex : ℕ) (s : List ℕ) → turns ≡ suc k → grid_from base id registers turns level vertex s ≡ then_turns k (exec (grid_visit base id) registers (at_vertex_with level vertex 0 0 0) s)
+  one_turn : (turns k level vertex : ℕ) (s : Replies) → turns ≡ suc k → grid_from base id registers turns level vertex s ≡ then_turns k (exec (grid_visit base id) registers (at_vertex_with level vertex 0 0 0) s)
   one_turn turns k level vertex s e = ap (λ n. grid_from base id registers n level vertex s) e
 
-  pub from-right : (turns k level vertex w reply : ℕ) (s : List ℕ) → turns ≡ suc k → IsVertex base registers level vertex → (0 < k → IsVertex base registers (level + 1) (vertex + level + 2)) → reply ≢ 0 → grid_from base id registers turns level vertex (w ∷ reply ∷ s) ≡ grid_from base id registers k (level + 1) (vertex + level + 2) s
-  from-right turns k level vertex w zero s e h more some = absurd (some refl)
-  from-right turns k level vertex w (suc d) s e h more some =
+  pub from-right : (turns k level vertex v : ℕ) (w door : Reply) (s : Replies) → turns ≡ suc k → IsVertex base registers level vertex → (0 < k → IsVertex base registers (level + 1) (vertex + level + 2)) → value_of door ≡ v → v ≢ 0 → grid_from base id registers turns level vertex (w ∷ door ∷ s) ≡ grid_from base id registers k (level + 1) (vertex + level + 2) s
+  from-right turns k level vertex zero w door s e h more value some = absurd (some refl)
+  from-right turns k level vertex (suc v) w door s e h more value some =
       one_turn turns k level vertex _ e
-      ∙ ap (then_turns k) (visit-right base id registers level vertex h 0 0 0 w d s)
+      ∙ ap (then_turns k) (visit-right base id registers level vertex h 0 0 0 v w door s value)
       ∙ from-any k (level + 1) (vertex + level + 2) _ _ _ s more
 
-  pub from-down : (turns k level vertex w x reply : ℕ) (s : List ℕ) → turns ≡ suc k → IsVertex base registers level vertex → (0 < k → IsVertex base registers (level + 1) (vertex + level + 1)) → reply ≢ id → grid_from base id registers turns level vertex (w ∷ 0 ∷ x ∷ reply ∷ s) ≡ grid_from base id registers k (level + 1) (vertex + level + 1) s
-  from-down turns k level vertex w x reply s e h more other =
+  pub from-open : (turns k level vertex : ℕ) (w door : Reply) (s : Replies) → turns ≡ suc k → IsVertex base registers level vertex → value_of door ≡ 0 → grid_from base id registers turns level vertex (w ∷ door ∷ s) ≡ grid_from base id registers turns level vertex (w ∷ one 0 ∷ s)
+  from-open turns k level vertex w door s e h value =
       one_turn turns k level vertex _ e
-      ∙ ap (then_turns k) (visit-down base id registers level vertex h 0 0 0 w x reply s other)
+      ∙ ap (then_turns k) (visit-open base id registers level vertex h 0 0 0 w door s value)
+      ∙ sym (one_turn turns k level vertex _ e)
+
+  pub from-down : (turns k level vertex : ℕ) (w x last : Reply) (s : Replies) → turns ≡ suc k → IsVertex base registers level vertex → (0 < k → IsVertex base registers (level + 1) (vertex + level + 1)) → value_of last ≢ id → grid_from base id registers turns level vertex (w ∷ one 0 ∷ x ∷ last ∷ s) ≡ grid_from base id registers k (level + 1) (vertex + level + 1) s
+  from-down turns k level vertex w x last s e h more other =
+      one_turn turns k level vertex _ e
+      ∙ ap (then_turns k) (visit-down base id registers level vertex h 0 0 0 w x last s other)
       ∙ from-any k (level + 1) (vertex + level + 1) _ _ _ s more
 
-  pub from-stops : (turns k level vertex w x reply : ℕ) (s : List ℕ) → turns ≡ suc k → IsVertex base registers level vertex → reply ≡ id → grid_from base id registers turns level vertex (w ∷ 0 ∷ x ∷ reply ∷ s) ≡ pending.Done (record { items = vertex ∷ [] })
-  from-stops turns k level vertex w x reply s e h same =
+  pub from-stops : (turns k level vertex : ℕ) (w x last : Reply) (s : Replies) → turns ≡ suc k → IsVertex base registers level vertex → value_of last ≡ id → grid_from base id registers turns level vertex (w ∷ one 0 ∷ x ∷ last ∷ s) ≡ pending.Done (record { items = vertex ∷ [] })
+  from-stops turns k level vertex w x last s e h same =
       one_turn turns k level vertex _ e
-      ∙ ap (then_turns k) (visit-stops base id registers level vertex h 0 0 0 w x reply s same)
+      ∙ ap (then_turns k) (visit-stops base id registers level vertex h 0 0 0 w x last s same)
 
-  pub from-closes : (turns k level vertex w : ℕ) → turns ≡ suc k → IsVertex base registers level vertex → grid_from base id registers turns level vertex (w ∷ 0 ∷ []) ≡ pending.Wants (access.Write (vertex * 2 + base - 2 + 1) 1)
+  pub from-closes : (turns k level vertex : ℕ) (w : Reply) → turns ≡ suc k → IsVertex base registers level vertex → grid_from base id registers turns level vertex (w ∷ one 0 ∷ []) ≡ pending.Wants (access.Write (vertex * 2 + base - 2 + 1) 1)
   from-closes turns k level vertex w e h =
       one_turn turns k level vertex _ e
       ∙ ap (then_turns k) (visit-closes base id registers level vertex h 0 0 0 w)

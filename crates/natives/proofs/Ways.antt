@@ -1,13 +1,14 @@
 -- What a collect tree in progress does, by where it stands.
-use Rattle.std.proofs.Common.{◌≡◌, ◌≢◌, ℕ, suc, ◌+◌, ◌-◌, ◌*◌, ◌^◌, ◌<◌, ◌≤◌, true, false, List, [], ◌∷◌, ◌++◌, length, set, replicate, refl, ap, sym, ◌∙◌, subst, arith}
+use Rattle.std.proofs.Common.{◌≡◌, ◌≢◌, ℕ, suc, ◌+◌, ◌-◌, ◌*◌, ◌^◌, ◌<◌, ◌≤◌, true, false, [], ◌∷◌, ◌++◌, length, set, replicate, refl, ap, sym, ◌∙◌, subst, arith}
 use Rattle.regmodel.specs.declared.accesses.Pending.{Pending}
 use Rattle.regmodel.specs.declared.accesses.Pending.TheVariants.{Fault}
+use Rattle.regmodel.specs.Reply.{Reply, Replies, value_of, one}
 use Rattle.natives.specs.declared.trees.Tree.{Tree}
 use Rattle.natives.specs.declared.trees.Stage.{Stage}
-use Rattle.natives.specs.declared.trees.Stage.TheVariants.{Tries, Looks, Leaves, Sees}
+use Rattle.natives.specs.declared.trees.Stage.TheVariants.{Tries, Closes, Looks, Leaves, Sees}
 use Rattle.natives.specs.Trees.{IsIn, below_reached, from_vertex, from_stop, from_past, from_at, tree_rest}
 use Rattle.natives.proofs.Collects.{IsTree, sees-unmarked, sees-marked, takes-empty, takes-value, takes-ninth}
-use Rattle.natives.proofs.Descents.{IsNode, from-right, from-down, from-stops, from_stop-past}
+use Rattle.natives.proofs.Descents.{IsNode, from-open, from-right, from-down, from-stops, from_stop-past}
 use Rattle.natives.proofs.Powers.{below_within, within_last}
 
 module _ (m : Tree) where
@@ -24,29 +25,33 @@ module _ (m : Tree) where
   pub below : (next : ℕ) → 1 ≤ next → next ≤ m.vertex * 2 + 1 → 0 < m.levels → IsNode m.base m.registers next
   below next some h more = node next some (within_last next (m.levels - 1) m.last (below_within next m.vertex m.levels m.last more h m.within))
 
-  abbrev pub rest_at : Stage → List ℕ → Pending
+  abbrev pub rest_at : Stage → Replies → Pending
   rest_at stage s = tree_rest (from_vertex m.base m.registers m.depth m.id m.value (suc m.levels) m.vertex) (from_stop m.base m.registers m.depth m.value m.vertex) (from_at m.base m.registers m.last m.reached m.numbers.items) m.numbers.items stage s
 
   -- ---- on the way down
 
-  pub goes_right : (door : ℕ) (s : List ℕ) → m.stage ≡ Tries → door ≢ 0 → from_vertex m.base m.registers m.depth m.id m.value m.levels (m.vertex * 2 + 1) s ≡ rest_at m.stage (door ∷ s)
-  goes_right door s e closed =
-      let next : 1 ≤ m.vertex * 2 + 1 = omega arith in
-      sym (ap (λ stage. rest_at stage (door ∷ s)) e ∙ from-right m.base m.id m.registers m.depth m.value (suc m.levels) m.levels m.vertex refl here 0 0 door s closed (below (m.vertex * 2 + 1) next (omega arith)))
+  pub opens : (door : Reply) (s : Replies) → m.stage ≡ Tries → value_of door ≡ 0 → rest_at Closes s ≡ rest_at m.stage (door ∷ s)
+  opens door s e free =
+      sym (ap (λ stage. rest_at stage (door ∷ s)) e ∙ from-open m.base m.id m.registers m.depth m.value (suc m.levels) m.levels m.vertex refl here (one 0) (one 0) door s free)
 
-  pub goes_down : (last : ℕ) (s : List ℕ) → m.stage ≡ Looks → last ≢ m.id → from_vertex m.base m.registers m.depth m.id m.value m.levels (m.vertex * 2) s ≡ rest_at m.stage (last ∷ s)
+  pub goes_right : (v : ℕ) (door : Reply) (s : Replies) → m.stage ≡ Tries → value_of door ≡ v → v ≢ 0 → from_vertex m.base m.registers m.depth m.id m.value m.levels (m.vertex * 2 + 1) s ≡ rest_at m.stage (door ∷ s)
+  goes_right v door s e value closed =
+      let next : 1 ≤ m.vertex * 2 + 1 = omega arith in
+      sym (ap (λ stage. rest_at stage (door ∷ s)) e ∙ from-right m.base m.id m.registers m.depth m.value (suc m.levels) m.levels m.vertex refl here v (one 0) (one 0) door s value closed (below (m.vertex * 2 + 1) next (omega arith)))
+
+  pub goes_down : (last : Reply) (s : Replies) → m.stage ≡ Looks → value_of last ≢ m.id → from_vertex m.base m.registers m.depth m.id m.value m.levels (m.vertex * 2) s ≡ rest_at m.stage (last ∷ s)
   goes_down last s e other =
       let next : 1 ≤ m.vertex * 2 = omega (arith, m.some) in
-      sym (ap (λ stage. rest_at stage (last ∷ s)) e ∙ from-down m.base m.id m.registers m.depth m.value (suc m.levels) m.levels m.vertex refl here 0 0 0 last s other (below (m.vertex * 2) next (omega arith)))
+      sym (ap (λ stage. rest_at stage (last ∷ s)) e ∙ from-down m.base m.id m.registers m.depth m.value (suc m.levels) m.levels m.vertex refl here (one 0) (one 0) (one 0) last s other (below (m.vertex * 2) next (omega arith)))
 
   whole : IsTree m.base m.registers (2 ^ m.depth - 1)
   whole = subst (λ n. IsTree m.base m.registers n) m.all tree
 
-  pub stops : (last : ℕ) (s : List ℕ) → m.stage ≡ Looks → last ≡ m.id → from_stop m.base m.registers m.depth m.value m.vertex s ≡ rest_at m.stage (last ∷ s)
+  pub stops : (last : Reply) (s : Replies) → m.stage ≡ Looks → value_of last ≡ m.id → from_stop m.base m.registers m.depth m.value m.vertex s ≡ rest_at m.stage (last ∷ s)
   stops last s e same =
-      sym (ap (λ stage. rest_at stage (last ∷ s)) e ∙ from-stops m.base m.id m.registers m.depth m.value m.vertex here m.small whole (suc m.levels) m.levels 0 0 0 last s refl same)
+      sym (ap (λ stage. rest_at stage (last ∷ s)) e ∙ from-stops m.base m.id m.registers m.depth m.value m.vertex here m.small whole (suc m.levels) m.levels (one 0) (one 0) (one 0) last s refl same)
 
-  pub leaves : (w : ℕ) (s : List ℕ) → m.stage ≡ Leaves → from_past m.base m.registers m.last 0 (set (replicate 32 false) 1 true) [] s ≡ rest_at m.stage (w ∷ s)
+  pub leaves : (w : Reply) (s : Replies) → m.stage ≡ Leaves → from_past m.base m.registers m.last 0 (set (replicate 32 false) 1 true) [] s ≡ rest_at m.stage (w ∷ s)
   leaves w s e =
       sym (ap (λ stage. rest_at stage (w ∷ s)) e
       ∙ from_stop-past m.base m.id m.registers m.depth m.value m.vertex here m.small whole w s
@@ -57,29 +62,25 @@ module _ (m : Tree) where
   left : (vertex : ℕ) → vertex ≤ m.last → vertex + (m.last - vertex) ≡ m.last
   left vertex h = omega arith
 
-  pub unmarked : (vertex reply : ℕ) (s : List ℕ) → m.stage ≡ Sees vertex → reply ≡ 0 → from_past m.base m.registers (m.last - vertex) vertex m.reached m.numbers.items s ≡ rest_at m.stage (reply ∷ s)
-  unmarked vertex reply s e none =
+  pub unmarked : (vertex : ℕ) (seen : Reply) (s : Replies) → m.stage ≡ Sees vertex → value_of seen ≡ 0 → from_past m.base m.registers (m.last - vertex) vertex m.reached m.numbers.items s ≡ rest_at m.stage (seen ∷ s)
+  unmarked vertex seen s e none =
       let h = m.sees vertex e in
-      sym (ap (λ stage. rest_at stage (reply ∷ s)) e
-      ∙ ap (λ r. from_at m.base m.registers m.last m.reached m.numbers.items vertex (r ∷ s)) none
-      ∙ sees-unmarked m.base m.registers m.last tree m.reached m.numbers.items m.long (m.last - vertex) vertex h.some (left vertex h.within) s)
+      sym (ap (λ stage. rest_at stage (seen ∷ s)) e ∙ sees-unmarked m.base m.registers m.last tree m.reached m.numbers.items m.long (m.last - vertex) vertex h.some (left vertex h.within) seen s none)
 
-  pub marked : (vertex reply : ℕ) (s : List ℕ) → m.stage ≡ Sees vertex → reply ≢ 0 → from_at m.base m.registers m.last m.reached m.numbers.items vertex (1 ∷ s) ≡ rest_at m.stage (reply ∷ s)
-  marked vertex reply s e some =
+  pub marked : (vertex v : ℕ) (seen : Reply) (s : Replies) → m.stage ≡ Sees vertex → value_of seen ≡ v → v ≢ 0 → from_at m.base m.registers m.last m.reached m.numbers.items vertex (one 1 ∷ s) ≡ rest_at m.stage (seen ∷ s)
+  marked vertex v seen s e value some =
       let h = m.sees vertex e in
-      sym (ap (λ stage. rest_at stage (reply ∷ s)) e
-      ∙ sees-marked m.base m.registers m.last tree m.reached m.numbers.items m.long (m.last - vertex) vertex h.some (left vertex h.within) reply s some)
+      sym (ap (λ stage. rest_at stage (seen ∷ s)) e ∙ sees-marked m.base m.registers m.last tree m.reached m.numbers.items m.long (m.last - vertex) vertex h.some (left vertex h.within) v seen s value some)
 
-  module _ (vertex : ℕ) (h : IsIn m.last vertex) where
-    pub no_value : (reply : ℕ) (s : List ℕ) → reply ≡ 0 → from_past m.base m.registers (m.last - vertex) vertex (below_reached vertex m.reached) m.numbers.items s ≡ from_at m.base m.registers m.last m.reached m.numbers.items vertex (1 ∷ reply ∷ s)
-    no_value reply s none =
-        sym (ap (λ r. from_at m.base m.registers m.last m.reached m.numbers.items vertex (1 ∷ r ∷ s)) none
-        ∙ takes-empty m.base m.registers m.last tree m.reached m.numbers.items m.long (m.last - vertex) vertex h.some (left vertex h.within) s)
+  module _ (vertex v : ℕ) (reply : Reply) (h : IsIn m.last vertex) (value : value_of reply ≡ v) (s : Replies) where
+    abbrev taken : Pending
+    taken = from_at m.base m.registers m.last m.reached m.numbers.items vertex (one 1 ∷ reply ∷ s)
 
-    pub new_value : (reply : ℕ) (s : List ℕ) → reply ≢ 0 → length m.numbers.items < 8 → from_past m.base m.registers (m.last - vertex) vertex (below_reached vertex m.reached) (m.numbers.items ++ reply ∷ []) s ≡ from_at m.base m.registers m.last m.reached m.numbers.items vertex (1 ∷ reply ∷ s)
-    new_value reply s some room =
-        sym (takes-value m.base m.registers m.last tree m.reached m.numbers.items m.long (m.last - vertex) vertex h.some (left vertex h.within) reply s some room)
+    pub no_value : v ≡ 0 → from_past m.base m.registers (m.last - vertex) vertex (below_reached vertex m.reached) m.numbers.items s ≡ taken
+    no_value none = sym (takes-empty m.base m.registers m.last tree m.reached m.numbers.items m.long (m.last - vertex) vertex h.some (left vertex h.within) reply s (value ∙ none))
 
-    pub ninth_value : (reply : ℕ) (s : List ℕ) → reply ≢ 0 → 8 ≤ length m.numbers.items → Fault 4 ≡ from_at m.base m.registers m.last m.reached m.numbers.items vertex (1 ∷ reply ∷ s)
-    ninth_value reply s some full =
-        sym (takes-ninth m.base m.registers m.last tree m.reached m.numbers.items m.long (m.last - vertex) vertex h.some (left vertex h.within) reply s some full)
+    pub new_value : v ≢ 0 → length m.numbers.items < 8 → from_past m.base m.registers (m.last - vertex) vertex (below_reached vertex m.reached) (m.numbers.items ++ v ∷ []) s ≡ taken
+    new_value some room = sym (takes-value m.base m.registers m.last tree m.reached m.numbers.items m.long (m.last - vertex) vertex h.some (left vertex h.within) v reply s value some room)
+
+    pub ninth_value : v ≢ 0 → 8 ≤ length m.numbers.items → Fault 4 ≡ taken
+    ninth_value some full = sym (takes-ninth m.base m.registers m.last tree m.reached m.numbers.items m.long (m.last - vertex) vertex h.some (left vertex h.within) v reply s value some full)

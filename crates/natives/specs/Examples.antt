@@ -2,6 +2,7 @@
 use Rattle.std.specs.Prelude.{◌≡◌, true, false, Bool, List, [], ◌∷◌, refl, replicate, slice_set}
 use Rattle.regmodel.specs.declared.accesses.Access.TheVariants.{Read, Write}
 use Rattle.regmodel.specs.declared.accesses.Pending.TheVariants.{Wants, Done, Fault}
+use Rattle.regmodel.specs.Reply.{one}
 use Rattle.uses.specs.Expansions.{split_program}
 use Rattle.natives.specs.declared.split.Stage.TheVariants as split
 use Rattle.natives.specs.Splits.{split_rest}
@@ -11,20 +12,20 @@ use Rattle.natives.specs.Trees.{from_stop, from_past, from_at}
 
 -- ---- a splitter that is about to look who came last
 
-pub split_finds_itself : split_rest (split_program 0 1 2) split.Looks (1 ∷ []) ≡ Done (record { items = 1 ∷ [] })
+pub split_finds_itself : split_rest (split_program 0 1 2) split.Looks (one 1 ∷ []) ≡ Done (record { items = 1 ∷ [] })
 split_finds_itself = refl
 
 -- ---- a grid of side 2 at registers 0 to 5: at its first vertex, and at the vertex below, in its last turn
 
-pub grid_goes_right : grid_from 0 1 6 2 0 1 (0 ∷ 1 ∷ []) ≡ Wants (Write 4 1)
+pub grid_goes_right : grid_from 0 1 6 2 0 1 (one 0 ∷ one 1 ∷ []) ≡ Wants (Write 4 1)
 grid_goes_right = refl
 
-pub grid_goes_out : grid_from 0 1 6 1 1 2 (0 ∷ 1 ∷ []) ≡ Done (record { items = [] })
+pub grid_goes_out : grid_from 0 1 6 1 1 2 (one 0 ∷ one 1 ∷ []) ≡ Done (record { items = [] })
 grid_goes_out = refl
 
 -- ---- two slots, of which the first is the own one
 
-pub proposal_is_free : from_reading 0 2 0 2 98 1 (replicate 8 0) (after_slot 0 1 0 first_slot) (0 ∷ []) ≡ Done (record { items = 1 ∷ [] })
+pub proposal_is_free : from_reading 0 2 0 2 98 1 (replicate 8 0) (after_slot 0 1 0 first_slot) (one 0 ∷ []) ≡ Done (record { items = 1 ∷ [] })
 proposal_is_free = refl
 
 -- the least number that no slot holds; the second one of them
@@ -49,14 +50,14 @@ tree_writes_its_value = refl
 pub tree_sees_the_root : from_past 0 12 3 0 root [] [] ≡ Wants (Read 0)
 tree_sees_the_root = refl
 
-pub tree_takes_from_the_root : from_at 0 12 3 root [] 1 (1 ∷ []) ≡ Wants (Read 3)
+pub tree_takes_from_the_root : from_at 0 12 3 root [] 1 (one 1 ∷ []) ≡ Wants (Read 3)
 tree_takes_from_the_root = refl
 
-pub tree_goes_left_next : from_at 0 12 3 root [] 1 (1 ∷ 7 ∷ []) ≡ Wants (Read 4)
+pub tree_goes_left_next : from_at 0 12 3 root [] 1 (one 1 ∷ one 7 ∷ []) ≡ Wants (Read 4)
 tree_goes_left_next = refl
 
-pub tree_passes_an_unmarked_root : from_at 0 12 3 root (7 ∷ []) 1 (0 ∷ []) ≡ Done (record { items = 7 ∷ [] })
+pub tree_passes_an_unmarked_root : from_at 0 12 3 root (7 ∷ []) 1 (one 0 ∷ []) ≡ Done (record { items = 7 ∷ [] })
 tree_passes_an_unmarked_root = refl
 
-pub tree_takes_no_ninth : from_at 0 12 3 root (replicate 8 5) 1 (1 ∷ 7 ∷ []) ≡ Fault 4
+pub tree_takes_no_ninth : from_at 0 12 3 root (replicate 8 5) 1 (one 1 ∷ one 7 ∷ []) ≡ Fault 4
 tree_takes_no_ninth = refl

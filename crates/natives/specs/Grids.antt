@@ -1,9 +1,10 @@
 -- What a grid of splitters does on further replies.
-use Rattle.std.specs.Prelude.{ℕ, List, [], ◌∷◌, replicate}
+use Rattle.std.specs.Prelude.{ℕ, [], ◌∷◌, replicate}
 use Rattle.regmodel.specs.declared.accesses.Pending.{Pending}
 use Rattle.regmodel.specs.declared.accesses.Pending.TheVariants.{Done}
 use Rattle.regmodel.specs.Values.{Env}
 use Rattle.regmodel.specs.Act.{exec, times, flow_pending}
+use Rattle.regmodel.specs.Reply.{Replies, one}
 use Rattle.uses.specs.Expansions.{grid_visit}
 use Rattle.natives.specs.declared.grid.Stage.{Stage}
 use Rattle.natives.specs.declared.grid.Stage.TheVariants.{Marks, Tries, Closes, Looks, Stopped, Over}
@@ -13,15 +14,15 @@ abbrev pub at_vertex : ℕ → ℕ → Env
 at_vertex level vertex = record { vars = level ∷ vertex ∷ replicate 14 0; cells = replicate 32 0; emitted = [] }
 
 -- from a vertex on, with so many turns left, the one at this vertex counted
-abbrev pub grid_from : ℕ → ℕ → ℕ → ℕ → ℕ → ℕ → List ℕ → Pending
+abbrev pub grid_from : ℕ → ℕ → ℕ → ℕ → ℕ → ℕ → Replies → Pending
 grid_from base id registers turns level vertex s =
     flow_pending (times turns (exec (grid_visit base id) registers) (at_vertex level vertex) s)
 
 -- at an access the value from the vertex on, after the replies since then
-abbrev pub grid_rest : (List ℕ → Pending) → ℕ → Stage → List ℕ → Pending
+abbrev pub grid_rest : (Replies → Pending) → ℕ → Stage → Replies → Pending
 grid_rest from vertex Marks s = from s
-grid_rest from vertex Tries s = from (0 ∷ s)
-grid_rest from vertex Closes s = from (0 ∷ 0 ∷ s)
-grid_rest from vertex Looks s = from (0 ∷ 0 ∷ 0 ∷ s)
+grid_rest from vertex Tries s = from (one 0 ∷ s)
+grid_rest from vertex Closes s = from (one 0 ∷ one 0 ∷ s)
+grid_rest from vertex Looks s = from (one 0 ∷ one 0 ∷ one 0 ∷ s)
 grid_rest from vertex Stopped s = Done (record { items = vertex ∷ [] })
 grid_rest from vertex Over s = Done (record { items = [] })

@@ -1,14 +1,11 @@
 -- What a renaming does on further replies.
-use Rattle.std.specs.Prelude.{◌≢◌, ◌<◌, ◌≤◌, ℕ, zero, suc, ◌+◌, ◌*◌, ◌-◌, ◌==◌, if◌then◌else◌, ◌||◌, ◌&&◌, not, nat_lt, Bool, false, List, [], ◌∷◌, ◌++◌, replicate}
+use Rattle.std.specs.Prelude.{◌≢◌, ◌<◌, ◌≤◌, ℕ, zero, suc, ◌+◌, ◌-◌, ◌==◌, if◌then◌else◌, ◌||◌, ◌&&◌, not, nat_lt, Bool, false, List, [], ◌∷◌, ◌++◌, replicate}
 use Rattle.regmodel.specs.declared.accesses.Pending.{Pending}
 use Rattle.regmodel.specs.declared.accesses.Pending.TheVariants.{Done}
-use Rattle.regmodel.specs.declared.programs.Op.TheVariants.{Equal}
-use Rattle.regmodel.specs.declared.programs.Operand.TheVariants.{Number, Var}
-use Rattle.regmodel.specs.declared.programs.Expr.TheVariants.{One, Two}
 use Rattle.regmodel.specs.Values.{Env}
 use Rattle.regmodel.specs.Act.{Flow, exec, times, then_do, flow_pending}
-use Rattle.regmodel.specs.Program.{Block, Stop, If, Repeat, Emit, Halt}
-use Rattle.uses.specs.Expansions.{◌▸◌, set, name_round, name_slot, name_turn}
+use Rattle.regmodel.specs.Reply.{Replies}
+use Rattle.uses.specs.Expansions.{name_after, name_round, name_slot}
 use Rattle.natives.specs.Bits.{bit}
 use Rattle.natives.specs.declared.names.Reading.{Reading}
 use Rattle.natives.specs.declared.names.Stage.{Stage}
@@ -42,44 +39,35 @@ cells_of seen = seen ++ replicate 24 0
 abbrev pub at_slot : ℕ → ℕ → ℕ → ℕ → List ℕ → Env
 at_slot proposal clash rank slot cells = record { vars = proposal ∷ clash ∷ rank ∷ slot ∷ replicate 12 0; cells = cells; emitted = [] }
 
--- what a round does once it has read the slots
-abbrev pub name_after : ℕ → Block
-name_after slots =
-    If (Two (Var 1) Equal (Number 0)) (Emit (One (Var 0)) ▸ Halt ▸ Stop) Stop ▸
-    set 4 (One (Number 0)) ▸
-    Repeat (One (Number (2 * slots - 1))) (name_turn slots) ▸
-    set 0 (One (Var 4)) ▸
-    Stop
-
 module _ (base slots own registers : ℕ) where
   -- so many rounds
-  abbrev pub rounds_from : ℕ → Env → List ℕ → Flow
+  abbrev pub rounds_from : ℕ → Env → Replies → Flow
   rounds_from rounds = times rounds (exec (name_round base slots own) registers)
 
   -- so many slots of a round
-  abbrev pub turns_from : ℕ → Env → List ℕ → Flow
+  abbrev pub turns_from : ℕ → Env → Replies → Flow
   turns_from turns = times turns (exec (name_slot base own) registers)
 
   -- from a round on, with so many of them left, its own counted
-  abbrev pub from_round : ℕ → ℕ → List ℕ → List ℕ → Pending
+  abbrev pub from_round : ℕ → ℕ → List ℕ → Replies → Pending
   from_round rounds proposal cells s = flow_pending (rounds_from rounds (at_slot proposal 0 0 0 cells) s)
 
   -- once the slots were read, with so many rounds left after this one
-  abbrev pub from_after : ℕ → Env → List ℕ → Pending
+  abbrev pub from_after : ℕ → Env → Replies → Pending
   from_after later env s = flow_pending (then_do (exec (name_after slots) registers env s) (rounds_from later))
 
   -- from a slot on, with so many rounds left after this one and so many slots left in it
-  abbrev pub from_slot : ℕ → ℕ → Env → List ℕ → Pending
+  abbrev pub from_slot : ℕ → ℕ → Env → Replies → Pending
   from_slot later turns env s =
       flow_pending (then_do (then_do (turns_from turns env s) (exec (name_after slots) registers)) (rounds_from later))
 
   -- from a slot that is about to be read on, given what the slots held so far
-  abbrev pub from_reading : ℕ → ℕ → List ℕ → Reading → List ℕ → Pending
+  abbrev pub from_reading : ℕ → ℕ → List ℕ → Reading → Replies → Pending
   from_reading later proposal seen reading s =
       from_slot later (slots - reading.at) (at_slot proposal (bit reading.clash) reading.rank reading.at (cells_of seen)) s
 
 -- at a write of the proposal the value from the round on, at a read that from the slot on
-abbrev pub name_rest : (List ℕ → Pending) → (Reading → List ℕ → Pending) → ℕ → Stage → List ℕ → Pending
+abbrev pub name_rest : (Replies → Pending) → (Reading → Replies → Pending) → ℕ → Stage → Replies → Pending
 name_rest round slot proposal Proposes s = round s
 name_rest round slot proposal (Reads reading) s = slot reading s
 name_rest round slot proposal Named s = Done (record { items = proposal ∷ [] })

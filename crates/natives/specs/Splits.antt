@@ -1,18 +1,19 @@
 -- What a splitter does on further replies.
-use Rattle.std.specs.Prelude.{ℕ, List, [], ◌∷◌}
+use Rattle.std.specs.Prelude.{[], ◌∷◌}
 use Rattle.regmodel.specs.declared.accesses.Pending.{Pending}
 use Rattle.regmodel.specs.declared.accesses.Pending.TheVariants.{Done}
 use Rattle.regmodel.specs.Program.{Program}
 use Rattle.regmodel.specs.Act.{act_of}
+use Rattle.regmodel.specs.Reply.{Replies, one}
 use Rattle.natives.specs.declared.split.Stage.{Stage}
 use Rattle.natives.specs.declared.split.Stage.TheVariants.{Marks, Tries, Closes, Looks, Stopped, Right, Down, Ended}
 
 -- at an access the program's value from its start, after the replies since then
-abbrev pub split_rest : Program → Stage → List ℕ → Pending
+abbrev pub split_rest : Program → Stage → Replies → Pending
 split_rest program Marks s = act_of program s
-split_rest program Tries s = act_of program (0 ∷ s)
-split_rest program Closes s = act_of program (0 ∷ 0 ∷ s)
-split_rest program Looks s = act_of program (0 ∷ 0 ∷ 0 ∷ s)
+split_rest program Tries s = act_of program (one 0 ∷ s)
+split_rest program Closes s = act_of program (one 0 ∷ one 0 ∷ s)
+split_rest program Looks s = act_of program (one 0 ∷ one 0 ∷ one 0 ∷ s)
 split_rest program Stopped s = Done (record { items = 1 ∷ [] })
 split_rest program Right s = Done (record { items = 2 ∷ [] })
 split_rest program Down s = Done (record { items = 3 ∷ [] })

@@ -4,6 +4,7 @@ use Rattle.regmodel.specs.declared.accesses.Pending.{Pending}
 use Rattle.regmodel.specs.declared.accesses.Pending.TheVariants.{Done, Fault}
 use Rattle.regmodel.specs.Values.{Env}
 use Rattle.regmodel.specs.Act.{Flow, exec, times, then_do, flow_pending}
+use Rattle.regmodel.specs.Reply.{Replies, one}
 use Rattle.uses.specs.Expansions.{tree_leave, tree_after, tree_descend, tree_collect, tree_look}
 use Rattle.natives.specs.Bits.{bit}
 use Rattle.natives.specs.declared.trees.Stage.{Stage}
@@ -19,34 +20,34 @@ at_collect vertex reached numbers = record { vars = vertex ∷ 1 ∷ replicate 1
 
 module _ (base registers : ℕ) where
   -- from a vertex on, with so many levels left, its own counted
-  abbrev pub from_vertex : ℕ → ℕ → ℕ → ℕ → ℕ → List ℕ → Pending
+  abbrev pub from_vertex : ℕ → ℕ → ℕ → ℕ → ℕ → Replies → Pending
   from_vertex depth id value levels vertex s =
       flow_pending (then_do (times levels (exec (tree_descend base id) registers) (on_way vertex 0 0) s) (exec (tree_after base depth value) registers))
 
   -- from where it stopped
-  abbrev pub from_stop : ℕ → ℕ → ℕ → List ℕ → Pending
+  abbrev pub from_stop : ℕ → ℕ → ℕ → Replies → Pending
   from_stop depth value vertex s =
       flow_pending (exec (tree_leave base depth value) registers (on_way vertex 1 ((vertex - 1) * 4 + base)) s)
 
   -- so many vertices of the collect
-  abbrev pub collects : ℕ → Env → List ℕ → Flow
+  abbrev pub collects : ℕ → Env → Replies → Flow
   collects turns = times turns (exec (tree_collect base) registers)
 
   -- from past a vertex on, with so many vertices left
-  abbrev pub from_past : ℕ → ℕ → List Bool → List ℕ → List ℕ → Pending
+  abbrev pub from_past : ℕ → ℕ → List Bool → List ℕ → Replies → Pending
   from_past turns vertex reached numbers s = flow_pending (collects turns (at_collect vertex reached numbers) s)
 
   -- from a vertex that is looked at on, with so many vertices left after it
-  abbrev pub from_look : ℕ → ℕ → List Bool → List ℕ → List ℕ → Pending
+  abbrev pub from_look : ℕ → ℕ → List Bool → List ℕ → Replies → Pending
   from_look turns vertex reached numbers s =
       flow_pending (then_do (exec (tree_look base) registers (at_collect vertex reached numbers) s) (collects turns))
 
   -- the same in a tree with so many vertices
-  abbrev pub from_at : ℕ → List Bool → List ℕ → ℕ → List ℕ → Pending
+  abbrev pub from_at : ℕ → List Bool → List ℕ → ℕ → Replies → Pending
   from_at last reached numbers vertex s = from_look (last - vertex) vertex reached numbers s
 
   -- from the next vertex that was reached on, where there is one
-  abbrev pub from_next : ℕ → List Bool → List ℕ → Option ℕ → List ℕ → Pending
+  abbrev pub from_next : ℕ → List Bool → List ℕ → Option ℕ → Replies → Pending
   from_next last reached numbers (Some vertex) s = from_at last reached numbers vertex s
   from_next last reached numbers None s = Done (record { items = numbers })
 
@@ -60,15 +61,15 @@ abbrev pub below_reached : ℕ → List Bool → List Bool
 below_reached vertex reached = slice_set (slice_set reached (vertex * 2) true) (vertex * 2 + 1) true
 
 -- on the way down the value from the vertex on, in the collect that from the vertex looked at, after the replies since then
-abbrev pub tree_rest : (List ℕ → Pending) → (List ℕ → Pending) → (ℕ → List ℕ → Pending) → List ℕ → Stage → List ℕ → Pending
+abbrev pub tree_rest : (Replies → Pending) → (Replies → Pending) → (ℕ → Replies → Pending) → List ℕ → Stage → Replies → Pending
 tree_rest vertex stop look numbers Marks s = vertex s
-tree_rest vertex stop look numbers Signs s = vertex (0 ∷ s)
-tree_rest vertex stop look numbers Tries s = vertex (0 ∷ 0 ∷ s)
-tree_rest vertex stop look numbers Closes s = vertex (0 ∷ 0 ∷ 0 ∷ s)
-tree_rest vertex stop look numbers Looks s = vertex (0 ∷ 0 ∷ 0 ∷ 0 ∷ s)
+tree_rest vertex stop look numbers Signs s = vertex (one 0 ∷ s)
+tree_rest vertex stop look numbers Tries s = vertex (one 0 ∷ one 0 ∷ s)
+tree_rest vertex stop look numbers Closes s = vertex (one 0 ∷ one 0 ∷ one 0 ∷ s)
+tree_rest vertex stop look numbers Looks s = vertex (one 0 ∷ one 0 ∷ one 0 ∷ one 0 ∷ s)
 tree_rest vertex stop look numbers Leaves s = stop s
 tree_rest vertex stop look numbers (Sees at) s = look at s
-tree_rest vertex stop look numbers (Takes at) s = look at (1 ∷ s)
+tree_rest vertex stop look numbers (Takes at) s = look at (one 1 ∷ s)
 tree_rest vertex stop look numbers Collected s = Done (record { items = numbers })
 tree_rest vertex stop look numbers Overfull s = Fault 4
 tree_rest vertex stop look numbers Over s = Done (record { items = [] })

@@ -3,6 +3,7 @@
 ghost use Rattle.std.specs.Prelude.{◌≡◌, ℕ, ◌+◌, ◌-◌, ◌*◌, ◌<◌, ◌≤◌, ◌↔◌, List, false, Err, IfOk, IsOk, IsTrue};
 ghost use Rattle.regmodel.specs.Act.{act_of};
 ghost use Rattle.regmodel.specs.Lawful.{IsLawful};
+ghost use Rattle.regmodel.specs.Reply.{Replies};
 ghost use Rattle.uses.specs.declared.kinds.Use.TheVariants as kind;
 ghost use Rattle.uses.specs.Expansions.{expansion};
 ghost use Rattle.uses.specs.Uses.{use_fits};
@@ -12,7 +13,7 @@ ghost use Rattle.natives.specs.Grids.{grid_from};
 
 use crate::numbers::{done, done_with};
 use crate::{MakeFault, PAST_LIMIT};
-use machine::Machine;
+use machine::{Machine, value_of};
 use regmodel::{Access, Pending};
 use uses::Use;
 
@@ -57,7 +58,7 @@ impl Grid {
     /// line is passed, which [`Use::fits`] tells; no other fault comes. It takes no memory.
     pub fn make(base: u32, side: u32, id: u32, registers: u32) -> Result<Grid, MakeFault>
         ensures same { IfOk result (λ m. ⟦<Grid as Machine>⟧.program m ≡ expansion (kind.Grid base side id) registers) }
-        ensures starts { IfOk result (λ m. (s : List ℕ) → IsLawful (act_of (expansion (kind.Grid base side id) registers)) s → ⟦<Grid as Machine>⟧.rest m s ≡ act_of (expansion (kind.Grid base side id) registers) s) }
+        ensures starts { IfOk result (λ m. (s : Replies) → IsLawful (act_of (expansion (kind.Grid base side id) registers)) s → ⟦<Grid as Machine>⟧.rest m s ≡ act_of (expansion (kind.Grid base side id) registers) s) }
         ensures limits { (result ≡ Err (record { code = PAST_LIMIT })) ↔ (use_fits (kind.Grid base side id) registers ≡ false) }
         ensures made { IsOk result ↔ IsTrue (use_fits (kind.Grid base side id) registers) }
     {
@@ -90,7 +91,7 @@ impl Grid {
         requires some { 1 ≤ vertex }
         requires named { vertex * 2 ≤ (self.old.level + 2) * (self.old.level + 3) }
         ensures same { ⟦<Grid as Machine>⟧.program self.new ≡ ⟦<Grid as Machine>⟧.program self.old }
-        ensures goes_on { (s : List ℕ) → ⟦<Grid as Machine>⟧.rest self.new s ≡ grid_from self.old.base self.old.id self.old.registers (self.old.side - (self.old.level + 1)) (self.old.level + 1) vertex s }
+        ensures goes_on { (s : Replies) → ⟦<Grid as Machine>⟧.rest self.new s ≡ grid_from self.old.base self.old.id self.old.registers (self.old.side - (self.old.level + 1)) (self.old.level + 1) vertex s }
     {
         if self.level + 1 == self.side {
             self.stage = Stage::Over;
@@ -129,13 +130,14 @@ impl Machine for Grid {
         }
     }
 
-    fn feed(&mut self, reply: u32) {
+    fn feed(&mut self, reply: &[u32]) {
+        let value = value_of(reply);
         match self.stage {
             Stage::Marks => self.stage = Stage::Tries,
-            Stage::Tries if reply != 0 => self.go_to(self.vertex + self.level + 2),
+            Stage::Tries if value != 0 => self.go_to(self.vertex + self.level + 2),
             Stage::Tries => self.stage = Stage::Closes,
             Stage::Closes => self.stage = Stage::Looks,
-            Stage::Looks if reply == self.id => self.stage = Stage::Stopped,
+            Stage::Looks if value == self.id => self.stage = Stage::Stopped,
             Stage::Looks => self.go_to(self.vertex + self.level + 1),
             Stage::Stopped | Stage::Over => {}
         }

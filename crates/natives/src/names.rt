@@ -3,6 +3,7 @@
 ghost use Rattle.std.specs.Prelude.{◌≡◌, ◌≢◌, ℕ, zero, suc, ◌+◌, ◌-◌, ◌*◌, ◌<◌, ◌≤◌, ◌↔◌, List, ◌∷◌, false, Err, IfOk, IsOk, IsTrue, length, slice_index, take};
 ghost use Rattle.regmodel.specs.Act.{act_of};
 ghost use Rattle.regmodel.specs.Lawful.{IsLawful};
+ghost use Rattle.regmodel.specs.Reply.{Replies};
 ghost use Rattle.uses.specs.declared.kinds.Use.TheVariants as kind;
 ghost use Rattle.uses.specs.Expansions.{expansion};
 ghost use Rattle.uses.specs.Uses.{use_fits};
@@ -15,7 +16,7 @@ ghost use Rattle.natives.specs.Names.{IsRead, after_slot, at_slot, cells_of, fro
 
 use crate::numbers::{done, done_with};
 use crate::{MakeFault, PAST_LIMIT};
-use machine::Machine;
+use machine::{Machine, value_of};
 use regmodel::limits::MOST_TURNS;
 use regmodel::{Access, Pending};
 use uses::Use;
@@ -89,7 +90,7 @@ impl NameSlots {
     /// the line is passed, which [`Use::fits`] tells; no other fault comes. It takes no memory.
     pub fn make(base: u32, slots: u32, slot: u32, registers: u32) -> Result<NameSlots, MakeFault>
         ensures same { IfOk result (λ m. ⟦<NameSlots as Machine>⟧.program m ≡ expansion (kind.Name base slots slot) registers) }
-        ensures starts { IfOk result (λ m. (s : List ℕ) → IsLawful (act_of (expansion (kind.Name base slots slot) registers)) s → ⟦<NameSlots as Machine>⟧.rest m s ≡ act_of (expansion (kind.Name base slots slot) registers) s) }
+        ensures starts { IfOk result (λ m. (s : Replies) → IsLawful (act_of (expansion (kind.Name base slots slot) registers)) s → ⟦<NameSlots as Machine>⟧.rest m s ≡ act_of (expansion (kind.Name base slots slot) registers) s) }
         ensures limits { (result ≡ Err (record { code = PAST_LIMIT })) ↔ (use_fits (kind.Name base slots slot) registers ≡ false) }
         ensures made { IsOk result ↔ IsTrue (use_fits (kind.Name base slots slot) registers) }
     {
@@ -140,7 +141,7 @@ impl NameSlots {
     fn finish(&mut self, reading: Reading)
         requires { 1 ≤ reading.rank }
         ensures same { ⟦<NameSlots as Machine>⟧.program self.new ≡ ⟦<NameSlots as Machine>⟧.program self.old }
-        ensures goes_on { (s : List ℕ) → ⟦<NameSlots as Machine>⟧.rest self.new s ≡ from_after self.old.base self.old.slots self.old.slot self.old.registers self.old.later (at_slot self.old.proposal (bit reading.clash) reading.rank reading.at (cells_of self.old.seen)) s }
+        ensures goes_on { (s : Replies) → ⟦<NameSlots as Machine>⟧.rest self.new s ≡ from_after self.old.base self.old.slots self.old.slot self.old.registers self.old.later (at_slot self.old.proposal (bit reading.clash) reading.rank reading.at (cells_of self.old.seen)) s }
     {
         if !reading.clash {
             self.stage = Stage::Named;
@@ -160,7 +161,7 @@ impl NameSlots {
         requires some { 1 ≤ reading.rank }
         requires small { reading.rank ≤ reading.at + 1 }
         ensures same { ⟦<NameSlots as Machine>⟧.program self.new ≡ ⟦<NameSlots as Machine>⟧.program self.old }
-        ensures goes_on { (s : List ℕ) → ⟦<NameSlots as Machine>⟧.rest self.new s ≡ from_reading self.old.base self.old.slots self.old.slot self.old.registers self.old.later self.old.proposal self.old.seen reading s }
+        ensures goes_on { (s : Replies) → ⟦<NameSlots as Machine>⟧.rest self.new s ≡ from_reading self.old.base self.old.slots self.old.slot self.old.registers self.old.later self.old.proposal self.old.seen reading s }
     {
         if reading.at < self.slots {
             self.stage = Stage::Reads(reading);
@@ -175,7 +176,7 @@ impl NameSlots {
         requires some { 1 ≤ reading.rank }
         requires small { reading.rank ≤ reading.at + 1 }
         ensures same { ⟦<NameSlots as Machine>⟧.program self.new ≡ ⟦<NameSlots as Machine>⟧.program self.old }
-        ensures goes_on { (s : List ℕ) → ⟦<NameSlots as Machine>⟧.rest self.new s ≡ from_reading self.old.base self.old.slots self.old.slot self.old.registers self.old.later self.old.proposal self.old.seen reading s }
+        ensures goes_on { (s : Replies) → ⟦<NameSlots as Machine>⟧.rest self.new s ≡ from_reading self.old.base self.old.slots self.old.slot self.old.registers self.old.later self.old.proposal self.old.seen reading s }
     {
         if reading.at == self.slot {
             self.read(Reading {
@@ -188,11 +189,12 @@ impl NameSlots {
     }
 
     /// Takes what a slot holds, and goes on to the next one.
-    fn take(&mut self, reading: Reading, held: u32)
+    fn take(&mut self, reading: Reading, reply: &[u32])
         requires read { IsRead self.old.slots self.old.slot reading }
         ensures same { ⟦<NameSlots as Machine>⟧.program self.new ≡ ⟦<NameSlots as Machine>⟧.program self.old }
-        ensures goes_on { (s : List ℕ) → ⟦<NameSlots as Machine>⟧.rest self.new s ≡ from_reading self.old.base self.old.slots self.old.slot self.old.registers self.old.later self.old.proposal self.old.seen reading (held ∷ s) }
+        ensures goes_on { (s : Replies) → ⟦<NameSlots as Machine>⟧.rest self.new s ≡ from_reading self.old.base self.old.slots self.old.slot self.old.registers self.old.later self.old.proposal self.old.seen reading (reply.now ∷ s) }
     {
+        let held = value_of(reply);
         self.seen[usize::from(reading.at)] = held;
         self.go_on(reading.after_slot(held, self.proposal, self.slot));
     }
@@ -224,7 +226,7 @@ impl Machine for NameSlots {
         }
     }
 
-    fn feed(&mut self, reply: u32) {
+    fn feed(&mut self, reply: &[u32]) {
         match self.stage {
             Stage::Proposes => self.go_on(Reading {
                 at: 0,

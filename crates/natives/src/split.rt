@@ -3,6 +3,7 @@
 ghost use Rattle.std.specs.Prelude.{◌≡◌, ℕ, ◌+◌, ◌≤◌, ◌↔◌, List, false, Err, IfOk, IsOk, IsTrue};
 ghost use Rattle.regmodel.specs.Act.{act_of};
 ghost use Rattle.regmodel.specs.Lawful.{IsLawful};
+ghost use Rattle.regmodel.specs.Reply.{Replies};
 ghost use Rattle.uses.specs.declared.kinds.Use.TheVariants as kind;
 ghost use Rattle.uses.specs.Expansions.{expansion};
 ghost use Rattle.uses.specs.Uses.{use_fits};
@@ -11,7 +12,7 @@ ghost use Rattle.regmodel.specs.declared.limits.TheConstants.{MOST_REGISTERS};
 
 use crate::numbers::{done, done_with};
 use crate::{MakeFault, PAST_LIMIT};
-use machine::Machine;
+use machine::{Machine, value_of};
 use regmodel::{Access, Pending};
 use uses::Use;
 
@@ -52,7 +53,7 @@ impl Split {
     /// line is passed, which [`Use::fits`] tells; no other fault comes. It takes no memory.
     pub fn make(base: u32, id: u32, registers: u32) -> Result<Split, MakeFault>
         ensures same { IfOk result (λ m. ⟦<Split as Machine>⟧.program m ≡ expansion (kind.Split base id) registers) }
-        ensures starts { IfOk result (λ m. (s : List ℕ) → IsLawful (act_of (expansion (kind.Split base id) registers)) s → ⟦<Split as Machine>⟧.rest m s ≡ act_of (expansion (kind.Split base id) registers) s) }
+        ensures starts { IfOk result (λ m. (s : Replies) → IsLawful (act_of (expansion (kind.Split base id) registers)) s → ⟦<Split as Machine>⟧.rest m s ≡ act_of (expansion (kind.Split base id) registers) s) }
         ensures limits { (result ≡ Err (record { code = PAST_LIMIT })) ↔ (use_fits (kind.Split base id) registers ≡ false) }
         ensures made { IsOk result ↔ IsTrue (use_fits (kind.Split base id) registers) }
     {
@@ -95,13 +96,14 @@ impl Machine for Split {
         }
     }
 
-    fn feed(&mut self, reply: u32) {
+    fn feed(&mut self, reply: &[u32]) {
+        let value = value_of(reply);
         self.stage = match self.stage {
             Stage::Marks => Stage::Tries,
-            Stage::Tries if reply != 0 => Stage::Right,
+            Stage::Tries if value != 0 => Stage::Right,
             Stage::Tries => Stage::Closes,
             Stage::Closes => Stage::Looks,
-            Stage::Looks if reply == self.id => Stage::Stopped,
+            Stage::Looks if value == self.id => Stage::Stopped,
             Stage::Looks => Stage::Down,
             over => over,
         };

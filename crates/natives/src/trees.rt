@@ -4,6 +4,7 @@
 ghost use Rattle.std.specs.Prelude.{◌≡◌, ◌≢◌, ℕ, suc, ◌+◌, ◌-◌, ◌*◌, ◌^◌, ◌<◌, ◌≤◌, ◌↔◌, List, [], ◌∷◌, true, false, Err, IfOk, IfSome, IsOk, IsTrue, length, replicate, slice_set};
 ghost use Rattle.regmodel.specs.Act.{act_of};
 ghost use Rattle.regmodel.specs.Lawful.{IsLawful};
+ghost use Rattle.regmodel.specs.Reply.{Replies, one};
 ghost use Rattle.uses.specs.declared.kinds.Use.TheVariants as kind;
 ghost use Rattle.uses.specs.Expansions.{expansion};
 ghost use Rattle.uses.specs.Uses.{use_fits};
@@ -14,7 +15,7 @@ ghost use Rattle.natives.specs.Trees.{IsIn, below_reached, from_vertex, from_pas
 
 use crate::numbers::done;
 use crate::{MakeFault, PAST_LIMIT};
-use machine::Machine;
+use machine::{Machine, value_of};
 use regmodel::{Access, Numbers, Pending};
 use uses::Use;
 
@@ -93,7 +94,7 @@ impl Tree {
         registers: u32,
     ) -> Result<Tree, MakeFault>
         ensures same { IfOk result (λ m. ⟦<Tree as Machine>⟧.program m ≡ expansion (kind.Tree base depth id value) registers) }
-        ensures starts { IfOk result (λ m. (s : List ℕ) → IsLawful (act_of (expansion (kind.Tree base depth id value) registers)) s → ⟦<Tree as Machine>⟧.rest m s ≡ act_of (expansion (kind.Tree base depth id value) registers) s) }
+        ensures starts { IfOk result (λ m. (s : Replies) → IsLawful (act_of (expansion (kind.Tree base depth id value) registers)) s → ⟦<Tree as Machine>⟧.rest m s ≡ act_of (expansion (kind.Tree base depth id value) registers) s) }
         ensures limits { (result ≡ Err (record { code = PAST_LIMIT })) ↔ (use_fits (kind.Tree base depth id value) registers ≡ false) }
         ensures made { IsOk result ↔ IsTrue (use_fits (kind.Tree base depth id value) registers) }
     {
@@ -132,7 +133,7 @@ impl Tree {
         requires some { 1 ≤ vertex }
         requires below { vertex ≤ self.old.vertex * 2 + 1 }
         ensures same { ⟦<Tree as Machine>⟧.program self.new ≡ ⟦<Tree as Machine>⟧.program self.old }
-        ensures goes_on { (s : List ℕ) → ⟦<Tree as Machine>⟧.rest self.new s ≡ from_vertex self.old.base self.old.registers self.old.depth self.old.id self.old.value self.old.levels vertex s }
+        ensures goes_on { (s : Replies) → ⟦<Tree as Machine>⟧.rest self.new s ≡ from_vertex self.old.base self.old.registers self.old.depth self.old.id self.old.value self.old.levels vertex s }
     {
         if self.levels == 0 {
             self.stage = Stage::Over;
@@ -146,7 +147,7 @@ impl Tree {
     /// Begins the collect, at the root.
     fn collect(&mut self)
         ensures same { ⟦<Tree as Machine>⟧.program self.new ≡ ⟦<Tree as Machine>⟧.program self.old }
-        ensures goes_on { (s : List ℕ) → ⟦<Tree as Machine>⟧.rest self.new s ≡ from_past self.old.base self.old.registers self.old.last 0 (slice_set (replicate 32 false) 1 true) [] s }
+        ensures goes_on { (s : Replies) → ⟦<Tree as Machine>⟧.rest self.new s ≡ from_past self.old.base self.old.registers self.old.last 0 (slice_set (replicate 32 false) 1 true) [] s }
     {
         self.reached = [false; 32];
         self.reached[1] = true;
@@ -158,7 +159,7 @@ impl Tree {
     fn next_reached(&self, vertex: u8) -> Option<u8>
         requires { vertex ≤ self.now.last }
         ensures there { IfSome result (IsIn self.now.last) }
-        ensures goes_on { (s : List ℕ) → from_next self.now.base self.now.registers self.now.last self.now.reached self.now.numbers.items result s ≡ from_past self.now.base self.now.registers (self.now.last - vertex) vertex self.now.reached self.now.numbers.items s }
+        ensures goes_on { (s : Replies) → from_next self.now.base self.now.registers self.now.last self.now.reached self.now.numbers.items result s ≡ from_past self.now.base self.now.registers (self.now.last - vertex) vertex self.now.reached self.now.numbers.items s }
     {
         for before in vertex..self.last {
             let next = before + 1;
@@ -173,7 +174,7 @@ impl Tree {
     fn go_past(&mut self, vertex: u8)
         requires { vertex ≤ self.old.last }
         ensures same { ⟦<Tree as Machine>⟧.program self.new ≡ ⟦<Tree as Machine>⟧.program self.old }
-        ensures goes_on { (s : List ℕ) → ⟦<Tree as Machine>⟧.rest self.new s ≡ from_past self.old.base self.old.registers (self.old.last - vertex) vertex self.old.reached self.old.numbers.items s }
+        ensures goes_on { (s : Replies) → ⟦<Tree as Machine>⟧.rest self.new s ≡ from_past self.old.base self.old.registers (self.old.last - vertex) vertex self.old.reached self.old.numbers.items s }
     {
         match self.next_reached(vertex) {
             Some(next) => self.stage = Stage::Sees(next),
@@ -185,7 +186,7 @@ impl Tree {
     fn reach(&mut self, vertex: u8)
         requires { IsIn self.old.last vertex }
         ensures same { ⟦<Tree as Machine>⟧.program self.new ≡ ⟦<Tree as Machine>⟧.program self.old }
-        ensures goes_on { (s : List ℕ) → ⟦<Tree as Machine>⟧.rest self.new s ≡ from_past self.old.base self.old.registers (self.old.last - vertex) vertex (below_reached vertex self.old.reached) self.old.numbers.items s }
+        ensures goes_on { (s : Replies) → ⟦<Tree as Machine>⟧.rest self.new s ≡ from_past self.old.base self.old.registers (self.old.last - vertex) vertex (below_reached vertex self.old.reached) self.old.numbers.items s }
     {
         self.reached[usize::from(vertex * 2)] = true;
         self.reached[usize::from(vertex * 2 + 1)] = true;
@@ -193,11 +194,12 @@ impl Tree {
     }
 
     /// Takes the value of a marked vertex, 0 where none was left there yet.
-    fn take(&mut self, vertex: u8, value: u32)
+    fn take(&mut self, vertex: u8, reply: &[u32])
         requires { IsIn self.old.last vertex }
         ensures same { ⟦<Tree as Machine>⟧.program self.new ≡ ⟦<Tree as Machine>⟧.program self.old }
-        ensures goes_on { (s : List ℕ) → ⟦<Tree as Machine>⟧.rest self.new s ≡ from_at self.old.base self.old.registers self.old.last self.old.reached self.old.numbers.items vertex (1 ∷ value ∷ s) }
+        ensures goes_on { (s : Replies) → ⟦<Tree as Machine>⟧.rest self.new s ≡ from_at self.old.base self.old.registers self.old.last self.old.reached self.old.numbers.items vertex (one 1 ∷ reply.now ∷ s) }
     {
+        let value = value_of(reply);
         if value == 0 {
             self.reach(vertex);
         } else if self.numbers.is_full() {
@@ -241,17 +243,18 @@ impl Machine for Tree {
         }
     }
 
-    fn feed(&mut self, reply: u32) {
+    fn feed(&mut self, reply: &[u32]) {
+        let value = value_of(reply);
         match self.stage {
             Stage::Marks => self.stage = Stage::Signs,
             Stage::Signs => self.stage = Stage::Tries,
-            Stage::Tries if reply != 0 => self.go_to(self.vertex * 2 + 1),
+            Stage::Tries if value != 0 => self.go_to(self.vertex * 2 + 1),
             Stage::Tries => self.stage = Stage::Closes,
             Stage::Closes => self.stage = Stage::Looks,
-            Stage::Looks if reply == self.id => self.stage = Stage::Leaves,
+            Stage::Looks if value == self.id => self.stage = Stage::Leaves,
             Stage::Looks => self.go_to(self.vertex * 2),
             Stage::Leaves => self.collect(),
-            Stage::Sees(vertex) if reply != 0 => self.stage = Stage::Takes(vertex),
+            Stage::Sees(vertex) if value != 0 => self.stage = Stage::Takes(vertex),
             Stage::Sees(vertex) => self.go_past(vertex),
             Stage::Takes(vertex) => self.take(vertex, reply),
             Stage::Collected | Stage::Overfull | Stage::Over => {}

@@ -1,6 +1,6 @@
 use Rattle.std.proofs.Common.{sym, ap, ◌∙◌}
 use Rattle.std.specs.Prelude.{slice_set}
-use Rattle.natives.specs.Names.{from_reading}
+use Rattle.natives.specs.Names.{after_slot, from_reading}
 use Rattle.natives.proofs.Choices.{reads-other}
 use Rattle.natives.proofs.names.NameSlots.take.Goals as goal
 
@@ -8,7 +8,9 @@ pub returns-clause-goes_on : goal.returns-clause-goes_on
 returns-clause-goes_on c = λ s.
     let m = c.args.self.now in
     let r = c.args.reading in
+    let held = c.value_of-held.result in
     c.go_on.ensures.goes_on s
-    ∙ ap (λ i. from_reading m.base m.slots m.slot m.registers m.later m.proposal (slice_set m.seen i c.args.held) c.after_slot.result s) c.from.ensures
-    ∙ ap (λ q. from_reading m.base m.slots m.slot m.registers m.later m.proposal (slice_set m.seen r.at c.args.held) q s) c.after_slot.ensures
-    ∙ sym (reads-other m r c.args.held s c.requires.read)
+    ∙ ap (λ i. from_reading m.base m.slots m.slot m.registers m.later m.proposal (slice_set m.seen i held) c.after_slot.result s) c.from.ensures
+    ∙ ap (λ q. from_reading m.base m.slots m.slot m.registers m.later m.proposal (slice_set m.seen r.at held) q s) c.after_slot.ensures
+    ∙ ap (λ v. from_reading m.base m.slots m.slot m.registers m.later m.proposal (slice_set m.seen r.at v) (after_slot m.slot m.proposal v r) s) c.value_of-held.ensures
+    ∙ sym (reads-other m r c.args.reply.now s c.requires.read)

@@ -6,5 +6,5 @@ pub returns-in-Proposes-clause-goes_on : goal.returns-in-Proposes-clause-goes_on
 returns-in-Proposes-clause-goes_on c = λ s.
     let m = c.args.self.now in
     c.go_on.ensures.goes_on s
-    ∙ sym (round-begins m c.args.reply s)
-    ∙ sym (ap (λ stage. rest_at m stage (c.args.reply ∷ s)) c.in-Proposes.is)
+    ∙ sym (round-begins m c.args.reply.now s)
+    ∙ sym (ap (λ stage. rest_at m stage (c.args.reply.now ∷ s)) c.in-Proposes.is)
