@@ -1,17 +1,19 @@
 //! The machine of one process.
 
-ghost use Rattle.std.specs.Prelude.{◌≡◌, ◌<◌, IfErr, IfOk, IfSome, Some, length, slice_get};
+ghost use Rattle.std.specs.Prelude.{◌≡◌, ◌<◌, ◌↔◌, IfErr, IfOk, IsOk, IsTrue, Some, length, slice_get};
+ghost use Rattle.uses.specs.Expansions.{expansion};
 ghost use Rattle.reglang.specs.Sources.{source_programs};
+ghost use Rattle.uses.specs.Uses.{use_fits};
 ghost use Rattle.cli.specs.declared.machines.ProcessMachine.TheVariants as process;
 
 use crate::refusals::Refusal;
 use machine::{Interp, Machine};
-use natives::{Grid, NameSlots, Split, Tree};
+use natives::{Grid, MakeFault, NameSlots, Names, Split, Tree};
 use reglang::{Source, Use};
 use regmodel::Pending;
 use std::alloc::Global;
 
-/// What runs one process: an interpreter of its program, or the native machine of its kind. There is none of `names`.
+/// What runs one process: an interpreter of its program, or the native machine of its kind.
 #[derive(Drop)]
 pub enum ProcessMachine {
     Text(Interp),
@@ -19,12 +21,13 @@ pub enum ProcessMachine {
     Grid(Grid),
     Tree(Tree),
     Name(NameSlots),
+    Names(Names),
 }
 
 impl Machine for ProcessMachine {
-    ghost program = { λ m. elim m [ process.Text i ↦ ⟦<Interp as Machine>⟧.program i | process.Split i ↦ ⟦<Split as Machine>⟧.program i | process.Grid i ↦ ⟦<Grid as Machine>⟧.program i | process.Tree i ↦ ⟦<Tree as Machine>⟧.program i | process.Name i ↦ ⟦<NameSlots as Machine>⟧.program i ] };
+    ghost program = { λ m. elim m [ process.Text i ↦ ⟦<Interp as Machine>⟧.program i | process.Split i ↦ ⟦<Split as Machine>⟧.program i | process.Grid i ↦ ⟦<Grid as Machine>⟧.program i | process.Tree i ↦ ⟦<Tree as Machine>⟧.program i | process.Name i ↦ ⟦<NameSlots as Machine>⟧.program i | process.Names i ↦ ⟦<Names as Machine>⟧.program i ] };
 
-    ghost rest = { λ m. elim m [ process.Text i ↦ ⟦<Interp as Machine>⟧.rest i | process.Split i ↦ ⟦<Split as Machine>⟧.rest i | process.Grid i ↦ ⟦<Grid as Machine>⟧.rest i | process.Tree i ↦ ⟦<Tree as Machine>⟧.rest i | process.Name i ↦ ⟦<NameSlots as Machine>⟧.rest i ] };
+    ghost rest = { λ m. elim m [ process.Text i ↦ ⟦<Interp as Machine>⟧.rest i | process.Split i ↦ ⟦<Split as Machine>⟧.rest i | process.Grid i ↦ ⟦<Grid as Machine>⟧.rest i | process.Tree i ↦ ⟦<Tree as Machine>⟧.rest i | process.Name i ↦ ⟦<NameSlots as Machine>⟧.rest i | process.Names i ↦ ⟦<Names as Machine>⟧.rest i ] };
 
     fn reset(&mut self) {
         match self {
@@ -33,6 +36,7 @@ impl Machine for ProcessMachine {
             ProcessMachine::Grid(machine) => machine.reset(),
             ProcessMachine::Tree(machine) => machine.reset(),
             ProcessMachine::Name(machine) => machine.reset(),
+            ProcessMachine::Names(machine) => machine.reset(),
         }
     }
 
@@ -43,6 +47,7 @@ impl Machine for ProcessMachine {
             ProcessMachine::Grid(machine) => machine.pending(),
             ProcessMachine::Tree(machine) => machine.pending(),
             ProcessMachine::Name(machine) => machine.pending(),
+            ProcessMachine::Names(machine) => machine.pending(),
         }
     }
 
@@ -53,6 +58,7 @@ impl Machine for ProcessMachine {
             ProcessMachine::Grid(machine) => machine.feed(reply),
             ProcessMachine::Tree(machine) => machine.feed(reply),
             ProcessMachine::Name(machine) => machine.feed(reply),
+            ProcessMachine::Names(machine) => machine.feed(reply),
         }
     }
 
@@ -63,12 +69,13 @@ impl Machine for ProcessMachine {
             ProcessMachine::Grid(machine) => machine.end(),
             ProcessMachine::Tree(machine) => machine.end(),
             ProcessMachine::Name(machine) => machine.end(),
+            ProcessMachine::Names(machine) => machine.end(),
         }
     }
 }
 
-/// The machine of process p of a source, counted from 0: where natives are asked for, the native one of a use line whose kind
-/// has one; else an interpreter. An error where a request for memory was refused.
+/// The machine of process p of a source, counted from 0: a native one for a use line where natives are asked for, else an
+/// interpreter. An error where a request for memory was refused.
 pub fn machine_of(
     alloc: Global,
     source: &Source,
@@ -79,12 +86,10 @@ pub fn machine_of(
     ensures program { IfOk result (λ m. slice_get (source_programs source.now) p ≡ Some (⟦<ProcessMachine as Machine>⟧.program m)) }
     ensures err { IfErr result (λ refusal. refusal ≡ Refusal.Memory) }
 {
-    if native {
-        if let Some(machine) = native_of(source, p) {
-            return Ok(machine);
-        }
+    match source.use_of(p) {
+        Some(kind) if native => native_of(kind, source.registers()).map_err(|_| Refusal::Memory),
+        _ => interpreter_of(alloc, source, p),
     }
-    interpreter_of(alloc, source, p)
 }
 
 /// An interpreter of the program of process p.
@@ -98,26 +103,25 @@ fn interpreter_of(alloc: Global, source: &Source, p: usize) -> Result<ProcessMac
     Ok(ProcessMachine::Text(interp))
 }
 
-/// The native machine of process p, where it has a use line of a kind with one.
-fn native_of(source: &Source, p: usize) -> Option<ProcessMachine>
-    requires { p < length (source_programs source.now) }
-    ensures program { IfSome result (λ m. slice_get (source_programs source.now) p ≡ Some (⟦<ProcessMachine as Machine>⟧.program m)) }
+/// The native machine of a use line. An error where a limit of the line is passed.
+fn native_of(kind: &Use, registers: u32) -> Result<ProcessMachine, MakeFault>
+    ensures program { IfOk result (λ m. ⟦<ProcessMachine as Machine>⟧.program m ≡ expansion kind.now registers) }
+    ensures made { IsOk result ↔ IsTrue (use_fits kind.now registers) }
+    ensures code { IfErr result (λ fault. fault.code ≡ 1) }
 {
-    let kind = source.use_of(p)?;
-    let registers = source.registers();
     match *kind {
-        Use::Split(base, id) => {
-            Split::make(base, id, registers).ok().map(ProcessMachine::Split)
-        }
+        Use::Split(base, id) => Ok(ProcessMachine::Split(Split::make(base, id, registers)?)),
         Use::Grid(base, side, id) => {
-            Grid::make(base, side, id, registers).ok().map(ProcessMachine::Grid)
+            Ok(ProcessMachine::Grid(Grid::make(base, side, id, registers)?))
         }
-        Use::Tree(base, depth, id, value) => {
-            Tree::make(base, depth, id, value, registers).ok().map(ProcessMachine::Tree)
-        }
-        Use::Name(base, slots, slot) => {
-            NameSlots::make(base, slots, slot, registers).ok().map(ProcessMachine::Name)
-        }
-        Use::Names(..) => None,
+        Use::Tree(base, depth, id, value) => Ok(ProcessMachine::Tree(Tree::make(
+            base, depth, id, value, registers,
+        )?)),
+        Use::Name(base, slots, slot) => Ok(ProcessMachine::Name(NameSlots::make(
+            base, slots, slot, registers,
+        )?)),
+        Use::Names(base, slots, slot) => Ok(ProcessMachine::Names(Names::make(
+            base, slots, slot, registers,
+        )?)),
     }
 }
