@@ -1,38 +1,20 @@
 -- What a renaming in progress does, by where it stands.
-use Rattle.std.proofs.Common.{◌≡◌, ◌≢◌, ℕ, zero, suc, ◌+◌, ◌-◌, ◌*◌, ◌≤◌, Bool, true, false, not, ◌&&◌, ◌||◌, cond, [], ◌∷◌, take, refl, ap, ◌∙◌, arith}
+use Rattle.std.proofs.Common.{◌≡◌, suc, ◌+◌, ◌-◌, ◌*◌, ◌≤◌, true, ◌||◌, [], ◌∷◌, take, ap, ◌∙◌, arith}
 use Rattle.std.specs.Prelude.{nat_lt, ◌==◌, slice_set}
 use Rattle.regmodel.specs.declared.accesses.Pending.{Pending}
 use Rattle.regmodel.specs.declared.accesses.Pending.TheVariants.{Done}
 use Rattle.regmodel.specs.Reply.{Reply, Replies, value_of}
 use Rattle.natives.specs.declared.names.NameSlots.{NameSlots}
-use Rattle.natives.specs.declared.names.Reading.{Reading}
+use Rattle.natives.specs.declared.rounds.Reading.{Reading}
 use Rattle.natives.specs.declared.names.Stage.{Stage}
 use Rattle.natives.specs.Bits.{bit}
-use Rattle.natives.specs.Names.{IsRead, after_slot, first_slot, at_slot, cells_of, from_round, from_reading, from_after, from_slot, name_rest, number_from}
-use Rattle.natives.proofs.Steps.{eq_no}
-use Rattle.natives.proofs.Slots.{IsChoice, clash_after, rank_after, finish-next, read-own, read-other, round-read}
+use Rattle.natives.specs.Rounds.{after_slot, first_slot, at_slot, cells_of, from_after, number_from}
+use Rattle.natives.specs.Names.{IsRead, rounds_from, from_round, from_reading, from_slot, name_rest}
+use Rattle.natives.proofs.NextNames.{IsChoice, rank_after, clash-past, rank-past, finish-next}
+use Rattle.natives.proofs.Slots.{alike, read-own, read-other, round-read}
 
 pub choice : (m : NameSlots) → IsChoice m.base m.slots m.slot m.registers
 choice m = record { own_in = m.own_in; few_slots = m.few_slots; room = m.room; few = m.few }
-
-pub not_false : (b : Bool) → not b ≡ false → b ≡ true
-not_false true e = refl
-not_false false e = cc
-
--- what a read tells, as the program computes it and as the machine does
-same_or : (clash same : Bool) → cond same 1 (bit clash) ≡ bit (clash || same)
-same_or true true = refl
-same_or true false = refl
-same_or false true = refl
-same_or false false = refl
-
-clash-past : (clash : Bool) (held proposal : ℕ) → clash_after proposal held (bit clash) ≡ bit (clash || held == proposal)
-clash-past clash held proposal = same_or clash (held == proposal)
-
-rank-past : (before : Bool) (held rank : ℕ) → rank_after before held rank ≡ cond (before && not (held == 0)) (rank + 1) rank
-rank-past true zero rank = refl
-rank-past true (suc held) rank = let some : suc held ≢ 0 = omega arith in rw (eq_no (suc held) 0 some) refl
-rank-past false held rank = refl
 
 module _ (m : NameSlots) where
   abbrev pub rest_at : Stage → Replies → Pending
@@ -42,13 +24,13 @@ module _ (m : NameSlots) where
   reads_on = from_reading m.base m.slots m.slot m.registers m.later m.proposal m.seen
 
   abbrev ends_round : Reading → Replies → Pending
-  ends_round reading s = from_after m.base m.slots m.slot m.registers m.later (at_slot m.proposal (bit reading.clash) reading.rank reading.at (cells_of m.seen)) s
+  ends_round reading s = from_after m.slots m.registers (rounds_from m.base m.slots m.slot m.registers m.later) (at_slot m.proposal (bit reading.clash) reading.rank reading.at (cells_of m.seen)) s
 
   -- a round that ends with a clash
   pub ends-clash : (reading : Reading) (s : Replies) → reading.clash ≡ true → ends_round reading s ≡ from_round m.base m.slots m.slot m.registers m.later (number_from (take m.slots m.seen) (2 * m.slots - 1) reading.rank 0) (cells_of m.seen) s
   ends-clash reading s e =
-      ap (λ b. from_after m.base m.slots m.slot m.registers m.later (at_slot m.proposal (bit b) reading.rank reading.at (cells_of m.seen)) s) e
-      ∙ finish-next m.base m.slots m.slot m.registers (choice m) m.seen m.eight m.later m.proposal reading.rank reading.at s
+      ap (λ b. from_after m.slots m.registers (rounds_from m.base m.slots m.slot m.registers m.later) (at_slot m.proposal (bit b) reading.rank reading.at (cells_of m.seen)) s) e
+      ∙ finish-next m.slots m.registers m.few_slots (rounds_from m.base m.slots m.slot m.registers m.later) (alike m.base m.slots m.slot m.registers (choice m) m.later) m.seen m.eight m.proposal reading.rank reading.at s
 
   pub ends-over : (reading : Reading) (s : Replies) → reading.clash ≡ true → m.later ≡ 0 → ends_round reading s ≡ Done (record { items = [] })
   ends-over reading s e none =

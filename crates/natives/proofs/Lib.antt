@@ -1,7 +1,10 @@
 pub mod Choices
 pub mod Collects
 pub mod Descents
+pub mod NextNames
 pub mod Powers
+pub mod ScanStages
+pub mod Scans
 pub mod Slots
 pub mod Steps
 pub mod Visits

@@ -1,13 +1,15 @@
 -- Worked examples.
 use Rattle.std.specs.Prelude.{◌≡◌, true, false, Bool, List, [], ◌∷◌, refl, replicate, slice_set}
-use Rattle.regmodel.specs.declared.accesses.Access.TheVariants.{Read, Write}
+use Rattle.regmodel.specs.declared.accesses.Access.TheVariants.{Read, Write, Scan}
 use Rattle.regmodel.specs.declared.accesses.Pending.TheVariants.{Wants, Done, Fault}
 use Rattle.regmodel.specs.Reply.{one}
 use Rattle.uses.specs.Expansions.{split_program}
 use Rattle.natives.specs.declared.split.Stage.TheVariants as split
 use Rattle.natives.specs.Splits.{split_rest}
 use Rattle.natives.specs.Grids.{grid_from}
-use Rattle.natives.specs.Names.{first_slot, after_slot, number_from, from_reading}
+use Rattle.natives.specs.Rounds.{first_slot, after_slot, after_slots, number_from}
+use Rattle.natives.specs.Names.{from_reading}
+use Rattle.natives.specs.ScannedNames.{from_scan_round}
 use Rattle.natives.specs.Trees.{from_stop, from_past, from_at}
 
 -- ---- a splitter that is about to look who came last
@@ -38,6 +40,25 @@ second_free = refl
 -- a slot below the own one that holds the proposal
 pub clash_below : after_slot 1 1 1 first_slot ≡ record { at = 1; clash = true; rank = 2 }
 clash_below = refl
+
+-- ---- two slots that are scanned, of which the second is the own one
+
+pub names_scans : from_scan_round 0 2 1 2 99 1 (replicate 32 0) (one 0 ∷ []) ≡ Wants (Scan 0 2)
+names_scans = refl
+
+pub names_clash : from_scan_round 0 2 1 2 99 1 (replicate 32 0) (one 0 ∷ (1 ∷ 1 ∷ []) ∷ []) ≡ Wants (Write 1 3)
+names_clash = refl
+
+-- the proposal in the own slot is no clash
+pub names_alone : from_scan_round 0 2 1 2 99 1 (replicate 32 0) (one 0 ∷ (0 ∷ 1 ∷ []) ∷ []) ≡ Done (record { items = 1 ∷ [] })
+names_alone = refl
+
+pub names_last_round : from_scan_round 0 2 1 2 1 1 (replicate 32 0) (one 0 ∷ (1 ∷ 0 ∷ []) ∷ []) ≡ Done (record { items = [] })
+names_last_round = refl
+
+-- the slot below holds the proposal, the own one counts as empty
+pub clash_of_both : after_slots 1 1 (1 ∷ 0 ∷ []) first_slot ≡ record { at = 2; clash = true; rank = 2 }
+clash_of_both = refl
 
 -- ---- a tree of three vertices at registers 0 to 11
 

@@ -2,5 +2,7 @@ pub mod Bits
 pub mod Examples
 pub mod Grids
 pub mod Names
+pub mod Rounds
+pub mod ScannedNames
 pub mod Splits
 pub mod Trees

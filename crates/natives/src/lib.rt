@@ -1,14 +1,17 @@
-//! Native machines: the four kinds of use lines as machines of their own, each with the program of its line.
+//! Native machines: the kinds of use lines as machines of their own, each with the program of its line.
 #![tactic(auto)]
 
 mod grid;
 mod names;
 mod numbers;
+mod rounds;
+mod scanned_names;
 mod split;
 mod trees;
 
 pub use grid::Grid;
 pub use names::NameSlots;
+pub use scanned_names::Names;
 pub use split::Split;
 use thiserror::Error;
 pub use trees::Tree;

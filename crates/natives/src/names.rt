@@ -1,6 +1,6 @@
 //! Renamings: a process proposes a name in its slot until no other slot holds it.
 
-ghost use Rattle.std.specs.Prelude.{◌≡◌, ◌≢◌, ℕ, zero, suc, ◌+◌, ◌-◌, ◌*◌, ◌<◌, ◌≤◌, ◌↔◌, List, ◌∷◌, false, Err, IfOk, IsOk, IsTrue, length, slice_index, take};
+ghost use Rattle.std.specs.Prelude.{◌≡◌, ◌≢◌, ℕ, ◌+◌, ◌<◌, ◌≤◌, ◌↔◌, ◌∷◌, false, Err, IfOk, IsOk, IsTrue, length, slice_index};
 ghost use Rattle.regmodel.specs.Act.{act_of};
 ghost use Rattle.regmodel.specs.Lawful.{IsLawful};
 ghost use Rattle.regmodel.specs.Reply.{Replies};
@@ -9,47 +9,18 @@ ghost use Rattle.uses.specs.Expansions.{expansion};
 ghost use Rattle.uses.specs.Uses.{use_fits};
 ghost use Rattle.natives.specs.declared.TheConstants.{PAST_LIMIT};
 ghost use Rattle.regmodel.specs.declared.limits.TheConstants.{MOST_REGISTERS, MOST_SLOTS};
-ghost use Rattle.natives.specs.declared.names.Reading.{Reading};
+ghost use Rattle.natives.specs.declared.rounds.Reading.{Reading};
 ghost use Rattle.natives.specs.declared.names.Stage.TheVariants.{Reads};
 ghost use Rattle.natives.specs.Bits.{bit};
-ghost use Rattle.natives.specs.Names.{IsRead, after_slot, at_slot, cells_of, from_reading, from_after, holds, number_from};
+ghost use Rattle.natives.specs.Rounds.{at_slot, cells_of, from_after};
+ghost use Rattle.natives.specs.Names.{IsRead, from_reading, rounds_from};
 
 use crate::numbers::{done, done_with};
+use crate::rounds::{LATER, Reading, free_number};
 use crate::{MakeFault, PAST_LIMIT};
 use machine::{Machine, value_of};
-use regmodel::limits::MOST_TURNS;
 use regmodel::{Access, Pending};
 use uses::Use;
-
-/// How many rounds there are after the first.
-const LATER: u8 = MOST_TURNS as u8 - 1;
-
-/// A slot that is read, and what the slots before it gave.
-#[derive(Clone, Copy)]
-struct Reading {
-    /// The slot.
-    at: u8,
-    /// Whether one of them held the proposal.
-    clash: bool,
-    /// One more than the slots among them that are below the own one and hold something.
-    rank: u8,
-}
-
-impl Reading {
-    /// Past the slot, which held this much.
-    fn after_slot(self, held: u32, proposal: u32, own: u8) -> Reading
-        requires few { self.at ≤ MOST_SLOTS }
-        requires small { self.rank ≤ self.at + 1 }
-        ensures { result ≡ after_slot own proposal held self }
-    {
-        let higher = self.at < own && held != 0;
-        Reading {
-            at: self.at + 1,
-            clash: self.clash || held == proposal,
-            rank: if higher { self.rank + 1 } else { self.rank },
-        }
-    }
-}
 
 /// Where a process stands in a round.
 #[derive(Clone, Copy)]
@@ -111,37 +82,11 @@ impl NameSlots {
         Ok(names)
     }
 
-    /// Whether one of the slots held this number.
-    fn held(&self, number: u32) -> bool
-        ensures { result ≡ holds number (take self.now.slots self.now.seen) }
-    {
-        self.seen[..usize::from(self.slots)].contains(&number)
-    }
-
-    /// The number of this rank, from 1, among those that no slot held.
-    fn free_number(&self, rank: u8) -> u32
-        requires { 1 ≤ rank }
-        ensures { result ≡ number_from (take self.now.slots self.now.seen) (2 * self.now.slots - 1) rank 0 }
-    {
-        let end = 2 * u32::from(self.slots);
-        let mut left = rank;
-        for number in 1..end {
-            if self.held(number) {
-                continue;
-            }
-            left -= 1;
-            if left == 0 {
-                return number;
-            }
-        }
-        end - 1
-    }
-
     /// Ends a round: the proposal stands, or there is a new one for the next round, where one is left.
     fn finish(&mut self, reading: Reading)
         requires { 1 ≤ reading.rank }
         ensures same { ⟦<NameSlots as Machine>⟧.program self.new ≡ ⟦<NameSlots as Machine>⟧.program self.old }
-        ensures goes_on { (s : Replies) → ⟦<NameSlots as Machine>⟧.rest self.new s ≡ from_after self.old.base self.old.slots self.old.slot self.old.registers self.old.later (at_slot self.old.proposal (bit reading.clash) reading.rank reading.at (cells_of self.old.seen)) s }
+        ensures goes_on { (s : Replies) → ⟦<NameSlots as Machine>⟧.rest self.new s ≡ from_after self.old.slots self.old.registers (rounds_from self.old.base self.old.slots self.old.slot self.old.registers self.old.later) (at_slot self.old.proposal (bit reading.clash) reading.rank reading.at (cells_of self.old.seen)) s }
     {
         if !reading.clash {
             self.stage = Stage::Named;
@@ -149,7 +94,7 @@ impl NameSlots {
             self.stage = Stage::Over;
         } else {
             self.later -= 1;
-            self.proposal = self.free_number(reading.rank);
+            self.proposal = free_number(&self.seen[..usize::from(self.slots)], reading.rank);
             self.stage = Stage::Proposes;
         }
     }
@@ -201,10 +146,11 @@ impl NameSlots {
 }
 
 impl Machine for NameSlots {
-    ghost use Rattle.std.specs.Prelude.{ℕ, List, suc};
+    ghost use Rattle.std.specs.Prelude.{suc};
     ghost use Rattle.uses.specs.declared.kinds.Use.TheVariants as kind;
     ghost use Rattle.uses.specs.Expansions.{expansion};
-    ghost use Rattle.natives.specs.Names.{cells_of, from_round, from_reading, name_rest};
+    ghost use Rattle.natives.specs.Rounds.{cells_of};
+    ghost use Rattle.natives.specs.Names.{from_round, from_reading, name_rest};
 
     ghost program = { λ m. expansion (kind.Name m.base m.slots m.slot) m.registers };
 
@@ -228,11 +174,7 @@ impl Machine for NameSlots {
 
     fn feed(&mut self, reply: &[u32]) {
         match self.stage {
-            Stage::Proposes => self.go_on(Reading {
-                at: 0,
-                clash: false,
-                rank: 1,
-            }),
+            Stage::Proposes => self.go_on(Reading::first()),
             Stage::Reads(reading) => self.take(reading, reply),
             Stage::Named | Stage::Over => {}
         }

@@ -1,6 +1,6 @@
 //! Splitters: a process leaves its number, tries a door and closes it, and stops, goes right or goes down by what it read.
 
-ghost use Rattle.std.specs.Prelude.{◌≡◌, ℕ, ◌+◌, ◌≤◌, ◌↔◌, List, false, Err, IfOk, IsOk, IsTrue};
+ghost use Rattle.std.specs.Prelude.{◌≡◌, ◌+◌, ◌≤◌, ◌↔◌, false, Err, IfOk, IsOk, IsTrue};
 ghost use Rattle.regmodel.specs.Act.{act_of};
 ghost use Rattle.regmodel.specs.Lawful.{IsLawful};
 ghost use Rattle.regmodel.specs.Reply.{Replies};
@@ -70,7 +70,6 @@ impl Split {
 }
 
 impl Machine for Split {
-    ghost use Rattle.std.specs.Prelude.{ℕ, List};
     ghost use Rattle.uses.specs.declared.kinds.Use.TheVariants as kind;
     ghost use Rattle.uses.specs.Expansions.{expansion};
     ghost use Rattle.natives.specs.Splits.{split_rest};

@@ -1,7 +1,7 @@
 //! Collect trees: a process goes down a binary tree of splitters until it stops at a vertex, leaves its value there, and
 //! collects the values of the vertices whose marks it reads.
 
-ghost use Rattle.std.specs.Prelude.{◌≡◌, ◌≢◌, ℕ, suc, ◌+◌, ◌-◌, ◌*◌, ◌^◌, ◌<◌, ◌≤◌, ◌↔◌, List, [], ◌∷◌, true, false, Err, IfOk, IfSome, IsOk, IsTrue, length, replicate, slice_set};
+ghost use Rattle.std.specs.Prelude.{◌≡◌, ◌≢◌, ℕ, suc, ◌+◌, ◌-◌, ◌*◌, ◌^◌, ◌<◌, ◌≤◌, ◌↔◌, [], ◌∷◌, true, false, Err, IfOk, IfSome, IsOk, IsTrue, length, replicate, slice_set};
 ghost use Rattle.regmodel.specs.Act.{act_of};
 ghost use Rattle.regmodel.specs.Lawful.{IsLawful};
 ghost use Rattle.regmodel.specs.Reply.{Replies, one};
@@ -212,7 +212,7 @@ impl Tree {
 }
 
 impl Machine for Tree {
-    ghost use Rattle.std.specs.Prelude.{ℕ, List, suc};
+    ghost use Rattle.std.specs.Prelude.{suc};
     ghost use Rattle.uses.specs.declared.kinds.Use.TheVariants as kind;
     ghost use Rattle.uses.specs.Expansions.{expansion};
     ghost use Rattle.natives.specs.Trees.{from_vertex, from_stop, from_at, tree_rest};

@@ -1,6 +1,9 @@
 use Rattle.std.proofs.Common.{◌≡◌, suc, ◌-◌, sym, ap, ◌∙◌, arith}
-use Rattle.natives.specs.Names.{cells_of, from_round}
-use Rattle.natives.proofs.Choices.{not_false, ends-clash, ends-over}
+use Rattle.natives.specs.Rounds.{cells_of}
+use Rattle.natives.specs.Names.{from_round}
+use Rattle.natives.proofs.NextNames.{slots-number}
+use Rattle.natives.proofs.Steps.{not_false}
+use Rattle.natives.proofs.Choices.{ends-clash, ends-over}
 use Rattle.natives.proofs.names.NameSlots.finish.Goals as goal
 
 pub returns-then-self-eq0-clause-goes_on : goal.returns-then-self-eq0-clause-goes_on
@@ -14,6 +17,7 @@ returns-else-self-eq0-clause-goes_on c = λ s.
     let m = c.args.self.now in
     let clash = not_false c.args.reading.clash c.if-not-reading.false in
     let later : suc (m.later - 1) ≡ m.later = omega arith in
+    let number = c.free_number-self.ensures ∙ slots-number m.seen c.from.result m.slots c.args.reading.rank c.from.ensures m.eight m.few_slots in
     ap (λ n. from_round m.base m.slots m.slot m.registers n c.free_number-self.result (cells_of m.seen) s) later
-    ∙ ap (λ p. from_round m.base m.slots m.slot m.registers m.later p (cells_of m.seen) s) c.free_number-self.ensures
+    ∙ ap (λ p. from_round m.base m.slots m.slot m.registers m.later p (cells_of m.seen) s) number
     ∙ sym (ends-clash m c.args.reading s clash)

@@ -1,6 +1,7 @@
 use Rattle.std.proofs.Common.{ap, sym, replicate}
 use Rattle.regmodel.specs.Act.{flow_pending}
-use Rattle.natives.specs.Names.{at_slot, rounds_from}
+use Rattle.natives.specs.Rounds.{at_slot}
+use Rattle.natives.specs.Names.{rounds_from}
 use Rattle.natives.proofs.Steps.{then_stop}
 use Rattle.natives.proofs.names.NameSlotsMachine.reset.Goals as goal
 
