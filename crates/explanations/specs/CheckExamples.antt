@@ -32,3 +32,24 @@ missing = refl
 -- at most 8 processes have a name
 pub past_limit : word_at_fault 8 (codes "check atmost 9 9") ≡ Some (codes "9")
 past_limit = refl
+
+-- the numbers of a scan are words of the text, no variables
+pub variable_in_a_scan : word_at_fault 4 (codes "scan v0 0 1") ≡ Some (codes "v0")
+variable_in_a_scan = refl
+
+pub cell_in_a_scan : word_at_fault 4 (codes "scan 0 0 [1]") ≡ Some (codes "[1]")
+cell_in_a_scan = refl
+
+-- how many registers is missing
+pub no_count : word_at_fault 4 (codes "scan 0 0") ≡ None
+no_count = refl
+
+-- a first word, and no later one; and the other way round
+pub scan_later : word_at_fault 2 (codes "read v0 scan") ≡ Some (codes "scan")
+scan_later = refl
+
+pub names_first : word_at_fault 2 (codes "names 0 2 0") ≡ Some (codes "names")
+names_first = refl
+
+pub names_of_a_variable : word_at_fault 4 (codes "use names 0 2 v1") ≡ Some (codes "v1")
+names_of_a_variable = refl

@@ -45,6 +45,7 @@ use_sorts (word.Kind kind.Split) = sort.Kind ∷ sort.Number ∷ sort.Number ∷
 use_sorts (word.Kind kind.Grid) = sort.Kind ∷ sort.Number ∷ sort.Number ∷ sort.Number ∷ []
 use_sorts (word.Kind kind.Tree) = sort.Kind ∷ sort.Number ∷ sort.Number ∷ sort.Number ∷ sort.Number ∷ []
 use_sorts (word.Kind kind.Name) = sort.Kind ∷ sort.Number ∷ sort.Number ∷ sort.Number ∷ []
+use_sorts (word.Kind kind.Names) = sort.Kind ∷ sort.Number ∷ sort.Number ∷ sort.Number ∷ []
 use_sorts _ = sort.Kind ∷ []
 
 -- what stands in a clause, by its property
@@ -59,6 +60,7 @@ sorts_after keyword.Registers next = sort.Number ∷ []
 sorts_after keyword.Set next = sort.Target ∷ sort.Operand ∷ sort.Operator ∷ sort.Operand ∷ []
 sorts_after keyword.Read next = sort.Target ∷ sort.Operand ∷ []
 sorts_after keyword.Write next = sort.Operand ∷ sort.Operand ∷ sort.Operator ∷ sort.Operand ∷ []
+sorts_after keyword.Scan next = sort.Number ∷ sort.Number ∷ sort.Number ∷ []
 sorts_after keyword.If next = sort.Operand ∷ sort.Operator ∷ sort.Operand ∷ []
 sorts_after keyword.Repeat next = sort.Operand ∷ sort.Operator ∷ sort.Operand ∷ []
 sorts_after keyword.Emit next = sort.Operand ∷ sort.Operator ∷ sort.Operand ∷ []

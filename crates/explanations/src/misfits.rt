@@ -125,6 +125,7 @@ fn sorts_after(key: Keyword, next: Word) -> &'static [Sort]
         Keyword::Set => &[Sort::Target, Sort::Operand, Sort::Operator, Sort::Operand],
         Keyword::Read => &[Sort::Target, Sort::Operand],
         Keyword::Write => &[Sort::Operand, Sort::Operand, Sort::Operator, Sort::Operand],
+        Keyword::Scan => &[Sort::Number, Sort::Number, Sort::Number],
         Keyword::If | Keyword::Repeat | Keyword::Emit => EXPRESSION,
         Keyword::Use => use_sorts(next),
         Keyword::Check => clause_sorts(next),
@@ -138,7 +139,7 @@ fn use_sorts(kind: Word) -> &'static [Sort]
 {
     match kind {
         Word::Kind(Kind::Split) => &[Sort::Kind, Sort::Number, Sort::Number],
-        Word::Kind(Kind::Grid | Kind::Name) => {
+        Word::Kind(Kind::Grid | Kind::Name | Kind::Names) => {
             &[Sort::Kind, Sort::Number, Sort::Number, Sort::Number]
         }
         Word::Kind(Kind::Tree) => {

@@ -72,11 +72,11 @@ pub fn what_to_change(code: u8, culprit: Culprit) -> &'static str
             "use spaces, and no other bytes than those from space to ~; end each line with a line feed alone"
         }
         UNKNOWN_WORD => {
-            "begin the line with one of registers, process, end, set, read, write, if, else, fi, repeat, done, emit, halt, use, check, and go on with numbers, variables v0 to v15, cells [0] to [31] or [v0] to [v15], operators and kinds"
+            "begin the line with one of registers, process, end, set, read, write, scan, if, else, fi, repeat, done, emit, halt, use, check, and go on with numbers, variables v0 to v15, cells [0] to [31] or [v0] to [v15], operators and kinds"
         }
         NO_NUMBER => "write a number with digits alone, and without a 0 before others",
         NO_FORM => {
-            "give the line its form: registers NUMBER, set TARGET EXPR, read TARGET OPERAND, write OPERAND EXPR, if EXPR, repeat EXPR, emit EXPR, use KIND NUMBERS; process, end, else, fi, done and halt stand alone"
+            "give the line its form: registers NUMBER, set TARGET EXPR, read TARGET OPERAND, write OPERAND EXPR, scan CELL REG COUNT with three numbers, if EXPR, repeat EXPR, emit EXPR, use KIND NUMBERS; process, end, else, fi, done and halt stand alone"
         }
         MISPLACED if ended => {
             "close what is open: an if with fi, a repeat with done, a process with end"
@@ -86,7 +86,7 @@ pub fn what_to_change(code: u8, culprit: Culprit) -> &'static str
         }
         PAST_LIMIT if ended => "write at least one process",
         PAST_LIMIT => {
-            "stay within 1 to 64 registers, 1 to 8 processes, 200 statements a process, 16 open blocks, 3 of them repeats, 16 checks, numbers up to 1000000000, and the limits of the kind"
+            "stay within 1 to 64 registers, 1 to 8 processes, 200 statements a process, 16 open blocks, 3 of them repeats, 16 checks, numbers up to 1000000000, scans of 1 to 32 registers that are there into cells up to [31], and the limits of the kind"
         }
         NO_REGISTERS => "begin with a line registers NUMBER",
         NO_CLAUSE => {

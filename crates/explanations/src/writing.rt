@@ -10,8 +10,8 @@ use crate::lines::shown_line;
 use crate::misfits::word_at_fault;
 use crate::wording::{Culprit, what_is_wrong, what_to_change};
 use reglang::Rejection;
-use texts::{Block, WriteFault, put_digits};
 use std::io::Write;
+use texts::{Block, WriteFault, put_digits};
 
 /// Writes what is wrong with the text in the file of this path, which was refused so: the number of the line and what is wrong, with the word
 /// at fault where there is one, the line itself, a question mark for each byte that is not printable ASCII, and what to change. After a fault

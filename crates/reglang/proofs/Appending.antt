@@ -56,6 +56,7 @@ else_of_stmt : (s : Stmt) (rest : Block) (lines : List Line) → else_lines (wit
 else_of_stmt (stmt.Assign t e) rest lines = refl
 else_of_stmt (stmt.Read t a) rest lines = refl
 else_of_stmt (stmt.Write a e) rest lines = refl
+else_of_stmt (stmt.Scan cell first count) rest lines = refl
 else_of_stmt (stmt.If' e m first k second) rest lines = refl
 else_of_stmt (stmt.Repeat' e m body) rest lines = refl
 else_of_stmt (stmt.Emit e) rest lines = refl

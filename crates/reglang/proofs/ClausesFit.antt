@@ -122,6 +122,16 @@ two make (Some x) None h = tt
 two make None (Some y) h = tt
 two make None None h = tt
 
+three_numbers : (cell first count : Option ℕ) → IsFormFit (Some (λ c f n. line.Scan c f n) ⊛ cell ⊛ first ⊛ count)
+three_numbers (Some cell) (Some first) (Some count) = tt
+three_numbers (Some cell) (Some first) None = tt
+three_numbers (Some cell) None (Some count) = tt
+three_numbers (Some cell) None None = tt
+three_numbers None (Some first) (Some count) = tt
+three_numbers None (Some first) None = tt
+three_numbers None None (Some count) = tt
+three_numbers None None None = tt
+
 none_more : (l : Line) (ws : List Word) → IsLineFit l → IsFormFit (alone l ws)
 none_more l [] h = h
 none_more l (w ∷ ws) h = tt
@@ -144,6 +154,11 @@ form_fits keyword.Read (to ∷ from ∷ []) = two _ (target_of to) (operand_of f
 form_fits keyword.Read (to ∷ from ∷ a ∷ more) = tt
 form_fits keyword.Write [] = tt
 form_fits keyword.Write (to ∷ value) = two _ (operand_of to) (expr_of value) (λ a e. tt)
+form_fits keyword.Scan [] = tt
+form_fits keyword.Scan (cell ∷ []) = tt
+form_fits keyword.Scan (cell ∷ first ∷ []) = tt
+form_fits keyword.Scan (cell ∷ first ∷ count ∷ []) = three_numbers (number_in cell) (number_in first) (number_in count)
+form_fits keyword.Scan (cell ∷ first ∷ count ∷ a ∷ more) = tt
 form_fits keyword.If ws = one line.If (expr_of ws) (λ e. tt)
 form_fits keyword.Else ws = none_more line.Else ws tt
 form_fits keyword.Fi ws = none_more line.Fi ws tt
@@ -175,6 +190,7 @@ begun_fits keyword.End ws = keyword_line_fits keyword.End ws
 begun_fits keyword.Set ws = keyword_line_fits keyword.Set ws
 begun_fits keyword.Read ws = keyword_line_fits keyword.Read ws
 begun_fits keyword.Write ws = keyword_line_fits keyword.Write ws
+begun_fits keyword.Scan ws = keyword_line_fits keyword.Scan ws
 begun_fits keyword.If ws = keyword_line_fits keyword.If ws
 begun_fits keyword.Else ws = keyword_line_fits keyword.Else ws
 begun_fits keyword.Fi ws = keyword_line_fits keyword.Fi ws

@@ -5,7 +5,7 @@ use Rattle.std.proofs.lemmas.Bool.{lt-ltb}
 use Rattle.std.proofs.lemmas.List.{append-nil, length-map}
 use Rattle.std.proofs.lemmas.Grind.{flat_map-append}
 use Rattle.regmodel.specs.declared.clauses.Clause.{Clause}
-use Rattle.regmodel.specs.Limits.{target_fits, operand_fits, expr_fits}
+use Rattle.regmodel.specs.Limits.{target_fits, operand_fits, expr_fits, scan_fits}
 use Rattle.regmodel.specs.Program as program
 use Rattle.regmodel.specs.Program.{Block}
 use Rattle.reglang.specs.Contents.{Contents, Text, Kind}
@@ -46,6 +46,7 @@ begins line.End = refl
 begins (line.Set to value) = refl
 begins (line.Read to from) = refl
 begins (line.Write to value) = refl
+begins (line.Scan cell first count) = refl
 begins (line.If test) = refl
 begins line.Else = refl
 begins line.Fi = refl
@@ -76,6 +77,7 @@ between before line.End = refl
 between before (line.Set to value) = refl
 between before (line.Read to from) = refl
 between before (line.Write to value) = refl
+between before (line.Scan cell first count) = refl
 between before (line.If test) = refl
 between before line.Else = refl
 between before line.Fi = refl
@@ -133,6 +135,7 @@ inside before frames block n (line.Check clause) = refl
 inside before frames block n (line.Set to value) = limited (Inside before frames block n) (line.Set to value) _ (nat_lt n 200 && (target_fits to && expr_fits value)) refl refl
 inside before frames block n (line.Read to from) = limited (Inside before frames block n) (line.Read to from) _ (nat_lt n 200 && (target_fits to && operand_fits from)) refl refl
 inside before frames block n (line.Write to value) = limited (Inside before frames block n) (line.Write to value) _ (nat_lt n 200 && (operand_fits to && expr_fits value)) refl refl
+inside before frames block n (line.Scan cell first count) = limited (Inside before frames block n) (line.Scan cell first count) _ (nat_lt n 200 && scan_fits before.registers cell first count) refl refl
 inside before frames block n (line.Emit value) = limited (Inside before frames block n) (line.Emit value) _ (nat_lt n 200 && expr_fits value) refl refl
 inside before frames block n line.Halt = halted before frames block n (nat_lt n 200) refl
 inside before frames block n (line.If test) = entered before frames block n (line.If test) (First test block) (expr_fits test) refl refl
@@ -150,6 +153,7 @@ used before kind line.End = (refl, ap (λ m. outside before.registers m (length 
 used before kind (line.Set to value) = refl
 used before kind (line.Read to from) = refl
 used before kind (line.Write to value) = refl
+used before kind (line.Scan cell first count) = refl
 used before kind (line.If test) = refl
 used before kind line.Else = refl
 used before kind line.Fi = refl

@@ -20,6 +20,7 @@ use_of_long (Some kind.Split) b c d e f more = refl
 use_of_long (Some kind.Grid) b c d e f more = refl
 use_of_long (Some kind.Tree) b c d e f more = refl
 use_of_long (Some kind.Name) b c d e f more = refl
+use_of_long (Some kind.Names) b c d e f more = refl
 use_of_long None b c d e f more = refl
 
 form_of_long : (key : Keyword) (a b c d e f : Word) (more : List Word) → form_of key (a ∷ b ∷ c ∷ d ∷ e ∷ f ∷ []) ≡ form_of key (a ∷ b ∷ c ∷ d ∷ e ∷ f ∷ more)
@@ -29,6 +30,7 @@ form_of_long keyword.End a b c d e f more = refl
 form_of_long keyword.Set a b c d e f more = refl
 form_of_long keyword.Read a b c d e f more = refl
 form_of_long keyword.Write a b c d e f more = refl
+form_of_long keyword.Scan a b c d e f more = refl
 form_of_long keyword.If a b c d e f more = refl
 form_of_long keyword.Else a b c d e f more = refl
 form_of_long keyword.Fi a b c d e f more = refl

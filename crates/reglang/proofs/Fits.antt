@@ -4,7 +4,7 @@ use Rattle.std.specs.Prelude.{if◌then◌else◌, ◌&&◌, nat_lt}
 use Rattle.std.proofs.lemmas.Bool.{and_parts, and_from, leb-true, ltb-true}
 use Rattle.std.proofs.lemmas.List.Elements.{All-append, All-from_recursion}
 use Rattle.regmodel.specs.declared.programs.Expr.{Expr}
-use Rattle.regmodel.specs.Limits.{target_fits, operand_fits, expr_fits, operands_fit, statements, open_blocks, open_repeats}
+use Rattle.regmodel.specs.Limits.{target_fits, operand_fits, expr_fits, scan_fits, operands_fit, statements, open_blocks, open_repeats}
 use Rattle.regmodel.specs.Program as program
 use Rattle.regmodel.specs.Program.{Block, Stop}
 use Rattle.reglang.specs.Contents.{Contents, Body, Text, Kind, IsBodyWithin, IsSourceWithin, clause_fits}
@@ -22,21 +22,23 @@ both : (x y z : Bool) → x && (y && z) ≡ x && y && z
 both true y z = refl
 both false y z = refl
 
-pub operands-join : (a b : Block) → operands_fit (a ⊕ b) ≡ operands_fit a && operands_fit b
-operands-join Stop b = refl
-operands-join (program.Assign t e rest) b = ap (λ x. target_fits t && expr_fits e && x) (operands-join rest b) ∙ both (target_fits t && expr_fits e) (operands_fit rest) (operands_fit b)
-operands-join (program.Read t a rest) b = ap (λ x. target_fits t && operand_fits a && x) (operands-join rest b) ∙ both (target_fits t && operand_fits a) (operands_fit rest) (operands_fit b)
-operands-join (program.Write a e rest) b = ap (λ x. operand_fits a && expr_fits e && x) (operands-join rest b) ∙ both (operand_fits a && expr_fits e) (operands_fit rest) (operands_fit b)
-operands-join (program.If e first second rest) b = ap (λ x. expr_fits e && operands_fit first && operands_fit second && x) (operands-join rest b) ∙ both (expr_fits e && operands_fit first && operands_fit second) (operands_fit rest) (operands_fit b)
-operands-join (program.Repeat e body rest) b = ap (λ x. expr_fits e && operands_fit body && x) (operands-join rest b) ∙ both (expr_fits e && operands_fit body) (operands_fit rest) (operands_fit b)
-operands-join (program.Emit e rest) b = ap (λ x. expr_fits e && x) (operands-join rest b) ∙ both (expr_fits e) (operands_fit rest) (operands_fit b)
-operands-join (program.Halt rest) b = operands-join rest b
+pub operands-join : (n : ℕ) (a b : Block) → operands_fit n (a ⊕ b) ≡ operands_fit n a && operands_fit n b
+operands-join n Stop b = refl
+operands-join n (program.Assign t e rest) b = ap (λ x. target_fits t && expr_fits e && x) (operands-join n rest b) ∙ both (target_fits t && expr_fits e) (operands_fit n rest) (operands_fit n b)
+operands-join n (program.Read t a rest) b = ap (λ x. target_fits t && operand_fits a && x) (operands-join n rest b) ∙ both (target_fits t && operand_fits a) (operands_fit n rest) (operands_fit n b)
+operands-join n (program.Write a e rest) b = ap (λ x. operand_fits a && expr_fits e && x) (operands-join n rest b) ∙ both (operand_fits a && expr_fits e) (operands_fit n rest) (operands_fit n b)
+operands-join n (program.Scan cell first count rest) b = ap (λ x. scan_fits n cell first count && x) (operands-join n rest b) ∙ both (scan_fits n cell first count) (operands_fit n rest) (operands_fit n b)
+operands-join n (program.If e first second rest) b = ap (λ x. expr_fits e && operands_fit n first && operands_fit n second && x) (operands-join n rest b) ∙ both (expr_fits e && operands_fit n first && operands_fit n second) (operands_fit n rest) (operands_fit n b)
+operands-join n (program.Repeat e body rest) b = ap (λ x. expr_fits e && operands_fit n body && x) (operands-join n rest b) ∙ both (expr_fits e && operands_fit n body) (operands_fit n rest) (operands_fit n b)
+operands-join n (program.Emit e rest) b = ap (λ x. expr_fits e && x) (operands-join n rest b) ∙ both (expr_fits e) (operands_fit n rest) (operands_fit n b)
+operands-join n (program.Halt rest) b = operands-join n rest b
 
 pub statements-join : (a b : Block) → statements (a ⊕ b) ≡ statements a + statements b
 statements-join Stop b = omega arith
 statements-join (program.Assign t e rest) b = omega (arith, statements-join rest b)
 statements-join (program.Read t a rest) b = omega (arith, statements-join rest b)
 statements-join (program.Write a e rest) b = omega (arith, statements-join rest b)
+statements-join (program.Scan cell first count rest) b = omega (arith, statements-join rest b)
 statements-join (program.If e first second rest) b = omega (arith, statements-join rest b)
 statements-join (program.Repeat e body rest) b = omega (arith, statements-join rest b)
 statements-join (program.Emit e rest) b = omega (arith, statements-join rest b)
@@ -47,6 +49,7 @@ open_blocks-join Stop b = omega arith
 open_blocks-join (program.Assign t e rest) b = open_blocks-join rest b
 open_blocks-join (program.Read t a rest) b = open_blocks-join rest b
 open_blocks-join (program.Write a e rest) b = open_blocks-join rest b
+open_blocks-join (program.Scan cell first count rest) b = open_blocks-join rest b
 open_blocks-join (program.If e first second rest) b = omega (arith, open_blocks-join rest b)
 open_blocks-join (program.Repeat e body rest) b = omega (arith, open_blocks-join rest b)
 open_blocks-join (program.Emit e rest) b = open_blocks-join rest b
@@ -57,44 +60,45 @@ open_repeats-join Stop b = omega arith
 open_repeats-join (program.Assign t e rest) b = open_repeats-join rest b
 open_repeats-join (program.Read t a rest) b = open_repeats-join rest b
 open_repeats-join (program.Write a e rest) b = open_repeats-join rest b
+open_repeats-join (program.Scan cell first count rest) b = open_repeats-join rest b
 open_repeats-join (program.If e first second rest) b = omega (arith, open_repeats-join rest b)
 open_repeats-join (program.Repeat e body rest) b = omega (arith, open_repeats-join rest b)
 open_repeats-join (program.Emit e rest) b = open_repeats-join rest b
 open_repeats-join (program.Halt rest) b = open_repeats-join rest b
 
-fits_join : (blocks repeats : ℕ) (a b : Block) → BlockFits blocks repeats a → BlockFits blocks repeats b → BlockFits blocks repeats (a ⊕ b)
-fits_join blocks repeats a b h k =
+fits_join : (registers blocks repeats : ℕ) (a b : Block) → BlockFits registers blocks repeats a → BlockFits registers blocks repeats b → BlockFits registers blocks repeats (a ⊕ b)
+fits_join registers blocks repeats a b h k =
     let depth = open_blocks-join a b in
     let turning = open_repeats-join a b in
     let hd = h.depth in let kd = k.depth in let ht = h.turning in let kt = k.turning in
-    record { operands = operands-join a b ∙ and_from _ _ h.operands k.operands; depth = omega arith; turning = omega arith }
+    record { operands = operands-join registers a b ∙ and_from _ _ h.operands k.operands; depth = omega arith; turning = omega arith }
 
 -- ---- open blocks
 
-frames_join : (frames : List Frame) (block c : Block) → FramesFit frames block → BlockFits (length frames) (turns frames) c → FramesFit frames (block ⊕ c)
-frames_join [] block c h k = fits_join 0 0 block c h k
-frames_join (First test outer ∷ frames) block c h k = (h.0, (fits_join _ _ block c h.1.0 k, h.1.1))
-frames_join (Second test first outer ∷ frames) block c h k = (h.0, (h.1.0, (fits_join _ _ block c h.1.1.0 k, h.1.1.1)))
-frames_join (Turn count outer ∷ frames) block c h k = (h.0, (fits_join _ _ block c h.1.0 k, h.1.1))
+frames_join : (r : ℕ) (frames : List Frame) (block c : Block) → FramesFit r frames block → BlockFits r (length frames) (turns frames) c → FramesFit r frames (block ⊕ c)
+frames_join r [] block c h k = fits_join r 0 0 block c h k
+frames_join r (First test outer ∷ frames) block c h k = (h.0, (fits_join r _ _ block c h.1.0 k, h.1.1))
+frames_join r (Second test first outer ∷ frames) block c h k = (h.0, (h.1.0, (fits_join r _ _ block c h.1.1.0 k, h.1.1.1)))
+frames_join r (Turn count outer ∷ frames) block c h k = (h.0, (fits_join r _ _ block c h.1.0 k, h.1.1))
 
-innermost : (frames : List Frame) (block : Block) → FramesFit frames block → BlockFits (length frames) (turns frames) block
-innermost [] block h = h
-innermost (First test outer ∷ frames) block h = h.1.0
-innermost (Second test first outer ∷ frames) block h = h.1.1.0
-innermost (Turn count outer ∷ frames) block h = h.1.0
+innermost : (r : ℕ) (frames : List Frame) (block : Block) → FramesFit r frames block → BlockFits r (length frames) (turns frames) block
+innermost r [] block h = h
+innermost r (First test outer ∷ frames) block h = h.1.0
+innermost r (Second test first outer ∷ frames) block h = h.1.1.0
+innermost r (Turn count outer ∷ frames) block h = h.1.0
 
-if_fits : (blocks repeats : ℕ) (test : Expr) (first second : Block) → expr_fits test ≡ true → BlockFits (suc blocks) repeats first → BlockFits (suc blocks) repeats second → BlockFits blocks repeats (program.If test first second Stop)
-if_fits blocks repeats test first second t f s =
+if_fits : (registers blocks repeats : ℕ) (test : Expr) (first second : Block) → expr_fits test ≡ true → BlockFits registers (suc blocks) repeats first → BlockFits registers (suc blocks) repeats second → BlockFits registers blocks repeats (program.If test first second Stop)
+if_fits registers blocks repeats test first second t f s =
     let fd = f.depth in let sd = s.depth in let ft = f.turning in let st = s.turning in
     record { operands = rw (t, f.operands, s.operands) refl; depth = omega arith; turning = omega arith }
 
-repeat_fits : (blocks repeats : ℕ) (count : Expr) (body : Block) → expr_fits count ≡ true → BlockFits (suc blocks) (suc repeats) body → BlockFits blocks repeats (program.Repeat count body Stop)
-repeat_fits blocks repeats count body t f =
+repeat_fits : (registers blocks repeats : ℕ) (count : Expr) (body : Block) → expr_fits count ≡ true → BlockFits registers (suc blocks) (suc repeats) body → BlockFits registers blocks repeats (program.Repeat count body Stop)
+repeat_fits registers blocks repeats count body t f =
     let fd = f.depth in let ft = f.turning in
     record { operands = rw (t, f.operands) refl; depth = omega arith; turning = omega arith }
 
-nothing_fits : (blocks repeats : ℕ) → blocks ≤ 16 → repeats ≤ 3 → BlockFits blocks repeats Stop
-nothing_fits blocks repeats h k = record { operands = refl; depth = omega arith; turning = omega arith }
+nothing_fits : (registers blocks repeats : ℕ) → blocks ≤ 16 → repeats ≤ 3 → BlockFits registers blocks repeats Stop
+nothing_fits registers blocks repeats h k = record { operands = refl; depth = omega arith; turning = omega arith }
 
 -- ---- one line more
 
@@ -106,24 +110,24 @@ chosen : (next : Reading) (t : Bool) (code : ℕ) → (t ≡ true → ReadingFit
 chosen next true code k = k refl
 chosen next false code k = tt
 
-added : (before : Contents) (frames : List Frame) (block : Block) (n : ℕ) (fits : Bool) (statement : Block) → InsideFits before frames block n → (fits ≡ true → operands_fit statement ≡ true) → open_blocks statement ≡ 0 → open_repeats statement ≡ 0 → statements statement ≡ 1 → Fitting (if nat_lt n 200 && fits then Ok (Inside before frames (block ⊕ statement) (suc n)) else Err 6)
+added : (before : Contents) (frames : List Frame) (block : Block) (n : ℕ) (fits : Bool) (statement : Block) → InsideFits before frames block n → (fits ≡ true → operands_fit before.registers statement ≡ true) → open_blocks statement ≡ 0 → open_repeats statement ≡ 0 → statements statement ≡ 1 → Fitting (if nat_lt n 200 && fits then Ok (Inside before frames (block ⊕ statement) (suc n)) else Err 6)
 added before frames block n fits statement h operands blocks repeats one =
     chosen (Inside before frames (block ⊕ statement) (suc n)) (nat_lt n 200 && fits) 6 (λ t.
     let parts = and_parts (nat_lt n 200) fits t in
     let room = ltb-true n 200 parts.0 in
-    let inner = innermost frames block h.nested in
+    let inner = innermost before.registers frames block h.nested in
     let deep = inner.depth in let turning = inner.turning in
     let count = h.count in
     let sum = statements-join block statement in
     record {
       contents = h.contents;
       room = h.room;
-      nested = frames_join frames block statement h.nested (record { operands = operands parts.1; depth = omega arith; turning = omega arith });
+      nested = frames_join before.registers frames block statement h.nested (record { operands = operands parts.1; depth = omega arith; turning = omega arith });
       count = omega arith;
       few = omega arith;
     })
 
-entered : (before : Contents) (frame : Frame) (frames : List Frame) (block : Block) (n : ℕ) (fits : Bool) → InsideFits before frames block n → (fits ≡ true → length frames < 16 → FramesFit (frame ∷ frames) Stop) → statements_around (frame ∷ frames) ≡ suc (statements block + statements_around frames) → Fitting (enter before frame frames n fits)
+entered : (before : Contents) (frame : Frame) (frames : List Frame) (block : Block) (n : ℕ) (fits : Bool) → InsideFits before frames block n → (fits ≡ true → length frames < 16 → FramesFit before.registers (frame ∷ frames) Stop) → statements_around (frame ∷ frames) ≡ suc (statements block + statements_around frames) → Fitting (enter before frame frames n fits)
 entered before frame frames block n fits h nested around =
     chosen (Inside before (frame ∷ frames) Stop (suc n)) (nat_lt n 200 && fits && nat_lt (length frames) 16) 6 (λ t.
     let parts = and_parts (nat_lt n 200 && fits) (nat_lt (length frames) 16) t in
@@ -149,7 +153,7 @@ elsed before (First test outer ∷ frames) block n h =
     record {
       contents = h.contents;
       room = h.room;
-      nested = (nested.0, (nested.1.0, (nothing_fits _ _ (omega arith) (omega arith), nested.1.1)));
+      nested = (nested.0, (nested.1.0, (nothing_fits _ _ _ (omega arith) (omega arith), nested.1.1)));
       count = omega arith;
       few = h.few;
     }
@@ -167,7 +171,7 @@ fi_left before (First test outer ∷ frames) block n h =
     record {
       contents = h.contents;
       room = h.room;
-      nested = frames_join frames outer (program.If test block Stop Stop) nested.1.1 (if_fits _ _ test block Stop nested.0 nested.1.0 (nothing_fits _ _ (omega arith) (omega arith)));
+      nested = frames_join before.registers frames outer (program.If test block Stop Stop) nested.1.1 (if_fits _ _ _ test block Stop nested.0 nested.1.0 (nothing_fits _ _ _ (omega arith) (omega arith)));
       count = omega arith;
       few = h.few;
     }
@@ -178,7 +182,7 @@ fi_left before (Second test first outer ∷ frames) block n h =
     record {
       contents = h.contents;
       room = h.room;
-      nested = frames_join frames outer (program.If test first block Stop) nested.1.1.1 (if_fits _ _ test first block nested.0 nested.1.0 nested.1.1.0);
+      nested = frames_join before.registers frames outer (program.If test first block Stop) nested.1.1.1 (if_fits _ _ _ test first block nested.0 nested.1.0 nested.1.1.0);
       count = omega arith;
       few = h.few;
     }
@@ -195,7 +199,7 @@ done_left before (Turn times outer ∷ frames) block n h =
     record {
       contents = h.contents;
       room = h.room;
-      nested = frames_join frames outer (program.Repeat times block Stop) nested.1.1 (repeat_fits _ _ times block nested.0 nested.1.0);
+      nested = frames_join before.registers frames outer (program.Repeat times block Stop) nested.1.1 (repeat_fits _ _ _ times block nested.0 nested.1.0);
       count = omega arith;
       few = h.few;
     }
@@ -229,16 +233,16 @@ stood before frames block n kind true h = tt
 stood before frames block n kind false h =
     chosen (Used before kind) (use_fits kind before.registers) 6 (λ k. record { contents = h.contents; room = h.room; fits = k })
 
-turned : (before : Contents) (frames : List Frame) (block : Block) (n : ℕ) (count : Expr) → InsideFits before frames block n → expr_fits count && nat_lt (turns frames) 3 ≡ true → length frames < 16 → FramesFit (Turn count block ∷ frames) Stop
+turned : (before : Contents) (frames : List Frame) (block : Block) (n : ℕ) (count : Expr) → InsideFits before frames block n → expr_fits count && nat_lt (turns frames) 3 ≡ true → length frames < 16 → FramesFit before.registers (Turn count block ∷ frames) Stop
 turned before frames block n count h k deep =
     let parts = and_parts (expr_fits count) (nat_lt (turns frames) 3) k in
     let few = ltb-true (turns frames) 3 parts.1 in
-    (parts.0, (nothing_fits _ _ (omega arith) (omega arith), h.nested))
+    (parts.0, (nothing_fits _ _ _ (omega arith) (omega arith), h.nested))
 
-tested : (before : Contents) (frames : List Frame) (block : Block) (n : ℕ) (test : Expr) → InsideFits before frames block n → expr_fits test ≡ true → length frames < 16 → FramesFit (First test block ∷ frames) Stop
+tested : (before : Contents) (frames : List Frame) (block : Block) (n : ℕ) (test : Expr) → InsideFits before frames block n → expr_fits test ≡ true → length frames < 16 → FramesFit before.registers (First test block ∷ frames) Stop
 tested before frames block n test h k deep =
-    let turning = (innermost frames block h.nested).turning in
-    (k, (nothing_fits _ _ (omega arith) (omega arith), h.nested))
+    let turning = (innermost before.registers frames block h.nested).turning in
+    (k, (nothing_fits _ _ _ (omega arith) (omega arith), h.nested))
 
 and_true : (x : Bool) → x ≡ true → x && true ≡ true
 and_true x h = ap (λ y. y && true) h
@@ -250,6 +254,7 @@ inside before frames block n (line.Check clause) h = tt
 inside before frames block n (line.Set to value) h = added before frames block n (target_fits to && expr_fits value) (program.Assign to value Stop) h (and_true _) refl refl refl
 inside before frames block n (line.Read to from) h = added before frames block n (target_fits to && operand_fits from) (program.Read to from Stop) h (and_true _) refl refl refl
 inside before frames block n (line.Write to value) h = added before frames block n (operand_fits to && expr_fits value) (program.Write to value Stop) h (and_true _) refl refl refl
+inside before frames block n (line.Scan cell first count) h = added before frames block n (scan_fits before.registers cell first count) (program.Scan cell first count Stop) h (and_true _) refl refl refl
 inside before frames block n (line.Emit value) h = added before frames block n (expr_fits value) (program.Emit value Stop) h (and_true _) refl refl refl
 inside before frames block n line.Halt h = added before frames block n true (program.Halt Stop) h (λ k. refl) refl refl refl
 inside before frames block n (line.If test) h = entered before (First test block) frames block n (expr_fits test) h (tested before frames block n test h) refl
@@ -279,6 +284,7 @@ begins line.End = tt
 begins (line.Set to value) = tt
 begins (line.Read to from) = tt
 begins (line.Write to value) = tt
+begins (line.Scan cell first count) = tt
 begins (line.If test) = tt
 begins line.Else = tt
 begins line.Fi = tt
@@ -296,7 +302,7 @@ refused false = tt
 between : (before : Contents) (l : Line) → ContentsFit before → IsLineFit l → Fitting (take_line (Between before) l)
 between before line.Process h k =
     chosen (Inside before [] Stop 0) (nat_lt (length before.processes) 8) 6 (λ t.
-    record { contents = h; room = ltb-true _ 8 t; nested = nothing_fits 0 0 (omega arith) (omega arith); count = omega arith; few = omega arith })
+    record { contents = h; room = ltb-true _ 8 t; nested = nothing_fits _ 0 0 (omega arith) (omega arith); count = omega arith; few = omega arith })
 between before (line.Check (Some clause)) h k =
     chosen (Between (record before { clauses = before.clauses ++ clause ∷ [] })) (nat_lt (length before.clauses) 16) 6 (λ t.
     let room = ltb-true (length before.clauses) 16 t in
@@ -315,6 +321,7 @@ between before line.End h k = tt
 between before (line.Set to value) h k = tt
 between before (line.Read to from) h k = tt
 between before (line.Write to value) h k = tt
+between before (line.Scan cell first count) h k = tt
 between before (line.If test) h k = tt
 between before line.Else h k = tt
 between before line.Fi h k = tt
@@ -331,6 +338,7 @@ used before kind line.Process h = tt
 used before kind (line.Set to value) h = tt
 used before kind (line.Read to from) h = tt
 used before kind (line.Write to value) h = tt
+used before kind (line.Scan cell first count) h = tt
 used before kind (line.If test) h = tt
 used before kind line.Else h = tt
 used before kind line.Fi h = tt

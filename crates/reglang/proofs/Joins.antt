@@ -2,7 +2,7 @@
 use Rattle.std.proofs.Common.{◌≡◌, List, [], ◌∷◌, ◌++◌, refl, ap, ◌∙◌}
 use Rattle.regmodel.specs.declared.programs.Stmt.{Stmt}
 use Rattle.regmodel.specs.declared.programs.Stmt.TheVariants as stmt
-use Rattle.regmodel.specs.Program.{Block, Stop, Assign, Read, Write, If, Repeat, Emit, Halt, block_of, with_stmt}
+use Rattle.regmodel.specs.Program.{Block, Stop, Assign, Read, Write, Scan, If, Repeat, Emit, Halt, block_of, with_stmt}
 use Rattle.reglang.specs.Drafts.{◌⊕◌}
 
 -- a statement before a block
@@ -10,6 +10,7 @@ pub with_stmt-join : (s : Stmt) (a b : Block) → with_stmt s (a ⊕ b) ≡ with
 with_stmt-join (stmt.Assign t e) a b = refl
 with_stmt-join (stmt.Read t o) a b = refl
 with_stmt-join (stmt.Write o e) a b = refl
+with_stmt-join (stmt.Scan cell first count) a b = refl
 with_stmt-join (stmt.If' e m first k second) a b = refl
 with_stmt-join (stmt.Repeat' e m body) a b = refl
 with_stmt-join (stmt.Emit e) a b = refl
@@ -25,6 +26,7 @@ join-stop Stop = refl
 join-stop (Assign t e rest) = ap (Assign t e) (join-stop rest)
 join-stop (Read t o rest) = ap (Read t o) (join-stop rest)
 join-stop (Write o e rest) = ap (Write o e) (join-stop rest)
+join-stop (Scan cell first count rest) = ap (Scan cell first count) (join-stop rest)
 join-stop (If e first second rest) = ap (If e first second) (join-stop rest)
 join-stop (Repeat e body rest) = ap (Repeat e body) (join-stop rest)
 join-stop (Emit e rest) = ap (Emit e) (join-stop rest)
@@ -35,6 +37,7 @@ join-assoc Stop b c = refl
 join-assoc (Assign t e rest) b c = ap (Assign t e) (join-assoc rest b c)
 join-assoc (Read t o rest) b c = ap (Read t o) (join-assoc rest b c)
 join-assoc (Write o e rest) b c = ap (Write o e) (join-assoc rest b c)
+join-assoc (Scan cell first count rest) b c = ap (Scan cell first count) (join-assoc rest b c)
 join-assoc (If e first second rest) b c = ap (If e first second) (join-assoc rest b c)
 join-assoc (Repeat e body rest) b c = ap (Repeat e body) (join-assoc rest b c)
 join-assoc (Emit e rest) b c = ap (Emit e) (join-assoc rest b c)

@@ -7,7 +7,7 @@ use Rattle.std.proofs.lemmas.List.{append-nil}
 use Rattle.std.proofs.lemmas.List.Elements.{recursion_from_All}
 use Rattle.regmodel.specs.declared.clauses.Clause.{Clause}
 use Rattle.regmodel.specs.declared.programs.Expr.{Expr}
-use Rattle.regmodel.specs.Limits.{target_fits, operand_fits, expr_fits, operands_fit, statements, open_blocks, open_repeats}
+use Rattle.regmodel.specs.Limits.{target_fits, operand_fits, expr_fits, scan_fits, operands_fit, statements, open_blocks, open_repeats}
 use Rattle.regmodel.specs.Program as program
 use Rattle.regmodel.specs.Program.{Block, Stop}
 use Rattle.reglang.specs.Contents.{Contents, Body, Text, Kind, IsBodyWithin, IsSourceWithin}
@@ -43,14 +43,14 @@ first_lead reading middle l ys result h k = ap (λ r. then_take r (λ next. take
 -- ---- a block
 
 abbrev BlockLeads : Block → Type 0
-BlockLeads b = (lines : List Line) → BlockSays b lines → (before : Contents) (frames : List Frame) (block : Block) (n : ℕ) → BlockFits (length frames) (turns frames) b → statements b + n ≤ 200 → takes (Inside before frames block n) lines ≡ Ok (Inside before frames (block ⊕ b) (n + statements b))
+BlockLeads b = (lines : List Line) → BlockSays b lines → (before : Contents) (frames : List Frame) (block : Block) (n : ℕ) → BlockFits before.registers (length frames) (turns frames) b → statements b + n ≤ 200 → takes (Inside before frames block n) lines ≡ Ok (Inside before frames (block ⊕ b) (n + statements b))
 
 added : (before : Contents) (frames : List Frame) (block : Block) (n : ℕ) (fits : Bool) (statement : Block) → n < 200 → fits ≡ true → add before frames block n fits statement ≡ Ok (Inside before frames (block ⊕ statement) (suc n))
 added before frames block n fits statement room h = rw (lt-ltb n 200 room, h) refl
 
 -- a statement without parts, and then the rest
 simple : (l : Line) (rest statement whole : Block) → BlockLeads rest → ((block : Block) → (block ⊕ statement) ⊕ rest ≡ block ⊕ whole) → statements whole ≡ suc (statements rest) →
-    (lines : List Line) → Begins l (BlockSays rest) lines → (before : Contents) (frames : List Frame) (block : Block) (n : ℕ) → BlockFits (length frames) (turns frames) rest → statements whole + n ≤ 200 →
+    (lines : List Line) → Begins l (BlockSays rest) lines → (before : Contents) (frames : List Frame) (block : Block) (n : ℕ) → BlockFits before.registers (length frames) (turns frames) rest → statements whole + n ≤ 200 →
     (n < 200 → take_line (Inside before frames block n) l ≡ Ok (Inside before frames (block ⊕ statement) (suc n))) →
     takes (Inside before frames block n) lines ≡ Ok (Inside before frames (block ⊕ whole) (n + statements whole))
 simple l rest statement whole later joined count lines h before frames block n fits few took =
@@ -65,7 +65,7 @@ entered before frame frames n fits room h deep = rw (lt-ltb n 200 room, h, lt-lt
 
 -- the second part of an `if`, and its end
 second_part : (second : Block) → BlockLeads second → (test : Expr) (first : Block) (lines more : List Line) → ElseSays second (BlockSays second) lines → (before : Contents) (frames : List Frame) (outer : Block) (n : ℕ) →
-    BlockFits (suc (length frames)) (turns frames) second → statements second + n ≤ 200 → (result : Result Reading ℕ) →
+    BlockFits before.registers (suc (length frames)) (turns frames) second → statements second + n ≤ 200 → (result : Result Reading ℕ) →
     takes (Inside before frames (outer ⊕ program.If test first second Stop) (n + statements second)) more ≡ result →
     takes (Inside before (First test outer ∷ frames) first n) (lines ++ line.Fi ∷ more) ≡ result
 second_part second leads test first lines more (inl none) before frames outer n fits few result k =
@@ -83,9 +83,9 @@ if_leads test first second rest f s r lines h before frames block n fits few =
     let t = h.holds in
     let u = t.after in
     let v = u.after in
-    let operands = and_parts (expr_fits test && operands_fit first && operands_fit second) (operands_fit rest) fits.operands in
-    let pair = and_parts (expr_fits test && operands_fit first) (operands_fit second) operands.0 in
-    let inner = and_parts (expr_fits test) (operands_fit first) pair.0 in
+    let operands = and_parts (expr_fits test && operands_fit before.registers first && operands_fit before.registers second) (operands_fit before.registers rest) fits.operands in
+    let pair = and_parts (expr_fits test && operands_fit before.registers first) (operands_fit before.registers second) operands.0 in
+    let inner = and_parts (expr_fits test) (operands_fit before.registers first) pair.0 in
     let depth = fits.depth in
     let turning = fits.turning in
     let m = suc n + statements first in
@@ -108,8 +108,8 @@ repeat_leads : (count : Expr) (body rest : Block) → BlockLeads body → BlockL
 repeat_leads count body rest f r lines h before frames block n fits few =
     let t = h.holds in
     let v = t.after in
-    let operands = and_parts (expr_fits count && operands_fit body) (operands_fit rest) fits.operands in
-    let inner = and_parts (expr_fits count) (operands_fit body) operands.0 in
+    let operands = and_parts (expr_fits count && operands_fit before.registers body) (operands_fit before.registers rest) fits.operands in
+    let inner = and_parts (expr_fits count) (operands_fit before.registers body) operands.0 in
     let depth = fits.depth in
     let turning = fits.turning in
     let m = suc n + statements body in
@@ -128,9 +128,9 @@ repeat_leads count body rest f r lines h before frames block n fits few =
     ∙ ap (λ c. Ok (Inside before frames (block ⊕ program.Repeat count body rest) c)) moved))))
 
 -- the rest of a block fits where the whole does
-later_fits : (blocks repeats : ℕ) (whole rest : Block) (x : Bool) → BlockFits blocks repeats whole → operands_fit whole ≡ x && operands_fit rest → open_blocks whole ≡ open_blocks rest → open_repeats whole ≡ open_repeats rest → (x ≡ true) × BlockFits blocks repeats rest
-later_fits blocks repeats whole rest x fits o b r =
-    let parts = and_parts x (operands_fit rest) (sym o ∙ fits.operands) in
+later_fits : (registers blocks repeats : ℕ) (whole rest : Block) (x : Bool) → BlockFits registers blocks repeats whole → operands_fit registers whole ≡ x && operands_fit registers rest → open_blocks whole ≡ open_blocks rest → open_repeats whole ≡ open_repeats rest → (x ≡ true) × BlockFits registers blocks repeats rest
+later_fits registers blocks repeats whole rest x fits o b r =
+    let parts = and_parts x (operands_fit registers rest) (sym o ∙ fits.operands) in
     let depth = fits.depth in
     let turning = fits.turning in
     (parts.0, record { operands = parts.1; depth = omega arith; turning = omega arith })
@@ -140,23 +140,27 @@ block_leads Stop lines h before frames block n fits few =
     ap (takes (Inside before frames block n)) h
     ∙ (ap (λ b. Ok (Inside before frames b n)) (sym (join-stop block)) ∙ ap (λ m. Ok (Inside before frames (block ⊕ Stop) m)) (omega arith))
 block_leads (program.Assign to value rest) lines h before frames block n fits few =
-    let parts = later_fits _ _ (program.Assign to value rest) rest (target_fits to && expr_fits value) fits refl refl refl in
+    let parts = later_fits _ _ _ (program.Assign to value rest) rest (target_fits to && expr_fits value) fits refl refl refl in
     simple (line.Set to value) rest (program.Assign to value Stop) (program.Assign to value rest) (block_leads rest) (λ b. join-assoc b (program.Assign to value Stop) rest) (omega arith)
     lines h before frames block n parts.1 few (λ room. added before frames block n (target_fits to && expr_fits value) (program.Assign to value Stop) room parts.0)
 block_leads (program.Read to from rest) lines h before frames block n fits few =
-    let parts = later_fits _ _ (program.Read to from rest) rest (target_fits to && operand_fits from) fits refl refl refl in
+    let parts = later_fits _ _ _ (program.Read to from rest) rest (target_fits to && operand_fits from) fits refl refl refl in
     simple (line.Read to from) rest (program.Read to from Stop) (program.Read to from rest) (block_leads rest) (λ b. join-assoc b (program.Read to from Stop) rest) (omega arith)
     lines h before frames block n parts.1 few (λ room. added before frames block n (target_fits to && operand_fits from) (program.Read to from Stop) room parts.0)
 block_leads (program.Write to value rest) lines h before frames block n fits few =
-    let parts = later_fits _ _ (program.Write to value rest) rest (operand_fits to && expr_fits value) fits refl refl refl in
+    let parts = later_fits _ _ _ (program.Write to value rest) rest (operand_fits to && expr_fits value) fits refl refl refl in
     simple (line.Write to value) rest (program.Write to value Stop) (program.Write to value rest) (block_leads rest) (λ b. join-assoc b (program.Write to value Stop) rest) (omega arith)
     lines h before frames block n parts.1 few (λ room. added before frames block n (operand_fits to && expr_fits value) (program.Write to value Stop) room parts.0)
+block_leads (program.Scan cell first count rest) lines h before frames block n fits few =
+    let parts = later_fits _ _ _ (program.Scan cell first count rest) rest (scan_fits before.registers cell first count) fits refl refl refl in
+    simple (line.Scan cell first count) rest (program.Scan cell first count Stop) (program.Scan cell first count rest) (block_leads rest) (λ b. join-assoc b (program.Scan cell first count Stop) rest) (omega arith)
+    lines h before frames block n parts.1 few (λ room. added before frames block n (scan_fits before.registers cell first count) (program.Scan cell first count Stop) room parts.0)
 block_leads (program.Emit value rest) lines h before frames block n fits few =
-    let parts = later_fits _ _ (program.Emit value rest) rest (expr_fits value) fits refl refl refl in
+    let parts = later_fits _ _ _ (program.Emit value rest) rest (expr_fits value) fits refl refl refl in
     simple (line.Emit value) rest (program.Emit value Stop) (program.Emit value rest) (block_leads rest) (λ b. join-assoc b (program.Emit value Stop) rest) (omega arith)
     lines h before frames block n parts.1 few (λ room. added before frames block n (expr_fits value) (program.Emit value Stop) room parts.0)
 block_leads (program.Halt rest) lines h before frames block n fits few =
-    let parts = later_fits _ _ (program.Halt rest) rest true fits refl refl refl in
+    let parts = later_fits _ _ _ (program.Halt rest) rest true fits refl refl refl in
     simple line.Halt rest (program.Halt Stop) (program.Halt rest) (block_leads rest) (λ b. join-assoc b (program.Halt Stop) rest) (omega arith)
     lines h before frames block n parts.1 few (λ room. added before frames block n true (program.Halt Stop) room refl)
 block_leads (program.If test first second rest) lines h before frames block n fits few = if_leads test first second rest (block_leads first) (block_leads second) (block_leads rest) lines h before frames block n fits few

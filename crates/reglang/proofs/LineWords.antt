@@ -36,6 +36,7 @@ line_fits line.End = true
 line_fits (line.Set to value) = target_fits to && expr_fits value
 line_fits (line.Read to from) = target_fits to && operand_fits from
 line_fits (line.Write to value) = operand_fits to && expr_fits value
+line_fits (line.Scan cell first count) = list_all word_fits (later_words (line.Scan cell first count))
 line_fits (line.If test) = expr_fits test
 line_fits line.Else = true
 line_fits line.Fi = true
@@ -88,6 +89,7 @@ later_fit (line.Read to from) h =
     let parts = and_parts (target_fits to) (operand_fits from) h in
     and_from (word_fits (target_word to)) (word_fits (operand_word from) && true) (target_fit to parts.0) (and_from (word_fits (operand_word from)) true (operand_fit from parts.1) refl)
 later_fit (line.Write to value) h = let parts = and_parts (operand_fits to) (expr_fits value) h in and_from (word_fits (operand_word to)) (list_all word_fits (expr_words value)) (operand_fit to parts.0) (expr_fit value parts.1)
+later_fit (line.Scan cell first count) h = h
 later_fit (line.If test) h = expr_fit test h
 later_fit line.Else h = refl
 later_fit line.Fi h = refl
@@ -162,6 +164,7 @@ use_again (use_line.Split base id) = refl
 use_again (use_line.Grid base side id) = refl
 use_again (use_line.Tree base depth id value) = refl
 use_again (use_line.Name base slots slot) = refl
+use_again (use_line.Names base slots slot) = refl
 
 clause_again : (c : Clause) → clause_fits c ≡ true → clause_of (clause_words c) ≡ Some c
 clause_again clause.Distinct h = refl
@@ -186,6 +189,7 @@ line_again (line.Read to from) h =
 line_again (line.Write to value) h =
     keyword_line_again keyword.Write (operand_word to ∷ expr_words value) (and_from (may_follow (operand_word to)) (list_all may_follow (expr_words value)) (operand_follows to) (expr_follows value))
     ∙ rw (operand_again to, expr_again value) refl
+line_again (line.Scan cell first count) h = refl
 line_again (line.If test) h = keyword_line_again keyword.If (expr_words test) (expr_follows test) ∙ rw (expr_again test) refl
 line_again line.Else h = refl
 line_again line.Fi h = refl

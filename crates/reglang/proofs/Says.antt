@@ -5,7 +5,7 @@ use Rattle.std.specs.Prelude.{if◌then◌else◌, ◌&&◌, nat_lt, max, IsOk}
 use Rattle.std.specs.List.{AllByRecursion}
 use Rattle.std.proofs.lemmas.Bool.{ltb-true, ltb-false}
 use Rattle.regmodel.specs.declared.clauses.Clause.{Clause}
-use Rattle.regmodel.specs.Limits.{target_fits, operand_fits, expr_fits, statements}
+use Rattle.regmodel.specs.Limits.{target_fits, operand_fits, expr_fits, scan_fits, statements}
 use Rattle.regmodel.specs.Program as program
 use Rattle.regmodel.specs.Program.{Block, Stop}
 use Rattle.reglang.specs.Contents.{Contents, Body, Text, Kind, IsSourceWithin}
@@ -49,6 +49,7 @@ join Stop b y k x h = subst (BlockSays b) (sym (ap (λ lines. lines ++ y) h)) k
 join (program.Assign to value rest) b y k x h = begins_map _ _ _ y (join rest b y k) x h
 join (program.Read to from rest) b y k x h = begins_map _ _ _ y (join rest b y k) x h
 join (program.Write to value rest) b y k x h = begins_map _ _ _ y (join rest b y k) x h
+join (program.Scan cell first count rest) b y k x h = begins_map _ _ _ y (join rest b y k) x h
 join (program.If test first second rest) b y k x h = begins_map _ _ _ y (then_map _ _ _ y (then_map _ _ _ y (begins_map _ _ _ y (join rest b y k)))) x h
 join (program.Repeat count body rest) b y k x h = begins_map _ _ _ y (then_map _ _ _ y (begins_map _ _ _ y (join rest b y k))) x h
 join (program.Emit value rest) b y k x h = begins_map _ _ _ y (join rest b y k) x h
@@ -200,6 +201,7 @@ between before line.End = tt
 between before (line.Set to value) = tt
 between before (line.Read to from) = tt
 between before (line.Write to value) = tt
+between before (line.Scan cell first count) = tt
 between before (line.If test) = tt
 between before line.Else = tt
 between before line.Fi = tt
@@ -221,6 +223,7 @@ begins line.End = tt
 begins (line.Set to value) = tt
 begins (line.Read to from) = tt
 begins (line.Write to value) = tt
+begins (line.Scan cell first count) = tt
 begins (line.If test) = tt
 begins line.Else = tt
 begins line.Fi = tt
@@ -244,6 +247,7 @@ used before kind line.Process = tt
 used before kind (line.Set to value) = tt
 used before kind (line.Read to from) = tt
 used before kind (line.Write to value) = tt
+used before kind (line.Scan cell first count) = tt
 used before kind (line.If test) = tt
 used before kind line.Else = tt
 used before kind line.Fi = tt
@@ -259,6 +263,7 @@ no_statements Stop h = refl
 no_statements (program.Assign to value rest) h = absurd (omega arith)
 no_statements (program.Read to from rest) h = absurd (omega arith)
 no_statements (program.Write to value rest) h = absurd (omega arith)
+no_statements (program.Scan cell first count rest) h = absurd (omega arith)
 no_statements (program.If test first second rest) h = absurd (omega arith)
 no_statements (program.Repeat count body rest) h = absurd (omega arith)
 no_statements (program.Emit value rest) h = absurd (omega arith)
@@ -285,6 +290,7 @@ inside before frames block n (line.Check clause) h = tt
 inside before frames block n (line.Set to value) h = added before frames block n (line.Set to value) (target_fits to && expr_fits value) (program.Assign to value Stop) (alone _)
 inside before frames block n (line.Read to from) h = added before frames block n (line.Read to from) (target_fits to && operand_fits from) (program.Read to from Stop) (alone _)
 inside before frames block n (line.Write to value) h = added before frames block n (line.Write to value) (operand_fits to && expr_fits value) (program.Write to value Stop) (alone _)
+inside before frames block n (line.Scan cell first count) h = added before frames block n (line.Scan cell first count) (scan_fits before.registers cell first count) (program.Scan cell first count Stop) (alone _)
 inside before frames block n (line.Emit value) h = added before frames block n (line.Emit value) (expr_fits value) (program.Emit value Stop) (alone _)
 inside before frames block n line.Halt h = added before frames block n line.Halt true (program.Halt Stop) (alone _)
 inside before frames block n (line.If test) h = entered before frames block n (line.If test) (First test block) (expr_fits test) (then_new _ _ (line.If test ∷ []) (alone _))

@@ -1,12 +1,12 @@
 -- The text that is written of a source spells it.
-use Rattle.std.proofs.Common.{◌≡◌, ℕ, true, ◌&&◌, leb, ltb, List, [], ◌∷◌, ◌++◌, map, refl, ap, sym, ◌∙◌, inl, inr, subst, arith}
+use Rattle.std.proofs.Common.{◌≡◌, ℕ, ◌+◌, ◌≤◌, true, ◌&&◌, leb, ltb, List, [], ◌∷◌, ◌++◌, map, refl, ap, sym, ◌∙◌, inl, inr, subst, arith}
 use Rattle.std.specs.List.{AllByRecursion, flat_map, list_all}
-use Rattle.std.proofs.lemmas.Bool.{and_from, and_parts, le-leb, ltb-true}
+use Rattle.std.proofs.lemmas.Bool.{and_from, and_parts, le-leb, leb-true, ltb-true}
 use Rattle.std.proofs.lemmas.List.{append_assoc}
 use Rattle.std.proofs.lemmas.List.Elements.{recursion_from_All}
 use Rattle.std.proofs.lemmas.List.Folds.{list_all-append}
 use Rattle.regmodel.specs.declared.clauses.Clause.{Clause}
-use Rattle.regmodel.specs.Limits.{expr_fits, operand_fits, operands_fit, target_fits}
+use Rattle.regmodel.specs.Limits.{expr_fits, operand_fits, operands_fit, scan_fits, target_fits}
 use Rattle.regmodel.specs.Program as program
 use Rattle.regmodel.specs.Program.{Block}
 use Rattle.reglang.specs.Contents.{IsSourceWithin, Body, Contents, IsBodyWithin, Kind, Text, clause_fits}
@@ -28,6 +28,7 @@ else_says program.Stop h = inl (refl, refl)
 else_says (program.Assign to value rest) h = inr (record { more = _; whole = refl; holds = h })
 else_says (program.Read to from rest) h = inr (record { more = _; whole = refl; holds = h })
 else_says (program.Write to value rest) h = inr (record { more = _; whole = refl; holds = h })
+else_says (program.Scan cell first count rest) h = inr (record { more = _; whole = refl; holds = h })
 else_says (program.If test first second rest) h = inr (record { more = _; whole = refl; holds = h })
 else_says (program.Repeat count body rest) h = inr (record { more = _; whole = refl; holds = h })
 else_says (program.Emit value rest) h = inr (record { more = _; whole = refl; holds = h })
@@ -38,6 +39,7 @@ block_says program.Stop = refl
 block_says (program.Assign to value rest) = record { more = block_lines rest; whole = refl; holds = block_says rest }
 block_says (program.Read to from rest) = record { more = block_lines rest; whole = refl; holds = block_says rest }
 block_says (program.Write to value rest) = record { more = block_lines rest; whole = refl; holds = block_says rest }
+block_says (program.Scan cell first count rest) = record { more = block_lines rest; whole = refl; holds = block_says rest }
 block_says (program.If test first second rest) = record {
   more = block_lines first ++ (else_lines second (block_lines second) ++ (line.Fi ∷ block_lines rest));
   whole = refl;
@@ -132,39 +134,51 @@ else_fits program.Stop lines h = refl
 else_fits (program.Assign to value rest) lines h = h
 else_fits (program.Read to from rest) lines h = h
 else_fits (program.Write to value rest) lines h = h
+else_fits (program.Scan cell first count rest) lines h = h
 else_fits (program.If test first second rest) lines h = h
 else_fits (program.Repeat count body rest) lines h = h
 else_fits (program.Emit value rest) lines h = h
 else_fits (program.Halt rest) lines h = h
 
-block_fits : (block : Block) → operands_fit block ≡ true → list_all line_fits (block_lines block) ≡ true
-block_fits program.Stop h = refl
-block_fits (program.Assign to value rest) h =
-    let parts = and_parts (target_fits to && expr_fits value) (operands_fit rest) h in
-    and_from (target_fits to && expr_fits value) (list_all line_fits (block_lines rest)) parts.0 (block_fits rest parts.1)
-block_fits (program.Read to from rest) h =
-    let parts = and_parts (target_fits to && operand_fits from) (operands_fit rest) h in
-    and_from (target_fits to && operand_fits from) (list_all line_fits (block_lines rest)) parts.0 (block_fits rest parts.1)
-block_fits (program.Write to value rest) h =
-    let parts = and_parts (operand_fits to && expr_fits value) (operands_fit rest) h in
-    and_from (operand_fits to && expr_fits value) (list_all line_fits (block_lines rest)) parts.0 (block_fits rest parts.1)
-block_fits (program.If test first second rest) h =
-    let outer = and_parts (expr_fits test && operands_fit first && operands_fit second) (operands_fit rest) h in
-    let middle = and_parts (expr_fits test && operands_fit first) (operands_fit second) outer.0 in
-    let inner = and_parts (expr_fits test) (operands_fit first) middle.0 in
+scan_small : (n cell first count : ℕ) → n ≤ 64 → scan_fits n cell first count ≡ true → line_fits (line.Scan cell first count) ≡ true
+scan_small n cell first count few h =
+    let outer = and_parts (ltb 0 count && leb (cell + count) 32) (leb (first + count) n) h in
+    let inner = and_parts (ltb 0 count) (leb (cell + count) 32) outer.0 in
+    let cells = leb-true (cell + count) 32 inner.1 in
+    let registers = leb-true (first + count) n outer.1 in
+    rw (le-leb cell 1000000000 (omega (arith, cells)), le-leb first 1000000000 (omega (arith, registers, few)), le-leb count 1000000000 (omega (arith, cells))) refl
+
+block_fits : (n : ℕ) → n ≤ 64 → (block : Block) → operands_fit n block ≡ true → list_all line_fits (block_lines block) ≡ true
+block_fits n few program.Stop h = refl
+block_fits n few (program.Assign to value rest) h =
+    let parts = and_parts (target_fits to && expr_fits value) (operands_fit n rest) h in
+    and_from (target_fits to && expr_fits value) (list_all line_fits (block_lines rest)) parts.0 (block_fits n few rest parts.1)
+block_fits n few (program.Read to from rest) h =
+    let parts = and_parts (target_fits to && operand_fits from) (operands_fit n rest) h in
+    and_from (target_fits to && operand_fits from) (list_all line_fits (block_lines rest)) parts.0 (block_fits n few rest parts.1)
+block_fits n few (program.Write to value rest) h =
+    let parts = and_parts (operand_fits to && expr_fits value) (operands_fit n rest) h in
+    and_from (operand_fits to && expr_fits value) (list_all line_fits (block_lines rest)) parts.0 (block_fits n few rest parts.1)
+block_fits n few (program.Scan cell first count rest) h =
+    let parts = and_parts (scan_fits n cell first count) (operands_fit n rest) h in
+    and_from (line_fits (line.Scan cell first count)) (list_all line_fits (block_lines rest)) (scan_small n cell first count few parts.0) (block_fits n few rest parts.1)
+block_fits n few (program.If test first second rest) h =
+    let outer = and_parts (expr_fits test && operands_fit n first && operands_fit n second) (operands_fit n rest) h in
+    let middle = and_parts (expr_fits test && operands_fit n first) (operands_fit n second) outer.0 in
+    let inner = and_parts (expr_fits test) (operands_fit n first) middle.0 in
     let after = else_lines second (block_lines second) ++ (line.Fi ∷ block_lines rest) in
     and_from (expr_fits test) (list_all line_fits (block_lines first ++ after)) inner.0
-    (both_fit (block_lines first) after (block_fits first inner.1)
-    (both_fit (else_lines second (block_lines second)) (line.Fi ∷ block_lines rest) (else_fits second (block_lines second) (block_fits second middle.1)) (block_fits rest outer.1)))
-block_fits (program.Repeat count body rest) h =
-    let outer = and_parts (expr_fits count && operands_fit body) (operands_fit rest) h in
-    let inner = and_parts (expr_fits count) (operands_fit body) outer.0 in
+    (both_fit (block_lines first) after (block_fits n few first inner.1)
+    (both_fit (else_lines second (block_lines second)) (line.Fi ∷ block_lines rest) (else_fits second (block_lines second) (block_fits n few second middle.1)) (block_fits n few rest outer.1)))
+block_fits n few (program.Repeat count body rest) h =
+    let outer = and_parts (expr_fits count && operands_fit n body) (operands_fit n rest) h in
+    let inner = and_parts (expr_fits count) (operands_fit n body) outer.0 in
     and_from (expr_fits count) (list_all line_fits (block_lines body ++ (line.Done ∷ block_lines rest))) inner.0
-    (both_fit (block_lines body) (line.Done ∷ block_lines rest) (block_fits body inner.1) (block_fits rest outer.1))
-block_fits (program.Emit value rest) h =
-    let parts = and_parts (expr_fits value) (operands_fit rest) h in
-    and_from (expr_fits value) (list_all line_fits (block_lines rest)) parts.0 (block_fits rest parts.1)
-block_fits (program.Halt rest) h = block_fits rest h
+    (both_fit (block_lines body) (line.Done ∷ block_lines rest) (block_fits n few body inner.1) (block_fits n few rest outer.1))
+block_fits n few (program.Emit value rest) h =
+    let parts = and_parts (expr_fits value) (operands_fit n rest) h in
+    and_from (expr_fits value) (list_all line_fits (block_lines rest)) parts.0 (block_fits n few rest parts.1)
+block_fits n few (program.Halt rest) h = block_fits n few rest h
 
 use_small : (kind : Use) (registers : ℕ) → use_fits kind registers ≡ true → numbers_small kind ≡ true
 use_small (use_line.Split base id) n h =
@@ -199,9 +213,17 @@ use_small (use_line.Name base slots slot) n h =
     let count = between 1 8 slots parts.0 in
     let own = ltb-true slot slots parts.1 in
     rw (le-leb base 1000000000 (omega (arith, few, room)), le-leb slots 1000000000 (omega (arith, count.1)), le-leb slot 1000000000 (omega (arith, count.1, own))) refl
+use_small (use_line.Names base slots slot) n h =
+    let within = fits (use_line.Names base slots slot) n h in
+    let few = within.few in
+    let room = within.room in
+    let parts = and_parts (is_between 1 8 slots) (ltb slot slots) within.numbers in
+    let count = between 1 8 slots parts.0 in
+    let own = ltb-true slot slots parts.1 in
+    rw (le-leb base 1000000000 (omega (arith, few, room)), le-leb slots 1000000000 (omega (arith, count.1)), le-leb slot 1000000000 (omega (arith, count.1, own))) refl
 
 body_fits : (registers : ℕ) (body : Body) → IsBodyWithin registers body → list_all line_fits (body_lines body) ≡ true
-body_fits n (Text block) h = block_fits block h.operands
+body_fits n (Text block) h = block_fits n h.registers block h.operands
 body_fits n (Kind kind) h = and_from (numbers_small kind) true (use_small kind n h) refl
 
 processes_fit : (registers : ℕ) (bodies : List Body) → AllByRecursion (IsBodyWithin registers) bodies → list_all line_fits (flat_map process_lines bodies) ≡ true

@@ -144,6 +144,7 @@ key_again keyword.End = refl
 key_again keyword.Set = refl
 key_again keyword.Read = refl
 key_again keyword.Write = refl
+key_again keyword.Scan = refl
 key_again keyword.If = refl
 key_again keyword.Else = refl
 key_again keyword.Fi = refl
@@ -166,6 +167,7 @@ kind_again kind.Split = refl
 kind_again kind.Grid = refl
 kind_again kind.Tree = refl
 kind_again kind.Name = refl
+kind_again kind.Names = refl
 
 property_again : (p : Property) → word_of (property_text p) ≡ word.Property p
 property_again property.Distinct = refl
@@ -229,6 +231,7 @@ plain_key keyword.End = (refl, refl)
 plain_key keyword.Set = (refl, refl)
 plain_key keyword.Read = (refl, refl)
 plain_key keyword.Write = (refl, refl)
+plain_key keyword.Scan = (refl, refl)
 plain_key keyword.If = (refl, refl)
 plain_key keyword.Else = (refl, refl)
 plain_key keyword.Fi = (refl, refl)
@@ -251,6 +254,7 @@ plain_kind kind.Split = (refl, refl)
 plain_kind kind.Grid = (refl, refl)
 plain_kind kind.Tree = (refl, refl)
 plain_kind kind.Name = (refl, refl)
+plain_kind kind.Names = (refl, refl)
 
 plain_property : (p : Property) → (list_all is_plain (property_text p) ≡ true) × (is_empty (property_text p) ≡ false)
 plain_property property.Distinct = (refl, refl)

@@ -4,7 +4,7 @@ use Rattle.regmodel.specs.declared.clauses.Clause.{Clause}
 use Rattle.regmodel.specs.declared.programs.Expr.{Expr}
 use Rattle.regmodel.specs.declared.limits.TheConstants.{MOST_CHECKS, MOST_OPEN_BLOCKS, MOST_OPEN_REPEATS, MOST_PROCESSES, MOST_REGISTERS, MOST_STATEMENTS}
 use Rattle.reglang.specs.declared.refusals.TheConstants.{MISPLACED, NO_CLAUSE, NO_MEMORY, NO_REGISTERS, PAST_LIMIT}
-use Rattle.regmodel.specs.Limits.{target_fits, operand_fits, expr_fits, operands_fit, statements, open_blocks, open_repeats}
+use Rattle.regmodel.specs.Limits.{target_fits, operand_fits, expr_fits, scan_fits, operands_fit, statements, open_blocks, open_repeats}
 use Rattle.regmodel.specs.Program as program
 use Rattle.regmodel.specs.Program.{Block, Stop, block_of}
 use Rattle.reglang.specs.Forms.{read_line}
@@ -31,6 +31,7 @@ program.Stop ⊕ more = more
 (program.Assign to value rest) ⊕ more = program.Assign to value (rest ⊕ more)
 (program.Read to from rest) ⊕ more = program.Read to from (rest ⊕ more)
 (program.Write to value rest) ⊕ more = program.Write to value (rest ⊕ more)
+(program.Scan cell first count rest) ⊕ more = program.Scan cell first count (rest ⊕ more)
 (program.If test first second rest) ⊕ more = program.If test first second (rest ⊕ more)
 (program.Repeat count body rest) ⊕ more = program.Repeat count body (rest ⊕ more)
 (program.Emit value rest) ⊕ more = program.Emit value (rest ⊕ more)
@@ -116,6 +117,7 @@ abbrev pub take_inside : Contents → List Frame → Block → ℕ → Line → 
 take_inside before frames block n (line.Set to value) = add before frames block n (target_fits to && expr_fits value) (program.Assign to value Stop)
 take_inside before frames block n (line.Read to from) = add before frames block n (target_fits to && operand_fits from) (program.Read to from Stop)
 take_inside before frames block n (line.Write to value) = add before frames block n (operand_fits to && expr_fits value) (program.Write to value Stop)
+take_inside before frames block n (line.Scan cell first count) = add before frames block n (scan_fits before.registers cell first count) (program.Scan cell first count Stop)
 take_inside before frames block n (line.Emit value) = add before frames block n (expr_fits value) (program.Emit value Stop)
 take_inside before frames block n line.Halt = add before frames block n true (program.Halt Stop)
 take_inside before frames block n (line.If test) = enter before (First test block) frames n (expr_fits test)
@@ -169,18 +171,18 @@ read_from reading n (line ∷ lines) = goes_on (faulty_at (suc n) (take_if_said 
 
 -- ---- what is known of what was read
 
--- a block within the limits, where so many blocks and so many repeats are open around it
-pub record BlockFits (blocks repeats : ℕ) (block : Block) : Type 0 where
-  pub operands : operands_fit block ≡ true
+-- a block within the limits, where there are so many registers, and so many blocks and repeats are open around it
+pub record BlockFits (registers blocks repeats : ℕ) (block : Block) : Type 0 where
+  pub operands : operands_fit registers block ≡ true
   pub depth : open_blocks block + blocks ≤ MOST_OPEN_BLOCKS
   pub turning : open_repeats block + repeats ≤ MOST_OPEN_REPEATS
 
 -- open blocks, and the statements of the innermost
-abbrev pub FramesFit : List Frame → Block → Type 0
-FramesFit [] block = BlockFits 0 0 block
-FramesFit (First test outer ∷ frames) block = (expr_fits test ≡ true) × (BlockFits (suc (length frames)) (turns frames) block × FramesFit frames outer)
-FramesFit (Second test first outer ∷ frames) block = (expr_fits test ≡ true) × (BlockFits (suc (length frames)) (turns frames) first × (BlockFits (suc (length frames)) (turns frames) block × FramesFit frames outer))
-FramesFit (Turn count outer ∷ frames) block = (expr_fits count ≡ true) × (BlockFits (suc (length frames)) (suc (turns frames)) block × FramesFit frames outer)
+abbrev pub FramesFit : ℕ → List Frame → Block → Type 0
+FramesFit r [] block = BlockFits r 0 0 block
+FramesFit r (First test outer ∷ frames) block = (expr_fits test ≡ true) × (BlockFits r (suc (length frames)) (turns frames) block × FramesFit r frames outer)
+FramesFit r (Second test first outer ∷ frames) block = (expr_fits test ≡ true) × (BlockFits r (suc (length frames)) (turns frames) first × (BlockFits r (suc (length frames)) (turns frames) block × FramesFit r frames outer))
+FramesFit r (Turn count outer ∷ frames) block = (expr_fits count ≡ true) × (BlockFits r (suc (length frames)) (suc (turns frames)) block × FramesFit r frames outer)
 
 -- how many statements there are around the innermost block
 abbrev pub statements_around : List Frame → ℕ
@@ -202,7 +204,7 @@ pub record ContentsFit (before : Contents) : Type 0 where
 pub record InsideFits (before : Contents) (frames : List Frame) (block : Block) (n : ℕ) : Type 0 where
   pub contents : ContentsFit before
   pub room : length before.processes < MOST_PROCESSES
-  pub nested : FramesFit frames block
+  pub nested : FramesFit before.registers frames block
   pub count : n ≡ statements block + statements_around frames
   pub few : n ≤ MOST_STATEMENTS
 

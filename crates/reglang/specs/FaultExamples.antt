@@ -72,6 +72,39 @@ count_past_the_limit = refl
 pub nothing_to_do : first_fault (codes "registers 1" ▹ codes "process" ▹ codes "end" ▹ []) ≡ None
 nothing_to_do = refl
 
+-- the third line of a text with two registers
+abbrev of_third_line : List ℕ → Option ReadFault
+of_third_line line = first_fault (codes "registers 2" ▹ codes "process" ▹ line ▹ codes "end" ▹ [])
+
+-- into a 33rd cell
+pub scan_past_the_cells : of_third_line (codes "scan 31 0 2") ≡ at 3 6
+scan_past_the_cells = refl
+
+pub scan_of_nothing : of_third_line (codes "scan 0 0 0") ≡ at 3 6
+scan_of_nothing = refl
+
+-- of a third register
+pub scan_past_the_registers : of_third_line (codes "scan 0 1 2") ≡ at 3 6
+scan_past_the_registers = refl
+
+pub scan_into_a_variable : of_third_line (codes "scan v0 0 1") ≡ at 3 4
+scan_into_a_variable = refl
+
+pub scan_of_both : of_third_line (codes "scan 0 0 2") ≡ None
+scan_of_both = refl
+
+pub scan_as_a_later_word : of_third_line (codes "read v0 scan") ≡ at 3 2
+scan_as_a_later_word = refl
+
+pub names_as_a_first_word : of_third_line (codes "names 0 2 0") ≡ at 3 2
+names_as_a_first_word = refl
+
+pub slot_of_its_own : of_third_line (codes "use names 0 2 1") ≡ None
+slot_of_its_own = refl
+
+pub slot_past_the_last : of_third_line (codes "use names 0 2 2") ≡ at 3 6
+slot_past_the_last = refl
+
 -- whether no line of a text has a fault: then its end is at fault, or nothing
 abbrev are_all_faultless : List ℕ → Bool
 are_all_faultless text = are_faultless at_start (lines text)

@@ -2,7 +2,7 @@
 use Rattle.std.specs.Prelude.{ℕ, suc, Bool, true, false, not, ◌&&◌, if◌then◌else◌, List, [], ◌∷◌, ◌++◌, length, max, Option, Some, None, is_some, is_none, unwrap_or, option_map, Result, Ok, Err, nat_lt}
 use Rattle.regmodel.specs.declared.limits.TheConstants.{MOST_CHECKS, MOST_OPEN_BLOCKS, MOST_OPEN_REPEATS, MOST_PROCESSES, MOST_REGISTERS, MOST_STATEMENTS}
 use Rattle.reglang.specs.declared.refusals.TheConstants.{MISPLACED, NO_CLAUSE, NO_REGISTERS, PAST_LIMIT}
-use Rattle.regmodel.specs.Limits.{target_fits, operand_fits, expr_fits}
+use Rattle.regmodel.specs.Limits.{target_fits, operand_fits, expr_fits, scan_fits}
 use Rattle.reglang.specs.Lines.{lines}
 use Rattle.reglang.specs.Forms.{read_line}
 use Rattle.reglang.specs.Grammar.{line_said, lines_said}
@@ -55,6 +55,7 @@ place_after line.Done (Inside opened n) = Inside (without_innermost opened) n
 place_after (line.Set to value) (Inside opened n) = Inside opened (suc n)
 place_after (line.Read to from) (Inside opened n) = Inside opened (suc n)
 place_after (line.Write to value) (Inside opened n) = Inside opened (suc n)
+place_after (line.Scan cell first count) (Inside opened n) = Inside opened (suc n)
 place_after (line.Emit value) (Inside opened n) = Inside opened (suc n)
 place_after line.Halt (Inside opened n) = Inside opened (suc n)
 place_after _ place = place
@@ -182,6 +183,7 @@ is_within context (line.Use kind) = use_fits kind (unwrap_or context.registers 0
 is_within context (line.Set to value) = has_room context.place && (target_fits to && expr_fits value)
 is_within context (line.Read to from) = has_room context.place && (target_fits to && operand_fits from)
 is_within context (line.Write to value) = has_room context.place && (operand_fits to && expr_fits value)
+is_within context (line.Scan cell first count) = has_room context.place && scan_fits (unwrap_or context.registers 0) cell first count
 is_within context (line.If test) = has_room context.place && expr_fits test && has_depth context.place
 is_within context (line.Repeat count) = has_room context.place && (expr_fits count && has_turns context.place) && has_depth context.place
 is_within context (line.Emit value) = has_room context.place && expr_fits value

@@ -25,7 +25,7 @@ use Rattle.reglang.specs.declared.words.Property.TheVariants as property
 use Rattle.reglang.specs.declared.words.Word.{Word}
 use Rattle.reglang.specs.declared.words.Word.TheVariants as word
 use Rattle.reglang.specs.declared.forms.Line.{Line}
-use Rattle.reglang.specs.declared.forms.Line.TheVariants.{Registers, Process, End, Set, Read, Write, If, Else, Fi, Repeat, Done, Emit, Halt, Check}
+use Rattle.reglang.specs.declared.forms.Line.TheVariants.{Registers, Process, End, Set, Read, Write, Scan, If, Else, Fi, Repeat, Done, Emit, Halt, Check}
 use Rattle.reglang.specs.declared.forms.Line.TheVariants as line
 
 -- the number that a word is
@@ -76,6 +76,7 @@ use_of kind.Split (base ∷ id ∷ []) = Some (λ b i. use_line.Split b i) ⊛ n
 use_of kind.Grid (base ∷ side ∷ id ∷ []) = Some (λ b s i. use_line.Grid b s i) ⊛ number_in base ⊛ number_in side ⊛ number_in id
 use_of kind.Tree (base ∷ depth ∷ id ∷ value ∷ []) = Some (λ b d i v. use_line.Tree b d i v) ⊛ number_in base ⊛ number_in depth ⊛ number_in id ⊛ number_in value
 use_of kind.Name (base ∷ slots ∷ slot ∷ []) = Some (λ b n s. use_line.Name b n s) ⊛ number_in base ⊛ number_in slots ⊛ number_in slot
+use_of kind.Names (base ∷ slots ∷ slot ∷ []) = Some (λ b n s. use_line.Names b n s) ⊛ number_in base ⊛ number_in slots ⊛ number_in slot
 use_of _ _ = None
 
 -- the use line of a kind, if it is one, with its numbers
@@ -108,6 +109,11 @@ abbrev pub write_form : List Word → Option Line
 write_form (to ∷ value) = Some (λ a e. Write a e) ⊛ operand_of to ⊛ expr_of value
 write_form [] = None
 
+-- what follows `scan`: a cell, a register and a count, all numbers
+abbrev pub scan_form : List Word → Option Line
+scan_form (cell ∷ first ∷ count ∷ []) = Some (λ c f n. Scan c f n) ⊛ number_in cell ⊛ number_in first ⊛ number_in count
+scan_form _ = None
+
 -- what follows `use`: a kind and its numbers
 abbrev pub use_form : List Word → Option Line
 use_form (kind ∷ numbers) = use_of_kind (kind_of kind) numbers
@@ -121,6 +127,7 @@ form_of keyword.End more = alone End more
 form_of keyword.Set more = set_form more
 form_of keyword.Read more = read_form more
 form_of keyword.Write more = write_form more
+form_of keyword.Scan more = scan_form more
 form_of keyword.If more = Some If ⊛ expr_of more
 form_of keyword.Else more = alone Else more
 form_of keyword.Fi more = alone Fi more

@@ -34,6 +34,7 @@ BlockSays program.Stop lines = lines ≡ []
 BlockSays (program.Assign to value rest) lines = Begins (line.Set to value) (BlockSays rest) lines
 BlockSays (program.Read to from rest) lines = Begins (line.Read to from) (BlockSays rest) lines
 BlockSays (program.Write to value rest) lines = Begins (line.Write to value) (BlockSays rest) lines
+BlockSays (program.Scan cell first count rest) lines = Begins (line.Scan cell first count) (BlockSays rest) lines
 BlockSays (program.If test first second rest) lines =
     Begins (line.If test) (Then (BlockSays first) (Then (ElseSays second (BlockSays second)) (Begins line.Fi (BlockSays rest)))) lines
 BlockSays (program.Repeat count body rest) lines = Begins (line.Repeat count) (Then (BlockSays body) (Begins line.Done (BlockSays rest))) lines

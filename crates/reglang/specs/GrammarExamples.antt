@@ -3,7 +3,7 @@ use Rattle.std.specs.Prelude.{[], ◌∷◌, codes, refl}
 use Rattle.std.proofs.Common.{inl, inr}
 use Rattle.regmodel.specs.declared.programs.Expr.TheVariants.{One}
 use Rattle.regmodel.specs.declared.programs.Operand.TheVariants.{Var}
-use Rattle.regmodel.specs.Program.{Block, Stop, If, Halt}
+use Rattle.regmodel.specs.Program.{Block, Stop, Scan, If, Halt}
 use Rattle.reglang.specs.Contents.{Contents, Text}
 use Rattle.reglang.specs.Grammar.{BlockSays, LinesSay, Process, lines_said}
 use Rattle.reglang.specs.declared.forms.Line.TheVariants as line
@@ -62,4 +62,12 @@ with_else = record {
     before = refl;
     after = record { front = line.Else ∷ []; back = line.Fi ∷ []; whole = refl; before = inr (record { more = []; whole = refl; holds = refl }); after = record { more = []; whole = refl; holds = refl } };
   };
+}
+
+-- a scan is one line
+pub a_scan : BlockSays (Scan 0 1 2 (Halt Stop)) (line.Scan 0 1 2 ∷ line.Halt ∷ [])
+a_scan = record {
+  more = line.Halt ∷ [];
+  whole = refl;
+  holds = record { more = []; whole = refl; holds = refl };
 }

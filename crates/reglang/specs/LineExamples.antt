@@ -53,6 +53,18 @@ write_sum = refl
 pub use_tree : read_line (codes "use tree 0 4 1 2") ≡ Ok (Some (line.Use (use_line.Tree 0 4 1 2)))
 use_tree = refl
 
+pub use_names : read_line (codes "use names 8 4 3") ≡ Ok (Some (line.Use (use_line.Names 8 4 3)))
+use_names = refl
+
+pub scan_registers : read_line (codes " scan 0 30  2") ≡ Ok (Some (line.Scan 0 30 2))
+scan_registers = refl
+
+pub scan_into_a_cell : read_line (codes "scan [0] 30 2") ≡ Err 4
+scan_into_a_cell = refl
+
+pub scan_of_a_register : read_line (codes "scan 0 30") ≡ Err 4
+scan_of_a_register = refl
+
 -- 1000000001 stands for it
 pub thirty_digits : read_line (codes "emit 999999999999999999999999999999") ≡ Ok (Some (line.Emit (expr.One (operand.Number 1000000001))))
 thirty_digits = refl

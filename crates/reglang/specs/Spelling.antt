@@ -17,6 +17,7 @@ keyword_text keyword.End = codes "end"
 keyword_text keyword.Set = codes "set"
 keyword_text keyword.Read = codes "read"
 keyword_text keyword.Write = codes "write"
+keyword_text keyword.Scan = codes "scan"
 keyword_text keyword.If = codes "if"
 keyword_text keyword.Else = codes "else"
 keyword_text keyword.Fi = codes "fi"
@@ -41,6 +42,7 @@ kind_text kind.Split = codes "split"
 kind_text kind.Grid = codes "grid"
 kind_text kind.Tree = codes "tree"
 kind_text kind.Name = codes "name"
+kind_text kind.Names = codes "names"
 
 -- a property that a check line names
 abbrev pub property_text : Property → List ℕ

@@ -96,7 +96,7 @@ value_word word =
 abbrev pub keywords : List (List ℕ × Keyword)
 keywords =
     map (λ one. (keyword_text one, one)) (
-    keyword.Registers ∷ keyword.Process ∷ keyword.End ∷ keyword.Set ∷ keyword.Read ∷ keyword.Write ∷ keyword.If ∷ keyword.Else ∷ keyword.Fi ∷ keyword.Repeat ∷ keyword.Done ∷ keyword.Emit ∷ keyword.Halt ∷ keyword.Use ∷ keyword.Check ∷ [])
+    keyword.Registers ∷ keyword.Process ∷ keyword.End ∷ keyword.Set ∷ keyword.Read ∷ keyword.Write ∷ keyword.Scan ∷ keyword.If ∷ keyword.Else ∷ keyword.Fi ∷ keyword.Repeat ∷ keyword.Done ∷ keyword.Emit ∷ keyword.Halt ∷ keyword.Use ∷ keyword.Check ∷ [])
 
 -- the operators, as they are spelled
 abbrev pub operators : List (List ℕ × Op)
@@ -108,7 +108,7 @@ operators =
 abbrev pub kinds : List (List ℕ × Kind)
 kinds =
     map (λ one. (kind_text one, one)) (
-    kind.Split ∷ kind.Grid ∷ kind.Tree ∷ kind.Name ∷ [])
+    kind.Split ∷ kind.Grid ∷ kind.Tree ∷ kind.Name ∷ kind.Names ∷ [])
 
 -- the properties of checks, as they are spelled
 abbrev pub properties : List (List ℕ × Property)

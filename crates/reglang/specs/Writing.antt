@@ -62,6 +62,7 @@ use_words (use_line.Split base id) = word.Kind kind.Split ∷ word.Number base �
 use_words (use_line.Grid base side id) = word.Kind kind.Grid ∷ word.Number base ∷ word.Number side ∷ word.Number id ∷ []
 use_words (use_line.Tree base depth id value) = word.Kind kind.Tree ∷ word.Number base ∷ word.Number depth ∷ word.Number id ∷ word.Number value ∷ []
 use_words (use_line.Name base slots slot) = word.Kind kind.Name ∷ word.Number base ∷ word.Number slots ∷ word.Number slot ∷ []
+use_words (use_line.Names base slots slot) = word.Kind kind.Names ∷ word.Number base ∷ word.Number slots ∷ word.Number slot ∷ []
 
 -- a property and its numbers
 abbrev pub clause_words : Clause → List Word
@@ -82,6 +83,7 @@ later_words line.End = []
 later_words (line.Set to value) = target_word to ∷ expr_words value
 later_words (line.Read to from) = target_word to ∷ operand_word from ∷ []
 later_words (line.Write to value) = operand_word to ∷ expr_words value
+later_words (line.Scan cell first count) = word.Number cell ∷ word.Number first ∷ word.Number count ∷ []
 later_words (line.If test) = expr_words test
 later_words line.Else = []
 later_words line.Fi = []
@@ -101,6 +103,7 @@ first_word line.End = keyword.End
 first_word (line.Set to value) = keyword.Set
 first_word (line.Read to from) = keyword.Read
 first_word (line.Write to value) = keyword.Write
+first_word (line.Scan cell first count) = keyword.Scan
 first_word (line.If test) = keyword.If
 first_word line.Else = keyword.Else
 first_word line.Fi = keyword.Fi
@@ -138,6 +141,7 @@ block_lines program.Stop = []
 block_lines (program.Assign to value rest) = line.Set to value ∷ block_lines rest
 block_lines (program.Read to from rest) = line.Read to from ∷ block_lines rest
 block_lines (program.Write to value rest) = line.Write to value ∷ block_lines rest
+block_lines (program.Scan cell first count rest) = line.Scan cell first count ∷ block_lines rest
 block_lines (program.If test first second rest) = line.If test ∷ (block_lines first ++ (else_lines second (block_lines second) ++ (line.Fi ∷ block_lines rest)))
 block_lines (program.Repeat count body rest) = line.Repeat count ∷ (block_lines body ++ (line.Done ∷ block_lines rest))
 block_lines (program.Emit value rest) = line.Emit value ∷ block_lines rest

@@ -20,6 +20,10 @@ pub check_line : line_text (line.Check (Some (clause.AtMost 3 1))) ≡ codes "ch
 unfolding digits
 check_line = refl
 
+pub scan_line : line_text (line.Scan 30 62 2) ≡ codes "scan 30 62 2"
+unfolding digits
+scan_line = refl
+
 -- no `else` where the second part is empty
 pub one_part : source_text (record {
   registers = 1;
@@ -37,3 +41,12 @@ pub second_part : source_text (record {
 }) ≡ codes "registers 2\nprocess\nif [31]\nelse\nread v1 0\nfi\nend\nprocess\nuse split 0 7\nend\n"
 unfolding digits
 second_part = refl
+
+-- a scan in a block, and a renaming that scans
+pub scans : source_text (record {
+  registers = 2;
+  processes = Text (program.Repeat (expr.One (operand.Number 3)) (program.Scan 0 1 1 program.Stop) (program.Halt program.Stop)) ∷ Kind (use_line.Names 0 2 0) ∷ [];
+  clauses = [];
+}) ≡ codes "registers 2\nprocess\nrepeat 3\nscan 0 1 1\ndone\nhalt\nend\nprocess\nuse names 0 2 0\nend\n"
+unfolding digits
+scans = refl

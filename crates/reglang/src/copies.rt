@@ -28,6 +28,7 @@ fn copy_stmt(alloc: Global, stmt: &Stmt) -> Result<Stmt, OutOfMemory>
         Stmt::Assign(target, expr) => Ok(Stmt::Assign(*target, *expr)),
         Stmt::Read(target, operand) => Ok(Stmt::Read(*target, *operand)),
         Stmt::Write(operand, expr) => Ok(Stmt::Write(*operand, *expr)),
+        Stmt::Scan(cell, first, count) => Ok(Stmt::Scan(*cell, *first, *count)),
         Stmt::If(expr, first, second) => {
             let first = copy_block(alloc, first.as_slice())?;
             let second = copy_block(alloc, second.as_slice())?;

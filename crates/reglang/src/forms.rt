@@ -30,6 +30,8 @@ pub enum Line {
     Read(Target, Operand),
     /// The expression's value is written into the register with the operand's number.
     Write(Operand, Expr),
+    /// Registers are read at once: the first cell that is stored to, the first register, and how many.
+    Scan(u32, u32, u32),
     /// What follows runs where the value is not 0.
     If(Expr),
     /// What follows runs where the value of the `if` is 0.
@@ -142,6 +144,12 @@ fn form_of(key: Keyword, more: &[Word]) -> Option<Line>
         Keyword::Write => {
             let [to, value @ ..] = more else { return None };
             Some(Line::Write(operand_of(*to)?, expr_of(value)?))
+        }
+        Keyword::Scan => {
+            let [cell, first, count] = more else {
+                return None
+            };
+            Some(Line::Scan(number_in(*cell)?, number_in(*first)?, number_in(*count)?))
         }
         Keyword::If => Some(Line::If(expr_of(more)?)),
         Keyword::Else => alone(Line::Else, more),

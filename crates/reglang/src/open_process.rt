@@ -13,7 +13,7 @@ use crate::parts::Parts;
 use crate::refusals::{LineRefusal, MISPLACED, PAST_LIMIT};
 use crate::source::Process;
 use regmodel::limits::{MOST_OPEN_BLOCKS, MOST_OPEN_REPEATS, MOST_STATEMENTS};
-use regmodel::{Expr, Prog, Stmt};
+use regmodel::{Expr, Prog, Stmt, scan_fits};
 use std::alloc::Global;
 use uses::Use;
 
@@ -71,6 +71,7 @@ impl OpenProcess {
             Line::Set(to, value) => self.add(to.fits() && value.fits(), Stmt::Assign(to, value)),
             Line::Read(to, from) => self.add(to.fits() && from.fits(), Stmt::Read(to, from)),
             Line::Write(to, value) => self.add(to.fits() && value.fits(), Stmt::Write(to, value)),
+            Line::Scan(cell, first, count) => self.add_scan(cell, first, count),
             Line::Emit(value) => self.add(value.fits(), Stmt::Emit(value)),
             Line::Halt => self.add(true, Stmt::Halt),
             Line::If(test) => self.enter_if(alloc, test),
@@ -96,6 +97,14 @@ impl OpenProcess {
         self.block.push(stmt)?;
         self.statements += 1;
         Ok(Draft::Inside(self))
+    }
+
+    /// Adds a scan, where it reads only registers that are there into cells that are there.
+    fn add_scan(self, cell: u32, first: u32, count: u32) -> Result<Draft, LineRefusal>
+        ensures { Answers (take_line (inside_of self) (line.Scan cell first count)) result }
+    {
+        let fits = scan_fits(self.before.registers(), cell, first, count);
+        self.add(fits, Stmt::Scan(cell, first, count))
     }
 
     /// Whether there is room for one more statement, and for one more block.

@@ -112,5 +112,11 @@ pub fn use_of(kind: Kind, numbers: &[Word]) -> Option<Use>
             };
             Some(Use::Name(number_in(*base)?, number_in(*slots)?, number_in(*slot)?))
         }
+        Kind::Names => {
+            let [base, slots, slot] = numbers else {
+                return None
+            };
+            Some(Use::Names(number_in(*base)?, number_in(*slots)?, number_in(*slot)?))
+        }
     }
 }

@@ -28,6 +28,7 @@ impl Spelled for Keyword {
             Keyword::Set => b"set",
             Keyword::Read => b"read",
             Keyword::Write => b"write",
+            Keyword::Scan => b"scan",
             Keyword::If => b"if",
             Keyword::Else => b"else",
             Keyword::Fi => b"fi",
@@ -68,6 +69,7 @@ impl Spelled for Kind {
             Kind::Grid => b"grid",
             Kind::Tree => b"tree",
             Kind::Name => b"name",
+            Kind::Names => b"names",
         }
     }
 }

@@ -10,13 +10,14 @@ use regmodel::Op;
 use regmodel::limits::{CELLS, GREATEST_VALUE, VARIABLES};
 
 /// The first words of lines.
-const KEYWORDS: [Keyword; 15] = [
+const KEYWORDS: [Keyword; 16] = [
     Keyword::Registers,
     Keyword::Process,
     Keyword::End,
     Keyword::Set,
     Keyword::Read,
     Keyword::Write,
+    Keyword::Scan,
     Keyword::If,
     Keyword::Else,
     Keyword::Fi,
@@ -32,7 +33,7 @@ const KEYWORDS: [Keyword; 15] = [
 const OPERATORS: [Op; 5] = [Op::Add, Op::Sub, Op::Mul, Op::Equal, Op::Less];
 
 /// The kinds of use lines.
-const KINDS: [Kind; 4] = [Kind::Split, Kind::Grid, Kind::Tree, Kind::Name];
+const KINDS: [Kind; 5] = [Kind::Split, Kind::Grid, Kind::Tree, Kind::Name, Kind::Names];
 
 /// The properties.
 const PROPERTIES: [Property; 8] = [
@@ -55,6 +56,7 @@ pub enum Keyword {
     Set,
     Read,
     Write,
+    Scan,
     If,
     Else,
     Fi,
@@ -73,6 +75,7 @@ pub enum Kind {
     Grid,
     Tree,
     Name,
+    Names,
 }
 
 /// A property that a check line names.

@@ -81,6 +81,7 @@ fn push_stmt(text: &mut Vec<u8>, stmt: &Stmt) -> Result<(), OutOfMemory>
         Stmt::Assign(to, value) => push_line(text, Line::Set(*to, *value)),
         Stmt::Read(to, from) => push_line(text, Line::Read(*to, *from)),
         Stmt::Write(to, value) => push_line(text, Line::Write(*to, *value)),
+        Stmt::Scan(cell, first, count) => push_line(text, Line::Scan(*cell, *first, *count)),
         Stmt::If(test, first, second) => {
             push_line(text, Line::If(*test))?;
             push_block(text, first.as_slice())?;

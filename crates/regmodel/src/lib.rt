@@ -19,11 +19,12 @@ mod settings;
 
 pub use accesses::{Access, Footprint, Numbers, Pending};
 pub use clauses::{Clause, Clauses};
+pub use fitting::scan_fits;
 pub use letters::Letter;
 pub use memory::OutOfMemory;
 pub use outcomes::{End, Judge, Outcome, ProcEnd};
-pub use reply::Reply;
 pub use programs::{Expr, Op, Operand, Prog, Stmt, Target};
+pub use reply::Reply;
 pub use schedule_texts::{read_schedule, write_schedule};
 pub use schedules::Prefix;
 pub use settings::{SettingFault, Settings};

@@ -99,6 +99,15 @@ fn push_use(text: &mut Vec<u8>, kind: Use) -> Result<(), OutOfMemory>
                 Word::Number(slot),
             ],
         ),
+        Use::Names(base, slots, slot) => push_words(
+            text,
+            &[
+                Word::Kind(Kind::Names),
+                Word::Number(base),
+                Word::Number(slots),
+                Word::Number(slot),
+            ],
+        ),
     }
 }
 
@@ -143,6 +152,7 @@ fn first_word(line: Line) -> Keyword
         Line::Set(_, _) => Keyword::Set,
         Line::Read(_, _) => Keyword::Read,
         Line::Write(_, _) => Keyword::Write,
+        Line::Scan(_, _, _) => Keyword::Scan,
         Line::If(_) => Keyword::If,
         Line::Else => Keyword::Else,
         Line::Fi => Keyword::Fi,
@@ -170,6 +180,10 @@ fn push_later(text: &mut Vec<u8>, line: Line) -> Result<(), OutOfMemory>
             push_words(text, &[operand_word(to)])?;
             push_expr(text, value)
         }
+        Line::Scan(cell, first, count) => push_words(
+            text,
+            &[Word::Number(cell), Word::Number(first), Word::Number(count)],
+        ),
         Line::If(value) => push_expr(text, value),
         Line::Repeat(value) => push_expr(text, value),
         Line::Emit(value) => push_expr(text, value),

@@ -4,7 +4,7 @@ use std::test::Fail;
 use uses::{ExpandFault, Use, expand};
 
 /// A use line, a number of registers, and whether the line is within its limits there.
-const LIMITS: [(Use, u32, bool); 37] = [
+const LIMITS: [(Use, u32, bool); 44] = [
     (Use::Split(0, 1), 2, true),
     (Use::Split(0, 1), 1, false),
     (Use::Split(62, 1), 64, true),
@@ -42,6 +42,13 @@ const LIMITS: [(Use, u32, bool); 37] = [
     (Use::Name(56, 8, 7), 64, true),
     (Use::Name(57, 8, 7), 64, false),
     (Use::Name(0, 9, 0), 64, false),
+    (Use::Names(0, 0, 0), 64, false),
+    (Use::Names(0, 1, 0), 1, true),
+    (Use::Names(1, 1, 0), 1, false),
+    (Use::Names(0, 2, 2), 2, false),
+    (Use::Names(56, 8, 7), 64, true),
+    (Use::Names(57, 8, 7), 64, false),
+    (Use::Names(0, 9, 0), 64, false),
 ];
 
 #[test]
@@ -60,11 +67,12 @@ fn keeps_the_limits(rt: HostRuntime) -> Result<(), Fail> {
 }
 
 /// A use line, a number of registers, and how many statements the expansion has, those of inner blocks left out.
-const SIZES: [(Use, u32, usize); 4] = [
+const SIZES: [(Use, u32, usize); 5] = [
     (Use::Split(0, 1), 2, 6),
     (Use::Grid(0, 2, 1), 6, 3),
     (Use::Tree(0, 2, 1, 1), 12, 9),
     (Use::Name(0, 2, 1), 2, 2),
+    (Use::Names(0, 2, 1), 2, 2),
 ];
 
 #[test]

@@ -59,7 +59,7 @@ fn a_check_line_is_a_clause_or_refused(rt: HostRuntime) -> Result<(), Fail> {
 }
 
 /// Lines of a process, and how they are written.
-const READ: [(&[u8], &[u8]); 28] = [
+const READ: [(&[u8], &[u8]); 33] = [
     (b"", b""),
     (b"   ", b""),
     (b"#", b""),
@@ -68,6 +68,13 @@ const READ: [(&[u8], &[u8]); 28] = [
     (b"set [v1] [31] * v2", b"set [v1] [31] * v2\n"),
     (b"read [4] v3", b"read [4] v3\n"),
     (b"  write  0  v15 + [v3]", b"write 0 v15 + [v3]\n"),
+    (b"scan 0 62 2", b"scan 0 62 2\n"),
+    (b"  scan  31 63  1 ", b"scan 31 63 1\n"),
+    (b"scan 0 32 32", b"scan 0 32 32\n"),
+    (
+        b"repeat 2\n scan 3 0 1\ndone",
+        b"repeat 2\nscan 3 0 1\ndone\n",
+    ),
     (b"if v1\nelse\nfi", b"if v1\nfi\n"),
     (b"repeat 99\ndone", b"repeat 99\ndone\n"),
     (b"halt", b"halt\n"),
@@ -75,6 +82,7 @@ const READ: [(&[u8], &[u8]); 28] = [
     (b"use tree 0 4 1 2", b"use tree 0 4 1 2\n"),
     (b" use grid 0 7 1", b"use grid 0 7 1\n"),
     (b"use name 0 8 7 ", b"use name 0 8 7\n"),
+    (b"use names 56 8 7", b"use names 56 8 7\n"),
     (b"emit 0", b"emit 0\n"),
     (b"emit 1000000000", b"emit 1000000000\n"),
     (b"emit v0", b"emit v0\n"),
@@ -104,7 +112,7 @@ fn the_lines_of_a_process_are_read_as_they_are_written(rt: HostRuntime) -> Resul
 
 /// Lines that are refused in a process, and the code of each: 1 for a byte that is not printable, 2 for a word that is not known there, 3
 /// for one that begins as a number and is none, 4 for words that are no form of the first, and 6 for a number past its limit.
-const REFUSED: [(&[u8], u8); 44] = [
+const REFUSED: [(&[u8], u8); 67] = [
     (b"#\t", 1),
     (b"emit\t1", 1),
     (b"emit 1\r", 1),
@@ -125,6 +133,29 @@ const REFUSED: [(&[u8], u8); 44] = [
     (b"emit 1 + 2 + 3", 4),
     (b"use tree 0 4 1 2 3", 4),
     (b"registers v1", 4),
+    (b"scans 0 0 1", 2),
+    (b"read v0 scan", 2),
+    (b"use scan 0 1", 2),
+    (b"names 0 2 0", 2),
+    (b"scan 01 0 1", 3),
+    (b"scan", 4),
+    (b"scan 0 0", 4),
+    (b"scan 0 0 1 1", 4),
+    (b"scan v0 0 1", 4),
+    (b"scan 0 v0 1", 4),
+    (b"scan 0 0 [1]", 4),
+    (b"scan [0] 0 1", 4),
+    (b"emit names", 4),
+    (b"use names 0 2", 4),
+    (b"use names 0 2 v1", 4),
+    (b"scan 0 0 0", 6),
+    (b"scan 0 0 33", 6),
+    (b"scan 31 0 2", 6),
+    (b"scan 0 63 2", 6),
+    (b"scan 0 4294967295 1", 6),
+    (b"scan 4294967295 0 1", 6),
+    (b"use names 0 9 0", 6),
+    (b"use names 57 8 7", 6),
     (b"emit 1000000001", 6),
     (b"emit 4294967296", 6),
     (b"emit 999999999999999999999999999999", 6),

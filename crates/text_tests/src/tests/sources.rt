@@ -5,7 +5,7 @@ use std::io::Write;
 use std::test::Fail;
 
 /// A text, and the line and the code of its first fault.
-const REFUSED: [(&[u8], u64, u8); 58] = [
+const REFUSED: [(&[u8], u64, u8); 66] = [
     (b"", 1, 7),
     (b"\n\n", 2, 7),
     (b"# a\n\n  # b", 3, 7),
@@ -62,6 +62,18 @@ const REFUSED: [(&[u8], u64, u8); 58] = [
     (b"registers 2\nprocess\nuse tab 0 1\nend\n", 3, 2),
     (b"registers 2\nprocess\nuse split 0 1\nhalt\nend\n", 4, 5),
     (b"registers 2\nprocess\nhalt\nuse split 0 1\nend\n", 4, 5),
+    (b"registers 2\nprocess\nscan 31 0 2\nend\n", 3, 6),
+    (b"registers 2\nprocess\nscan 0 0 0\nend\n", 3, 6),
+    (b"registers 2\nprocess\nscan 0 1 2\nend\n", 3, 6),
+    (b"registers 2\nprocess\nscan v0 0 1\nend\n", 3, 4),
+    (b"registers 2\nprocess\nread v0 scan\nend\n", 3, 2),
+    (b"registers 2\nprocess\nnames 0 2 0\nend\n", 3, 2),
+    (b"registers 2\nscan 0 0 2\n", 2, 5),
+    (
+        b"registers 2\nprocess\nuse names 0 2 0\nscan 0 0 2\nend\n",
+        4,
+        5,
+    ),
     (b"registers 1\nprocess\nhalt\nend\ncheck atmost 1\n", 5, 8),
     (b"registers 1\nprocess\nhalt\nend\ncheck atmost 1 9\n", 5, 8),
     (
@@ -112,7 +124,7 @@ fn tells_whether_the_end_is_at_fault(rt: HostRuntime) -> Result<(), Fail> {
 }
 
 /// Uses, over so many registers.
-const USES: [(&[u8], Use); 6] = [
+const USES: [(&[u8], Use); 8] = [
     (
         b"registers 2\nprocess\nuse split 0 1\nend\n",
         Use::Split(0, 1),
@@ -128,6 +140,14 @@ const USES: [(&[u8], Use); 6] = [
     (
         b"registers 2\nprocess\nuse name 0 2 1\nend\n",
         Use::Name(0, 2, 1),
+    ),
+    (
+        b"registers 2\nprocess\nuse names 0 2 0\nend\n",
+        Use::Names(0, 2, 0),
+    ),
+    (
+        b"registers 6\nprocess\nuse names 4 2 1\nend\n",
+        Use::Names(4, 2, 1),
     ),
     (
         b"registers 12\nprocess\nuse tree 0 2 1 1\nend\n",
@@ -160,8 +180,23 @@ fn use_lines_stand_for_their_expansions(rt: HostRuntime) -> Result<(), Fail> {
     Ok(())
 }
 
+/// The program of `use names 4 2 1`, line by line.
+const NAMES: &[u8] =
+    b"registers 6\nprocess\nset v0 1\nrepeat 99\nwrite 5 v0\nscan 0 4 2\nset [1] 0\nset v1 0\nset v2 1\nset v3 0\nrepeat 2\nif [v3] = v0\nset v1 1\nfi\nif v3 < 1\nif [v3]\nset v2 v2 + 1\nfi\nfi\nset v3 v3 + 1\ndone\nif v1 = 0\nemit v0\nhalt\nfi\nset v4 0\nrepeat 3\nif v2\nset v4 v4 + 1\nset v5 0\nset v3 0\nrepeat 2\nif [v3] = v4\nset v5 1\nfi\nset v3 v3 + 1\ndone\nif v5 = 0\nset v2 v2 - 1\nfi\nfi\ndone\nset v0 v4\ndone\nend\n";
+
+#[test]
+fn the_program_of_names_is_written_out(rt: HostRuntime) -> Result<(), Fail> {
+    let source = read_source(rt.alloc(), NAMES).ok().ok_or("refused")?;
+    let prog = source.prog(rt.alloc(), 0)?;
+    let expanded = expand(rt.alloc(), &Use::Names(4, 2, 1), 6)
+        .ok()
+        .ok_or("no expansion")?;
+    assert_eq!(rt; shown(rt.alloc(), &prog)?, shown(rt.alloc(), &expanded)?);
+    Ok(())
+}
+
 const EVERY_LINE: &[u8] =
-    b"# every line\nregisters 64\ncheck distinct\nprocess\nset v0 v15 + 1000000000\n  set [31] [v3]\n\nread [v0] 0\nwrite [2] 0 < v1\nif v0\nelse\nemit v0\nfi\nrepeat 100\ndone\nhalt\nend\ncheck atmost 1000000000 8\nprocess\nuse split 62 1\nend\ncheck within 5 4";
+    b"# every line\nregisters 64\ncheck distinct\nprocess\nset v0 v15 + 1000000000\n  set [31] [v3]\n\nread [v0] 0\nwrite [2] 0 < v1\nscan 0 32 32\nif v0\nelse\nemit v0\nfi\nrepeat 100\ndone\nhalt\nend\ncheck atmost 1000000000 8\nprocess\nuse split 62 1\nend\ncheck within 5 4";
 
 #[test]
 fn reads_every_line(rt: HostRuntime) -> Result<(), Fail> {
@@ -182,11 +217,11 @@ fn reads_every_line(rt: HostRuntime) -> Result<(), Fail> {
 fn reads_the_parts_of_an_if(rt: HostRuntime) -> Result<(), Fail> {
     let source = read_source(rt.alloc(), EVERY_LINE).ok().ok_or("refused")?;
     let prog = source.prog(rt.alloc(), 0)?;
-    let Some(Stmt::If(test, first, second)) = prog.body().get(4) else {
+    let Some(Stmt::If(test, first, second)) = prog.body().get(5) else {
         return Err(Fail::from("no if"));
     };
     let counts = (prog.body().len(), first.len(), second.len());
-    assert_eq!(rt; counts, (7, 0, 1));
+    assert_eq!(rt; counts, (8, 0, 1));
     assert!(rt; *test == Expr::One(Operand::Var(0)));
     Ok(())
 }

@@ -5,7 +5,7 @@ use std::alloc::Global;
 use std::test::Fail;
 
 /// Texts, and what is written of their sources.
-const TEXTS: [(&[u8], &[u8]); 5] = [
+const TEXTS: [(&[u8], &[u8]); 6] = [
     (b"registers 1\nprocess\nend", b"registers 1\nprocess\nend\n"),
     (
         b"# two kinds of checks\n\nregisters 64\ncheck within 1 4\nprocess\n  use name 8 4 3\nend\n  check distinct\nprocess\n  use grid 0 7 1000000000\nend\n",
@@ -20,13 +20,17 @@ const TEXTS: [(&[u8], &[u8]); 5] = [
         b"registers 1\nprocess\nif v0 = 1\nemit 1\nfi\nif 0\nelse\nrepeat 3\nif v1\nfi\ndone\nfi\nend\n",
     ),
     (
+        b"registers 2\nprocess\n  scan 30  0 2\n  if [31]\n    scan 0 1 1\n  else\n    scan 1 0 1\n  fi\nend\nprocess\n  use names 0 2 0\nend\n",
+        b"registers 2\nprocess\nscan 30 0 2\nif [31]\nscan 0 1 1\nelse\nscan 1 0 1\nfi\nend\nprocess\nuse names 0 2 0\nend\n",
+    ),
+    (
         b"registers 60\nprocess\nuse tree 0 4 5 9\nend\nprocess\nuse split 58 1\nend\ncheck atmost 1000000000 8\ncheck adaptive\ncheck triangle\ncheck selfseen\ncheck ended\ncheck nofault\n",
         b"registers 60\nprocess\nuse tree 0 4 5 9\nend\nprocess\nuse split 58 1\nend\ncheck atmost 1000000000 8\ncheck adaptive\ncheck triangle\ncheck selfseen\ncheck ended\ncheck nofault\n",
     ),
 ];
 
 /// Texts as they are written.
-const WRITTEN: [&[u8]; 11] = [
+const WRITTEN: [&[u8]; 13] = [
     b"registers 2\nprocess\nwrite 0 5\nend\nprocess\nwrite 1 5\nend\n",
     b"registers 1\nprocess\nwrite 0 5\nend\nprocess\nread v0 0\nemit v0\nend\n",
     b"registers 1\nprocess\nread v0 0\nend\nprocess\nread v0 0\nend\n",
@@ -34,6 +38,8 @@ const WRITTEN: [&[u8]; 11] = [
     b"registers 2\nprocess\nuse split 0 1\nend\nprocess\nuse split 0 2\nend\ncheck atmost 1 1\n",
     b"registers 2\nprocess\nuse name 0 2 0\nend\nprocess\nuse name 0 2 1\nend\ncheck distinct\ncheck adaptive\n",
     b"registers 2\nprocess\nuse name 0 2 0\nend\nprocess\nuse name 0 2 1\nend\ncheck within 1 2\n",
+    b"registers 2\nprocess\nscan 0 0 2\nemit [0]\nemit [1]\nend\nprocess\nwrite 0 5\nwrite 1 6\nend\n",
+    b"registers 2\nprocess\nuse names 0 2 0\nend\nprocess\nuse names 0 2 1\nend\ncheck distinct\ncheck adaptive\n",
     b"registers 12\nprocess\nuse tree 0 2 1 1\nend\ncheck selfseen\ncheck ended\n",
     b"registers 6\nprocess\nuse grid 0 2 1\nend\nprocess\nuse grid 0 2 2\nend\ncheck distinct\ncheck triangle\n",
     b"registers 1\nprocess\nwrite 3 1\nend\ncheck nofault\n",
