@@ -56,9 +56,14 @@ impl Names {
     /// The renaming of a use line, at its start: BASE, SLOTS, SLOT, and how many registers there are. Fault 1 where a limit of
     /// the line is passed, which [`Use::fits`] tells; no other fault comes. It takes no memory.
     pub fn make(base: u32, slots: u32, slot: u32, registers: u32) -> Result<Names, MakeFault>
-        ensures same { IfOk result (λ m. ⟦<Names as Machine>⟧.program m ≡ expansion (kind.Names base slots slot) registers) }
-        ensures starts { IfOk result (λ m. (s : Replies) → IsLawful (act_of (expansion (kind.Names base slots slot) registers)) s → ⟦<Names as Machine>⟧.rest m s ≡ act_of (expansion (kind.Names base slots slot) registers) s) }
-        ensures limits { (result ≡ Err (record { code = PAST_LIMIT })) ↔ (use_fits (kind.Names base slots slot) registers ≡ false) }
+        ensures same { IfOk result (λ m.
+            ⟦<Names as Machine>⟧.program m ≡ expansion (kind.Names base slots slot) registers) }
+        ensures starts { IfOk result (λ m. (s : Replies)
+            → IsLawful (act_of (expansion (kind.Names base slots slot) registers)) s
+            → ⟦<Names as Machine>⟧.rest m s
+            ≡ act_of (expansion (kind.Names base slots slot) registers) s) }
+        ensures limits { (result ≡ Err (record { code = PAST_LIMIT }))
+            ↔ (use_fits (kind.Names base slots slot) registers ≡ false) }
         ensures made { IsOk result ↔ IsTrue (use_fits (kind.Names base slots slot) registers) }
     {
         if !Use::Names(base, slots, slot).fits(registers) {
@@ -82,7 +87,13 @@ impl Names {
     fn finish(&mut self, reading: Reading)
         requires { 1 ≤ reading.rank }
         ensures same { ⟦<Names as Machine>⟧.program self.new ≡ ⟦<Names as Machine>⟧.program self.old }
-        ensures goes_on { (s : Replies) → ⟦<Names as Machine>⟧.rest self.new s ≡ from_after self.old.slots self.old.registers (scan_rounds self.old.base self.old.slots self.old.slot self.old.registers self.old.later) (at_slot self.old.proposal (bit reading.clash) reading.rank reading.at (cells_of self.old.seen)) s }
+        ensures goes_on { (s : Replies) → ⟦<Names as Machine>⟧.rest self.new s
+            ≡ from_after self.old.slots self.old.registers
+            (scan_rounds self.old.base self.old.slots self.old.slot self.old.registers
+            self.old.later)
+            (at_slot self.old.proposal (bit reading.clash) reading.rank reading.at
+            (cells_of self.old.seen))
+            s }
     {
         if !reading.clash {
             self.stage = Stage::Named;
@@ -99,12 +110,16 @@ impl Names {
     fn take(&mut self, reply: &[u32])
         requires { length reply.now ≡ self.old.slots }
         ensures same { ⟦<Names as Machine>⟧.program self.new ≡ ⟦<Names as Machine>⟧.program self.old }
-        ensures goes_on { (s : Replies) → ⟦<Names as Machine>⟧.rest self.new s ≡ from_scan_round self.old.base self.old.slots self.old.slot self.old.registers (suc self.old.later) self.old.proposal (cells_of self.old.seen) (one 0 ∷ reply.now ∷ s) }
+        ensures goes_on { (s : Replies) → ⟦<Names as Machine>⟧.rest self.new s
+            ≡ from_scan_round self.old.base self.old.slots self.old.slot self.old.registers
+            (suc self.old.later) self.old.proposal (cells_of self.old.seen)
+            (one 0 ∷ reply.now ∷ s) }
     {
         let slots = usize::from(self.slots);
+        let own = usize::from(self.slot);
         let mut seen = self.seen;
         seen[..slots].copy_from_slice(reply);
-        seen[usize::from(self.slot)] = 0;
+        seen[own] = 0;
         self.seen = seen;
         let reading = Reading::after_slots(&seen[..slots], self.proposal, self.slot);
         self.finish(reading);

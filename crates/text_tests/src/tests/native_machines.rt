@@ -1,10 +1,11 @@
 //! Native machines beside interpreters of the same programs.
 
 use machine::{Interp, Machine};
-use natives::{Grid, MakeFault, NameSlots, Split, Tree};
+use natives::{Grid, MakeFault, NameSlots, Names, Split, Tree};
 use rand::rngs::SmallRng;
 use rand::{RngExt, SeedableRng};
-use regmodel::{Access, Numbers, Pending};
+use regmodel::limits::MOST_SCANNED;
+use regmodel::{Access, Footprint, Numbers, Pending};
 use std::alloc::Global;
 use std::process::Abort;
 use std::test::Fail;
@@ -20,11 +21,20 @@ fn text(alloc: Global, kind: &Use, registers: u32) -> Result<Interp, Fail> {
     Ok(Interp::make(alloc, expand(alloc, kind, registers)?)?)
 }
 
+/// Whether these are as many values as are read, each of which a register may hold.
+fn are_values(reply: &[u32], count: u8) -> bool {
+    let count = usize::from(count);
+    count <= MOST_SCANNED && reply.len() == count && reply.iter().all(|value| *value <= LIMIT)
+}
+
 /// Gives a reply where it may come, and says whether it may.
-fn give<M: Machine>(machine: &mut M, reply: u32) -> bool {
-    match machine.pending() {
-        Pending::Wants(Access::Read(_)) if reply <= LIMIT => machine.feed(reply),
-        Pending::Wants(Access::Write(_, _)) if reply == 0 => machine.feed(reply),
+fn give<M: Machine>(machine: &mut M, reply: &[u32]) -> bool {
+    let Pending::Wants(access) = machine.pending() else {
+        return false;
+    };
+    match access.footprint() {
+        Footprint::Reads(_, count) if are_values(reply, count) => machine.feed(reply),
+        Footprint::Writes(_, _) if reply == [0] => machine.feed(reply),
         _ => return false,
     }
     true
@@ -53,23 +63,21 @@ fn write(register: u8, value: u32) -> Pending {
 fn assert_pending<M: Machine>(
     rt: &impl Abort,
     machine: &mut M,
-    replies: &[u32],
+    replies: &[&[u32]],
     expected: &Pending,
 ) {
     machine.reset();
     for reply in replies {
-        assert!(rt; give(machine, *reply), "{replies:?}");
+        assert!(rt; give(machine, reply), "{replies:?}");
     }
     assert_eq!(rt; &machine.pending(), expected, "{replies:?}");
 }
 
+/// Replies, and what is pending after them.
+type Row<'a> = (&'a [&'a [u32]], Pending);
+
 /// A native machine and its interpreter want these after these replies.
-fn assert_rows<M: Machine>(
-    rt: &impl Abort,
-    native: &mut M,
-    text: &mut Interp,
-    rows: &[(&[u32], Pending)],
-) {
+fn assert_rows<M: Machine>(rt: &impl Abort, native: &mut M, text: &mut Interp, rows: &[Row]) {
     for (replies, expected) in rows {
         assert_pending(rt, native, replies, expected);
         assert_pending(rt, text, replies, expected);
@@ -80,56 +88,72 @@ fn assert_rows<M: Machine>(
 
 #[test]
 fn splitter_rows(rt: HostRuntime) -> Result<(), Fail> {
-    let rows = [
-        ([].as_slice(), write(0, 1)),
-        (&[0], read(1)),
-        (&[0, 0], write(1, 1)),
-        (&[0, 0, 0], read(0)),
-        (&[0, 1], done(&[2])),
-        (&[0, 0, 0, 1], done(&[1])),
-        (&[0, 0, 0, 2], done(&[3])),
+    let rows: &[Row] = &[
+        (&[], write(0, 1)),
+        (&[&[0]], read(1)),
+        (&[&[0], &[0]], write(1, 1)),
+        (&[&[0], &[0], &[0]], read(0)),
+        (&[&[0], &[1]], done(&[2])),
+        (&[&[0], &[0], &[0], &[1]], done(&[1])),
+        (&[&[0], &[0], &[0], &[2]], done(&[3])),
     ];
     let mut text = text(rt.alloc(), &Use::Split(0, 1), 2)?;
-    assert_rows(&rt, &mut Split::make(0, 1, 2)?, &mut text, &rows);
+    assert_rows(&rt, &mut Split::make(0, 1, 2)?, &mut text, rows);
     Ok(())
 }
 
 #[test]
 fn grid_rows(rt: HostRuntime) -> Result<(), Fail> {
-    let rows = [
-        ([0, 1].as_slice(), write(4, 1)),
-        (&[0, 0, 0, 2], write(2, 1)),
-        (&[0, 1, 0, 1], done(&[])),
+    let rows: &[Row] = &[
+        (&[&[0], &[1]], write(4, 1)),
+        (&[&[0], &[0], &[0], &[2]], write(2, 1)),
+        (&[&[0], &[1], &[0], &[1]], done(&[])),
     ];
     let mut text = text(rt.alloc(), &Use::Grid(0, 2, 1), 6)?;
-    assert_rows(&rt, &mut Grid::make(0, 2, 1, 6)?, &mut text, &rows);
+    assert_rows(&rt, &mut Grid::make(0, 2, 1, 6)?, &mut text, rows);
     Ok(())
 }
 
 #[test]
 fn tree_rows(rt: HostRuntime) -> Result<(), Fail> {
-    let rows = [
-        ([0, 0, 1].as_slice(), done(&[])),
-        (&[0, 0, 0, 0, 1], write(3, 7)),
-        (&[0, 0, 0, 0, 1, 0, 1, 7], done(&[7])),
+    let rows: &[Row] = &[
+        (&[&[0], &[0], &[1]], done(&[])),
+        (&[&[0], &[0], &[0], &[0], &[1]], write(3, 7)),
+        (
+            &[&[0], &[0], &[0], &[0], &[1], &[0], &[1], &[7]],
+            done(&[7]),
+        ),
     ];
     let mut text = text(rt.alloc(), &Use::Tree(0, 1, 1, 7), 4)?;
-    assert_rows(&rt, &mut Tree::make(0, 1, 1, 7, 4)?, &mut text, &rows);
+    assert_rows(&rt, &mut Tree::make(0, 1, 1, 7, 4)?, &mut text, rows);
     Ok(())
 }
 
 #[test]
 fn name_rows(rt: HostRuntime) -> Result<(), Fail> {
-    let rows = [
-        ([0, 0].as_slice(), done(&[1])),
-        (&[0, 1], write(0, 2)),
-        (&[0, 1, 0, 2], write(0, 1)),
+    let rows: &[Row] = &[
+        (&[&[0], &[0]], done(&[1])),
+        (&[&[0], &[1]], write(0, 2)),
+        (&[&[0], &[1], &[0], &[2]], write(0, 1)),
     ];
     let mut first = text(rt.alloc(), &Use::Name(0, 2, 0), 2)?;
-    assert_rows(&rt, &mut NameSlots::make(0, 2, 0, 2)?, &mut first, &rows);
-    let rows = [([0, 1].as_slice(), write(1, 3))];
+    assert_rows(&rt, &mut NameSlots::make(0, 2, 0, 2)?, &mut first, rows);
+    let rows: &[Row] = &[(&[&[0], &[1]], write(1, 3))];
     let mut second = text(rt.alloc(), &Use::Name(0, 2, 1), 2)?;
-    assert_rows(&rt, &mut NameSlots::make(0, 2, 1, 2)?, &mut second, &rows);
+    assert_rows(&rt, &mut NameSlots::make(0, 2, 1, 2)?, &mut second, rows);
+    Ok(())
+}
+
+#[test]
+fn names_rows(rt: HostRuntime) -> Result<(), Fail> {
+    let rows: &[Row] = &[
+        (&[], write(1, 1)),
+        (&[&[0]], Pending::Wants(Access::Scan(0, 2))),
+        (&[&[0], &[1, 1]], write(1, 3)),
+        (&[&[0], &[0, 1]], done(&[1])),
+    ];
+    let mut text = text(rt.alloc(), &Use::Names(0, 2, 1), 2)?;
+    assert_rows(&rt, &mut Names::make(0, 2, 1, 2)?, &mut text, rows);
     Ok(())
 }
 
@@ -141,11 +165,13 @@ fn numbers_past_a_limit_are_refused(rt: HostRuntime) -> Result<(), Fail> {
     assert_eq!(rt; Grid::make(0, 8, 1, 64).err(), refused);
     assert_eq!(rt; Tree::make(0, 5, 1, 1, 64).err(), refused);
     assert_eq!(rt; NameSlots::make(0, 2, 2, 2).err(), refused);
+    assert_eq!(rt; Names::make(0, 2, 2, 2).err(), refused);
+    assert_eq!(rt; Names::make(1, 2, 0, 2).err(), refused);
     Ok(())
 }
 
-/// A reply to a read: often what the machine wrote last, 0 or a small number, and now and then any number.
-fn reply(random: &mut SmallRng, written: u32, echoes: u32) -> u32 {
+/// A value that is read: often what the machine wrote last, 0 or a small number, and now and then any number.
+fn value(random: &mut SmallRng, written: u32, echoes: u32) -> u32 {
     if random.random_range(0u32..8) < echoes {
         return written;
     }
@@ -173,16 +199,25 @@ fn beside<M: Machine>(
     for _ in 0..1000 {
         let pending = native.pending();
         assert_eq!(rt; text.pending(), pending);
-        let reply = match pending {
-            Pending::Wants(Access::Write(_, value)) => {
-                written = value;
-                0
-            }
-            Pending::Wants(Access::Read(_)) => reply(random, written, echoes),
-            over => return over,
+        let Pending::Wants(access) = pending else {
+            return pending;
         };
-        assert!(rt; give(native, reply));
-        assert!(rt; give(text, reply));
+        let mut values = [0; MOST_SCANNED];
+        let count = match access.footprint() {
+            Footprint::Reads(_, count) => {
+                let count = usize::from(count).min(MOST_SCANNED);
+                for at in 0..count {
+                    values[at] = value(random, written, echoes);
+                }
+                count
+            }
+            Footprint::Writes(_, number) => {
+                written = number;
+                1
+            }
+        };
+        assert!(rt; give(native, &values[..count]));
+        assert!(rt; give(text, &values[..count]));
     }
     native.pending()
 }
@@ -254,6 +289,23 @@ fn choices_of_names_do_as_their_programs(rt: HostRuntime) -> Result<(), Fail> {
     ] {
         let mut native = NameSlots::make(base, slots, slot, registers)?;
         let kind = Use::Name(base, slots, slot);
+        let mut text = text(rt.alloc(), &kind, registers)?;
+        let ended = beside_often(&rt, &mut native, &mut text, &end);
+        assert!(rt; ended > 0, "{kind:?}");
+    }
+    Ok(())
+}
+
+#[test]
+fn scanned_choices_of_names_do_as_their_programs(rt: HostRuntime) -> Result<(), Fail> {
+    for (base, slots, slot, registers, end) in [
+        (0, 1, 0, 1, done(&[1])),
+        (0, 2, 1, 2, done(&[3])),
+        (56, 8, 7, 64, done(&[])),
+        (0, 8, 0, 8, done(&[1])),
+    ] {
+        let mut native = Names::make(base, slots, slot, registers)?;
+        let kind = Use::Names(base, slots, slot);
         let mut text = text(rt.alloc(), &kind, registers)?;
         let ended = beside_often(&rt, &mut native, &mut text, &end);
         assert!(rt; ended > 0, "{kind:?}");

@@ -6,5 +6,5 @@ pub returns-clause-goes_on : goal.returns-clause-goes_on
 returns-clause-goes_on c = λ s.
     let m = c.args.self.now in
     c.finish.ensures.goes_on s
-    ∙ scan-kept m c.from-slots.result c.from.result c.args.reply.now c.copy_from_slice.new.self c.after_slots-reading.result s c.from-slots.ensures c.from.ensures c.copy_from_slice.ensures.after c.after_slots-reading.ensures.value
+    ∙ scan-kept m c.from-slots.result c.from-own.result c.args.reply.now c.copy_from_slice.new.self c.after_slots-reading.result s c.from-slots.ensures c.from-own.ensures c.copy_from_slice.ensures.after c.after_slots-reading.ensures.value
     ∙ sym (scan-taken m c.args.reply.now s c.requires)
