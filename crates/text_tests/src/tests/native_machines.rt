@@ -34,7 +34,7 @@ fn give<M: Machine>(machine: &mut M, reply: &[u32]) -> bool {
     };
     match access.footprint() {
         Footprint::Reads(_, count) if are_values(reply, count) => machine.feed(reply),
-        Footprint::Writes(_, _) if reply == [0] => machine.feed(reply),
+        Footprint::Writes(_, _) if reply == [0].as_slice() => machine.feed(reply),
         _ => return false,
     }
     true
