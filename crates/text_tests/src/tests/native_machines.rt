@@ -1,5 +1,8 @@
 //! Native machines beside interpreters of the same programs.
 
+ghost use Rattle.std.specs.Prelude.{◌≡◌, ◌≤◌, ◌↔◌, All, IsTrue, length};
+ghost use Rattle.regmodel.specs.declared.limits.TheConstants.{GREATEST_VALUE, MOST_SCANNED};
+
 use machine::{Interp, Machine};
 use natives::{Grid, MakeFault, NameSlots, Names, Split, Tree};
 use rand::rngs::SmallRng;
@@ -22,7 +25,11 @@ fn text(alloc: Global, kind: &Use, registers: u32) -> Result<Interp, Fail> {
 }
 
 /// Whether these are as many values as are read, each of which a register may hold.
-fn are_values(reply: &[u32], count: u8) -> bool {
+fn are_values(reply: &[u32], count: u8) -> bool
+    ensures { IsTrue result
+        ↔ (length reply.now ≡ count) × (count ≤ MOST_SCANNED)
+        × All (λ v. v ≤ GREATEST_VALUE) reply.now }
+{
     let count = usize::from(count);
     count <= MOST_SCANNED && reply.len() == count && reply.iter().all(|value| *value <= LIMIT)
 }
