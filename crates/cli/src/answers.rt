@@ -31,10 +31,17 @@ pub fn answer<H: Threads + Wait + Sync, R: Read + Drop, W: Write, E: Write + Sen
 ) -> u8
     ensures no_file { IsNone file → result ≡ 2 }
     ensures status { result ≤ 3 }
-    ensures answered { result ≤ 1 → IsAnswered order.now.path.now order.now.task (option_and_then R.remaining file) (W.contents out.old) (W.contents out.new) result }
-    ensures refused { 2 ≤ result → IsRefusedWith W.contents order.now.path.now order.now.task (option_and_then R.remaining file) out.old out.new result }
+    ensures answered { result ≤ 1
+        → IsAnswered order.now.path.now order.now.task (option_and_then R.remaining file)
+        (W.contents out.old) (W.contents out.new) result }
+    ensures refused { 2 ≤ result
+        → IsRefusedWith W.contents order.now.path.now order.now.task
+        (option_and_then R.remaining file) out.old out.new result }
     ensures silent { result ≡ 2 → out.new ≡ out.old }
-    ensures cut_short { result ≡ 3 → (out.new ≡ out.old) ⊎ IsCutShort order.now.path.now order.now.task (option_and_then R.remaining file) (W.contents out.old) (W.contents out.new) }
+    ensures cut_short { result ≡ 3
+        → (out.new ≡ out.old)
+        ⊎ IsCutShort order.now.path.now order.now.task (option_and_then R.remaining file)
+        (W.contents out.old) (W.contents out.new) }
 {
     match written(rt, alloc, order, file, out, err) {
         Ok(fails) => u8::from(fails),
@@ -54,8 +61,12 @@ fn written<H: Threads + Wait + Sync, R: Read + Drop, W: Write, E: Write + Send>(
     err: &mut E,
 ) -> Result<bool, Refusal>
     ensures no_file { IsNone file → result ≡ Err Refusal.File }
-    ensures answered { IfOk result (λ fails. IsAnswered order.now.path.now order.now.task (option_and_then R.remaining file) (W.contents out.old) (W.contents out.new) (if fails then 1 else 0)) }
-    ensures refused { IfErr result (IsRefusal W.contents order.now.path.now order.now.task (option_and_then R.remaining file) out.old out.new) }
+    ensures answered { IfOk result
+        (λ fails. IsAnswered order.now.path.now order.now.task (option_and_then R.remaining file)
+        (W.contents out.old) (W.contents out.new) (if fails then 1 else 0)) }
+    ensures refused { IfErr result
+        (IsRefusal W.contents order.now.path.now order.now.task (option_and_then R.remaining file)
+        out.old out.new) }
 {
     let Some(file) = file else {
         return Err(Refusal::File);
@@ -84,8 +95,12 @@ fn explained<E: Write>(order: &Order<'_>, text: &[u8], refusal: Refusal, err: &m
 
 /// Writes what was found of the text in the file of this path, and has the writer pass it on.
 fn tell<W: Write>(path: &str, text: &[u8], finding: &Finding, out: &mut W) -> Result<(), Refusal>
-    ensures whole { OnOk result (Writes (W.contents out.old) (W.contents out.new) (finding_text path.now text.now finding.now) None) }
-    ensures begun { OnErr result (HasBeginning (W.contents out.old) (W.contents out.new) (finding_text path.now text.now finding.now)) }
+    ensures whole { OnOk result
+        (Writes (W.contents out.old) (W.contents out.new)
+        (finding_text path.now text.now finding.now) None) }
+    ensures begun { OnErr result
+        (HasBeginning (W.contents out.old) (W.contents out.new)
+        (finding_text path.now text.now finding.now)) }
     ensures err { IfErr result (λ refusal. refusal ≡ Refusal.Write) }
 {
     if finding.write(path, text, out).is_err() {
@@ -100,8 +115,11 @@ fn tell<W: Write>(path: &str, text: &[u8], finding: &Finding, out: &mut W) -> Re
 /// All bytes of a file, where they are not too many.
 fn bytes_of<R: Read + Drop>(alloc: Global, file: R) -> Result<Vec<u8>, Refusal>
     ensures text { IfOk result (λ bytes. IsTextOf (R.remaining file) bytes.items) }
-    ensures err { IfErr result (λ refusal. (refusal ≡ Refusal.File) ⊎ (refusal ≡ Refusal.LongFile) ⊎ (refusal ≡ Refusal.Memory)) }
-    ensures long { IfErr result (λ refusal. refusal ≡ Refusal.LongFile → IsTooLong (R.remaining file)) }
+    ensures err { IfErr result
+        (λ refusal. (refusal ≡ Refusal.File) ⊎ (refusal ≡ Refusal.LongFile)
+        ⊎ (refusal ≡ Refusal.Memory)) }
+    ensures long { IfErr result
+        (λ refusal. refusal ≡ Refusal.LongFile → IsTooLong (R.remaining file)) }
 {
     let mut bytes = Vec::new(alloc);
     match file.take(MOST_BYTES + 1).read_to_end(&mut bytes) {

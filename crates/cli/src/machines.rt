@@ -83,7 +83,9 @@ pub fn machine_of(
     native: bool,
 ) -> Result<ProcessMachine, Refusal>
     requires { p < length (source_programs source.now) }
-    ensures program { IfOk result (λ m. slice_get (source_programs source.now) p ≡ Some (⟦<ProcessMachine as Machine>⟧.program m)) }
+    ensures program { IfOk result
+        (λ m. slice_get (source_programs source.now) p
+        ≡ Some (⟦<ProcessMachine as Machine>⟧.program m)) }
     ensures err { IfErr result (λ refusal. refusal ≡ Refusal.Memory) }
 {
     match source.use_of(p) {
@@ -95,7 +97,9 @@ pub fn machine_of(
 /// An interpreter of the program of process p.
 fn interpreter_of(alloc: Global, source: &Source, p: usize) -> Result<ProcessMachine, Refusal>
     requires { p < length (source_programs source.now) }
-    ensures program { IfOk result (λ m. slice_get (source_programs source.now) p ≡ Some (⟦<ProcessMachine as Machine>⟧.program m)) }
+    ensures program { IfOk result
+        (λ m. slice_get (source_programs source.now) p
+        ≡ Some (⟦<ProcessMachine as Machine>⟧.program m)) }
     ensures err { IfErr result (λ refusal. refusal ≡ Refusal.Memory) }
 {
     let prog = source.prog(alloc, p)?;
@@ -105,7 +109,8 @@ fn interpreter_of(alloc: Global, source: &Source, p: usize) -> Result<ProcessMac
 
 /// The native machine of a use line. An error where a limit of the line is passed.
 fn native_of(kind: &Use, registers: u32) -> Result<ProcessMachine, MakeFault>
-    ensures program { IfOk result (λ m. ⟦<ProcessMachine as Machine>⟧.program m ≡ expansion kind.now registers) }
+    ensures program { IfOk result
+        (λ m. ⟦<ProcessMachine as Machine>⟧.program m ≡ expansion kind.now registers) }
     ensures made { IsOk result ↔ IsTrue (use_fits kind.now registers) }
     ensures code { IfErr result (λ fault. fault.code ≡ 1) }
 {

@@ -198,7 +198,8 @@ fn exploration_of(words: &ArgMatches<'_>) -> Result<Task, Refusal>
 /// To replay the schedule of this text.
 fn replay_of(text: &str) -> Result<Task, Refusal>
     ensures ok { IfOk result (λ task. IsReplayOf text.now task) }
-    ensures none { IfErr result (λ refusal. (w : List Letter) → FitsPrefix w → schedule_text w ≢ text.now) }
+    ensures none { IfErr result
+        (λ refusal. (w : List Letter) → FitsPrefix w → schedule_text w ≢ text.now) }
     ensures err { IfErr result (λ refusal. refusal ≡ Refusal.Schedule) }
 {
     match schedule_of(text) {
@@ -210,7 +211,8 @@ fn replay_of(text: &str) -> Result<Task, Refusal>
 /// To draw the schedule of this text.
 fn show_of(text: &str, all: bool) -> Result<Task, Refusal>
     ensures ok { IfOk result (λ task. IsShowOf text.now all task) }
-    ensures none { IfErr result (λ refusal. (w : List Letter) → FitsPrefix w → schedule_text w ≢ text.now) }
+    ensures none { IfErr result
+        (λ refusal. (w : List Letter) → FitsPrefix w → schedule_text w ≢ text.now) }
     ensures err { IfErr result (λ refusal. refusal ≡ Refusal.Schedule) }
 {
     match schedule_of(text) {
@@ -222,7 +224,8 @@ fn show_of(text: &str, all: bool) -> Result<Task, Refusal>
 /// The schedule of this text.
 fn schedule_of(text: &str) -> Result<Prefix, Refusal>
     ensures ok { IfOk result (λ schedule. schedule_text schedule ≡ text.now) }
-    ensures none { IfErr result (λ refusal. (w : List Letter) → FitsPrefix w → schedule_text w ≢ text.now) }
+    ensures none { IfErr result
+        (λ refusal. (w : List Letter) → FitsPrefix w → schedule_text w ≢ text.now) }
     ensures err { IfErr result (λ refusal. refusal ≡ Refusal.Schedule) }
 {
     match read_schedule(text.as_bytes()) {

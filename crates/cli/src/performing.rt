@@ -53,9 +53,19 @@ pub fn perform<
     requires { F.IsAlwaysCallable opener }
     ensures status { result ≤ 3 }
     ensures words { IfErr words (λ refusal. result ≡ status_of refusal) }
-    ensures answered { result ≤ 1 → (asked : Task) × (path : List ℕ) × (file : Option R) × FnOnceReturnsAt F.FnOnce opener path file × IsAnswered path asked (option_and_then R.remaining file) (W.contents out.old) (W.contents out.new) result }
+    ensures answered { result ≤ 1
+        → (asked : Task) × (path : List ℕ) × (file : Option R)
+        × FnOnceReturnsAt F.FnOnce opener path file
+        × IsAnswered path asked (option_and_then R.remaining file) (W.contents out.old)
+        (W.contents out.new) result }
     ensures silent { result ≡ 2 → out.new ≡ out.old }
-    ensures cut_short { result ≡ 3 → (out.new ≡ out.old) ⊎ ((asked : Task) × (path : List ℕ) × (file : Option R) × FnOnceReturnsAt F.FnOnce opener path file × IsCutShort path asked (option_and_then R.remaining file) (W.contents out.old) (W.contents out.new)) }
+    ensures cut_short { result ≡ 3
+        → (out.new ≡ out.old)
+        ⊎
+        ((asked : Task) × (path : List ℕ) × (file : Option R)
+        × FnOnceReturnsAt F.FnOnce opener path file
+        × IsCutShort path asked (option_and_then R.remaining file) (W.contents out.old)
+        (W.contents out.new)) }
 {
     let words = match words {
         Ok(words) => words,

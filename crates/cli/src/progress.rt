@@ -20,14 +20,16 @@ struct Counts {
 impl Counts {
     /// One piece more was taken.
     fn take(&mut self)
-        ensures { self.new ≡ record { taken = min (self.old.taken + 1) (2 ^ 64 - 1); known = self.old.known } }
+        ensures { self.new
+            ≡ record { taken = min (self.old.taken + 1) (2 ^ 64 - 1); known = self.old.known } }
     {
         self.taken = self.taken.saturating_add(1);
     }
 
     /// So many more pieces are known.
     fn learn(&mut self, count: usize)
-        ensures { self.new ≡ record { taken = self.old.taken; known = min (self.old.known + count) (2 ^ 64 - 1) } }
+        ensures { self.new
+            ≡ record { taken = self.old.taken; known = min (self.old.known + count) (2 ^ 64 - 1) } }
     {
         self.known = self.known.saturating_add(count as u64);
     }
@@ -85,7 +87,8 @@ impl<H: Wait + Sync, E: Write + Send> Gate for Progress<'_, H, E> {
 
 /// Writes the line of these counts, where the number of taken pieces is a power of two.
 fn write_progress<E: Write>(counts: &Counts, err: &mut E) -> Result<(), WriteFault>
-    ensures { Writes (E.contents err.old) (E.contents err.new) (progress_text counts.now.taken counts.now.known) (write_fault_of result) }
+    ensures { Writes (E.contents err.old) (E.contents err.new)
+        (progress_text counts.now.taken counts.now.known) (write_fault_of result) }
 {
     let mut block = Block::new();
     put_progress(err, &mut block, counts)?;
@@ -94,7 +97,8 @@ fn write_progress<E: Write>(counts: &Counts, err: &mut E) -> Result<(), WriteFau
 
 /// Puts the line of these counts, where the number of taken pieces is a power of two.
 fn put_progress<E: Write>(err: &mut E, block: &mut Block, counts: &Counts) -> Result<(), WriteFault>
-    ensures { Puts (E.contents err.old) block.old (E.contents err.new) block.new (progress_text counts.now.taken counts.now.known) (write_fault_of result) }
+    ensures { Puts (E.contents err.old) block.old (E.contents err.new) block.new
+        (progress_text counts.now.taken counts.now.known) (write_fault_of result) }
 {
     if !counts.taken.is_power_of_two() {
         return Ok(());
@@ -109,7 +113,8 @@ fn put_line<E: Write>(
     taken: u64,
     known: u64,
 ) -> Result<(), WriteFault>
-    ensures { Puts (E.contents err.old) block.old (E.contents err.new) block.new (progress_line taken known) (write_fault_of result) }
+    ensures { Puts (E.contents err.old) block.old (E.contents err.new) block.new
+        (progress_line taken known) (write_fault_of result) }
 {
     block.put(err, b"regtry: ")?;
     put_pieces(err, block, taken)?;
@@ -120,7 +125,8 @@ fn put_line<E: Write>(
 
 /// Puts so many pieces.
 fn put_pieces<E: Write>(err: &mut E, block: &mut Block, count: u64) -> Result<(), WriteFault>
-    ensures { Puts (E.contents err.old) block.old (E.contents err.new) block.new (pieces_text count) (write_fault_of result) }
+    ensures { Puts (E.contents err.old) block.old (E.contents err.new) block.new (pieces_text count)
+        (write_fault_of result) }
 {
     put_digits(err, block, count)?;
     put_noun(err, block, count)
@@ -128,7 +134,8 @@ fn put_pieces<E: Write>(err: &mut E, block: &mut Block, count: u64) -> Result<()
 
 /// Puts the noun behind so many.
 fn put_noun<E: Write>(err: &mut E, block: &mut Block, count: u64) -> Result<(), WriteFault>
-    ensures { Puts (E.contents err.old) block.old (E.contents err.new) block.new (noun_text count) (write_fault_of result) }
+    ensures { Puts (E.contents err.old) block.old (E.contents err.new) block.new (noun_text count)
+        (write_fault_of result) }
 {
     if count == 1 {
         block.put(err, b" piece")

@@ -37,10 +37,15 @@ pub fn standing_after(
     schedule: &Prefix,
 ) -> Result<Standing, BadLetter>
     requires { map program machines.items ≡ source_programs source.now }
-    ensures schedule { IfOk result (λ standing. IsSchedule (source_programs source.now) 8 schedule.now) }
-    ensures outcome { IfOk result (λ standing. standing.outcome ≡ outcome_of (source_programs source.now) schedule.now) }
-    ensures registers { IfOk result (λ standing. standing.registers.items ≡ values_after (source_programs source.now) schedule.now (registers_of source.now)) }
-    ensures refused { IfErr result (λ letter. IsLetterRefused (source_programs source.now) 8 schedule.now letter.place) }
+    ensures schedule { IfOk result
+        (λ standing. IsSchedule (source_programs source.now) 8 schedule.now) }
+    ensures outcome { IfOk result
+        (λ standing. standing.outcome ≡ outcome_of (source_programs source.now) schedule.now) }
+    ensures registers { IfOk result
+        (λ standing. standing.registers.items
+        ≡ values_after (source_programs source.now) schedule.now (registers_of source.now)) }
+    ensures refused { IfErr result
+        (λ letter. IsLetterRefused (source_programs source.now) 8 schedule.now letter.place) }
 {
     let mut world = World::new(machines, source.registers(), CRASHES);
     match world.replay(schedule) {
@@ -62,9 +67,12 @@ pub fn drawing_of(
     schedule: &Prefix,
 ) -> Result<Drawing, BadLetter>
     requires { map program machines.items ≡ source_programs source.now }
-    ensures schedule { IfOk result (λ drawing. IsSchedule (source_programs source.now) 8 schedule.now) }
-    ensures drawn { IfOk result (IsPictureOf (source_programs source.now) (registers_of source.now) schedule.now) }
-    ensures refused { IfErr result (λ letter. IsLetterRefused (source_programs source.now) 8 schedule.now letter.place) }
+    ensures schedule { IfOk result
+        (λ drawing. IsSchedule (source_programs source.now) 8 schedule.now) }
+    ensures drawn { IfOk result
+        (IsPictureOf (source_programs source.now) (registers_of source.now) schedule.now) }
+    ensures refused { IfErr result
+        (λ letter. IsLetterRefused (source_programs source.now) 8 schedule.now letter.place) }
 {
     let mut world = World::new(machines, source.registers(), CRASHES);
     draw(&mut world, schedule)

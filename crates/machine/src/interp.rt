@@ -2,10 +2,8 @@
 
 ghost use Rattle.std.specs.Prelude.{◌≡◌, ℕ, ◌+◌, ◌<◌, ◌≤◌, IfOk, length, true};
 ghost use Rattle.regmodel.specs.OfProg.{program_of};
-ghost use Rattle.regmodel.specs.Lawful.{IsLawful, IsReplyTo};
-ghost use Rattle.regmodel.specs.Act.{act_of};
+ghost use Rattle.regmodel.specs.Lawful.{IsAtStart, IsReplyTo};
 ghost use Rattle.regmodel.specs.Kept.{values_in};
-ghost use Rattle.regmodel.specs.Reply.{Replies};
 ghost use Rattle.machine.specs.Keeping.{IsKept, LeadsTo, kept_at, state_at};
 ghost use Rattle.machine.specs.Rest.{Asks, pending_in};
 
@@ -40,7 +38,7 @@ impl Interp {
     /// is dropped then. No later call takes memory.
     pub fn make(alloc: Global, prog: Prog) -> Result<Interp, OutOfMemory>
         ensures same { IfOk result (λ m. ⟦<Interp as Machine>⟧.program m ≡ program_of prog) }
-        ensures starts { IfOk result (λ m. (s : Replies) → IsLawful (act_of (program_of prog)) s → ⟦<Interp as Machine>⟧.rest m s ≡ act_of (program_of prog) s) }
+        ensures starts { IfOk result (λ m. IsAtStart (program_of prog) (⟦<Interp as Machine>⟧.rest m)) }
     {
         let blank = Kept {
             reply: Reply::none(),
@@ -59,7 +57,9 @@ impl Interp {
 
     /// Whether the next place is known and this reply led there.
     fn is_known(&self, reply: &[u32]) -> bool
-        ensures { result ≡ true → (self.now.at + 1 < self.now.known) × (values_in (kept_at self.now.kept.items (self.now.at + 1)).reply ≡ reply.now) }
+        ensures { result ≡ true
+            → (self.now.at + 1 < self.now.known)
+            × (values_in (kept_at self.now.kept.items (self.now.at + 1)).reply ≡ reply.now) }
     {
         let next = self.at + 1;
         next < self.known && self.kept[next].reply.is(reply)
@@ -69,9 +69,12 @@ impl Interp {
     fn run_on(&mut self, reply: &[u32])
         requires known { self.old.at < self.old.known }
         requires room { self.old.at + 1 < length self.old.kept.items }
-        requires wanted { IsReplyTo (pending_in (state_at self.old.kept.items self.old.at)) reply.now }
+        requires wanted { IsReplyTo (pending_in (state_at self.old.kept.items self.old.at))
+            reply.now }
         ensures same { self.new.prog ≡ self.old.prog }
-        ensures goes_on { LeadsTo (program_of self.old.prog) (state_at self.old.kept.items self.old.at) reply.now (state_at self.new.kept.items self.new.at) }
+        ensures goes_on { LeadsTo (program_of self.old.prog)
+            (state_at self.old.kept.items self.old.at) reply.now
+            (state_at self.new.kept.items self.new.at) }
     {
         let state = self.kept[self.at].state;
         let next = &mut self.kept[self.at + 1];
@@ -86,9 +89,12 @@ impl Interp {
 
     /// Runs past the reply at the present place, which is known no longer.
     fn run_in_place(&mut self, reply: &[u32])
-        requires wanted { IsReplyTo (pending_in (state_at self.old.kept.items self.old.at)) reply.now }
+        requires wanted { IsReplyTo (pending_in (state_at self.old.kept.items self.old.at))
+            reply.now }
         ensures same { self.new.prog ≡ self.old.prog }
-        ensures goes_on { LeadsTo (program_of self.old.prog) (state_at self.old.kept.items self.old.at) reply.now (state_at self.new.kept.items self.new.at) }
+        ensures goes_on { LeadsTo (program_of self.old.prog)
+            (state_at self.old.kept.items self.old.at) reply.now
+            (state_at self.new.kept.items self.new.at) }
     {
         self.known = self.known.min(self.at);
         self.kept[self.at].state.go_on(&self.prog, reply);

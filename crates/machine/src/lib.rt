@@ -5,8 +5,7 @@ ghost use Rattle.std.specs.Prelude.{◌≡◌, ℕ, List, [], ◌∷◌};
 ghost use Rattle.regmodel.specs.declared.accesses.Pending.{Pending};
 ghost use Rattle.regmodel.specs.declared.accesses.Pending.TheVariants.{Done};
 ghost use Rattle.regmodel.specs.Program.{Program};
-ghost use Rattle.regmodel.specs.Act.{act_of};
-ghost use Rattle.regmodel.specs.Lawful.{IsReplyTo, IsLawful};
+ghost use Rattle.regmodel.specs.Lawful.{IsReplyTo, IsAtStart};
 ghost use Rattle.regmodel.specs.Reply as replies;
 ghost use Rattle.regmodel.specs.Reply.{Replies};
 
@@ -32,7 +31,7 @@ pub trait Machine: Drop + Send {
     /// Goes to the program's start.
     fn reset(&mut self)
         ensures same { program self.new ≡ program self.old }
-        ensures starts { (s : Replies) → IsLawful (act_of (program self.new)) s → rest self.new s ≡ act_of (program self.new) s };
+        ensures starts { IsAtStart (program self.new) (rest self.new) };
 
     /// What is pending now.
     fn pending(&self) -> Pending
@@ -78,7 +77,7 @@ pub fn feed_box(machine: &mut Box<dyn Machine + Send>, reply: &[u32])
 /// Resets a boxed machine.
 pub fn reset_box(machine: &mut Box<dyn Machine + Send>)
     ensures same { program machine.new ≡ program machine.old }
-    ensures starts { (s : Replies) → IsLawful (act_of (program machine.new)) s → rest machine.new s ≡ act_of (program machine.new) s }
+    ensures starts { IsAtStart (program machine.new) (rest machine.new) }
 {
     machine.reset();
 }

@@ -29,9 +29,18 @@ fn resume_stmt(
     requires small { registers ≤ MOST_REGISTERS }
     requires room { depth + open_blocks (with_stmt stmt.now Stop) < length frames.old }
     requires fits { IsTrue (operands_fit registers (with_stmt stmt.now Stop)) }
-    requires wanting { (rest : Block) × IsWanting (part_flow part registers (with_stmt stmt.now rest) (resume registers (drop (depth + 1) frames.old)) (env_of store.old) []) }
-    ensures flow { (rest : Block) (s : Replies) → part_flow part registers (with_stmt stmt.now rest) (resume registers (drop (depth + 1) frames.old)) (env_of store.old) (reply.now ∷ s) ≡ stmt_flow result registers (drop (depth + 1) frames.new) (with_stmt stmt.now rest) rest (env_of store.new) s }
-    ensures asks { (rest : Block) → StmtAsks result registers (drop (depth + 1) frames.new) (with_stmt stmt.now rest) (env_of store.new) }
+    requires wanting { (rest : Block)
+        × IsWanting
+        (part_flow part registers (with_stmt stmt.now rest)
+        (resume registers (drop (depth + 1) frames.old)) (env_of store.old) []) }
+    ensures flow { (rest : Block) (s : Replies)
+        → part_flow part registers (with_stmt stmt.now rest)
+        (resume registers (drop (depth + 1) frames.old)) (env_of store.old) (reply.now ∷ s)
+        ≡ stmt_flow result registers (drop (depth + 1) frames.new) (with_stmt stmt.now rest)
+        rest (env_of store.new) s }
+    ensures asks { (rest : Block)
+        → StmtAsks result registers (drop (depth + 1) frames.new) (with_stmt stmt.now rest)
+        (env_of store.new) }
 {
     match part {
         Part::Reading(_, place) => {
@@ -80,9 +89,15 @@ pub fn resume_block(
     requires small { registers ≤ MOST_REGISTERS }
     requires room { depth + open_blocks (block_of block.now) < length frames.old }
     requires fits { IsTrue (operands_fit registers (block_of block.now)) }
-    requires wanting { IsWanting (resume registers (drop depth frames.old) (block_of block.now) (env_of store.old) []) }
-    ensures flow { (s : Replies) → resume registers (drop depth frames.old) (block_of block.now) (env_of store.old) (reply.now ∷ s) ≡ block_flow result registers (drop depth frames.new) (block_of block.now) (env_of store.new) s }
-    ensures asks { BlockAsks result registers (drop depth frames.new) (block_of block.now) (env_of store.new) }
+    requires wanting { IsWanting
+        (resume registers (drop depth frames.old) (block_of block.now) (env_of store.old) []) }
+    ensures flow { (s : Replies)
+        → resume registers (drop depth frames.old) (block_of block.now) (env_of store.old)
+        (reply.now ∷ s)
+        ≡ block_flow result registers (drop depth frames.new) (block_of block.now)
+        (env_of store.new) s }
+    ensures asks { BlockAsks result registers (drop depth frames.new) (block_of block.now)
+        (env_of store.new) }
 {
     let Frame { at, part } = frames[depth];
     if at >= block.len() {

@@ -65,8 +65,11 @@ pub enum BlockExit {
 
 /// Evaluates the expression, then stores its value.
 fn assign(target: Target, value: Expr, store: &mut Store) -> Result<StmtExit, u8>
-    ensures flow { (n : ℕ) (fs : List Frame) (rest : Block) (s : Replies) → exec (Assign target value rest) n (env_of store.old) s ≡ stmt_flow result n fs (Assign target value rest) rest (env_of store.new) s }
-    ensures asks { (n : ℕ) (fs : List Frame) (rest : Block) → StmtAsks result n fs (Assign target value rest) (env_of store.new) }
+    ensures flow { (n : ℕ) (fs : List Frame) (rest : Block) (s : Replies)
+        → exec (Assign target value rest) n (env_of store.old) s
+        ≡ stmt_flow result n fs (Assign target value rest) rest (env_of store.new) s }
+    ensures asks { (n : ℕ) (fs : List Frame) (rest : Block)
+        → StmtAsks result n fs (Assign target value rest) (env_of store.new) }
 {
     let number = store.expr(value)?;
     let place = store.place(target)?;
@@ -77,7 +80,8 @@ fn assign(target: Target, value: Expr, store: &mut Store) -> Result<StmtExit, u8
 /// The number of a register; a fault where there is no such register.
 fn register(operand: Operand, registers: u32, store: &Store) -> Result<u8, u8>
     requires { registers ≤ MOST_REGISTERS }
-    ensures { result ≡ and_then (operand_value (env_of store.now) operand) (below_or_fault registers) }
+    ensures { result
+        ≡ and_then (operand_value (env_of store.now) operand) (below_or_fault registers) }
 {
     let number = store.operand(operand)?;
     if number < registers {
@@ -90,8 +94,11 @@ fn register(operand: Operand, registers: u32, store: &Store) -> Result<u8, u8>
 /// A read up to its access: first the register, then the place where the reply is to be stored.
 fn read(to: Target, from: Operand, registers: u32, store: &Store) -> Result<StmtExit, u8>
     requires { registers ≤ MOST_REGISTERS }
-    ensures flow { (fs : List Frame) (rest : Block) (s : Replies) → exec (Read to from rest) registers (env_of store.now) s ≡ stmt_flow result registers fs (Read to from rest) rest (env_of store.now) s }
-    ensures asks { (fs : List Frame) (rest : Block) → StmtAsks result registers fs (Read to from rest) (env_of store.now) }
+    ensures flow { (fs : List Frame) (rest : Block) (s : Replies)
+        → exec (Read to from rest) registers (env_of store.now) s
+        ≡ stmt_flow result registers fs (Read to from rest) rest (env_of store.now) s }
+    ensures asks { (fs : List Frame) (rest : Block)
+        → StmtAsks result registers fs (Read to from rest) (env_of store.now) }
 {
     let register = register(from, registers, store)?;
     let place = store.place(to)?;
@@ -101,8 +108,11 @@ fn read(to: Target, from: Operand, registers: u32, store: &Store) -> Result<Stmt
 /// A write up to its access: first the register, then the value.
 fn write(to: Operand, value: Expr, registers: u32, store: &Store) -> Result<StmtExit, u8>
     requires { registers ≤ MOST_REGISTERS }
-    ensures flow { (fs : List Frame) (rest : Block) (s : Replies) → exec (Write to value rest) registers (env_of store.now) s ≡ stmt_flow result registers fs (Write to value rest) rest (env_of store.now) s }
-    ensures asks { (fs : List Frame) (rest : Block) → StmtAsks result registers fs (Write to value rest) (env_of store.now) }
+    ensures flow { (fs : List Frame) (rest : Block) (s : Replies)
+        → exec (Write to value rest) registers (env_of store.now) s
+        ≡ stmt_flow result registers fs (Write to value rest) rest (env_of store.now) s }
+    ensures asks { (fs : List Frame) (rest : Block)
+        → StmtAsks result registers fs (Write to value rest) (env_of store.now) }
 {
     let register = register(to, registers, store)?;
     let number = store.expr(value)?;
@@ -116,8 +126,11 @@ fn write(to: Operand, value: Expr, registers: u32, store: &Store) -> Result<Stmt
 fn scan(cell: u32, first: u32, count: u32, registers: u32) -> StmtExit
     requires small { registers ≤ MOST_REGISTERS }
     requires fits { IsTrue (scan_fits registers cell first count) }
-    ensures flow { (fs : List Frame) (rest : Block) (env : Env) (s : Replies) → exec (Scan cell first count rest) registers env s ≡ stmt_flow (Ok result) registers fs (Scan cell first count rest) rest env s }
-    ensures asks { (fs : List Frame) (rest : Block) (env : Env) → StmtAsks (Ok result) registers fs (Scan cell first count rest) env }
+    ensures flow { (fs : List Frame) (rest : Block) (env : Env) (s : Replies)
+        → exec (Scan cell first count rest) registers env s
+        ≡ stmt_flow (Ok result) registers fs (Scan cell first count rest) rest env s }
+    ensures asks { (fs : List Frame) (rest : Block) (env : Env)
+        → StmtAsks (Ok result) registers fs (Scan cell first count rest) env }
 {
     let (cell, first, count) = (cell as u8, first as u8, count as u8);
     StmtExit::Wants(
@@ -128,8 +141,11 @@ fn scan(cell: u32, first: u32, count: u32, registers: u32) -> StmtExit
 
 /// Appends a number to those of the process; a fault where there are as many as may be.
 fn emit(value: Expr, store: &mut Store) -> Result<StmtExit, u8>
-    ensures flow { (n : ℕ) (fs : List Frame) (rest : Block) (s : Replies) → exec (Emit value rest) n (env_of store.old) s ≡ stmt_flow result n fs (Emit value rest) rest (env_of store.new) s }
-    ensures asks { (n : ℕ) (fs : List Frame) (rest : Block) → StmtAsks result n fs (Emit value rest) (env_of store.new) }
+    ensures flow { (n : ℕ) (fs : List Frame) (rest : Block) (s : Replies)
+        → exec (Emit value rest) n (env_of store.old) s
+        ≡ stmt_flow result n fs (Emit value rest) rest (env_of store.new) s }
+    ensures asks { (n : ℕ) (fs : List Frame) (rest : Block)
+        → StmtAsks result n fs (Emit value rest) (env_of store.new) }
 {
     let number = store.expr(value)?;
     if store.emitted.is_full() {
@@ -181,8 +197,13 @@ fn run_stmt(
     requires small { registers ≤ MOST_REGISTERS }
     requires room { depth + open_blocks (with_stmt stmt.now Stop) < length frames.old }
     requires fits { IsTrue (operands_fit registers (with_stmt stmt.now Stop)) }
-    ensures flow { (rest : Block) (s : Replies) → exec (with_stmt stmt.now rest) registers (env_of store.old) s ≡ stmt_flow result registers (drop (depth + 1) frames.new) (with_stmt stmt.now rest) rest (env_of store.new) s }
-    ensures asks { (rest : Block) → StmtAsks result registers (drop (depth + 1) frames.new) (with_stmt stmt.now rest) (env_of store.new) }
+    ensures flow { (rest : Block) (s : Replies)
+        → exec (with_stmt stmt.now rest) registers (env_of store.old) s
+        ≡ stmt_flow result registers (drop (depth + 1) frames.new) (with_stmt stmt.now rest)
+        rest (env_of store.new) s }
+    ensures asks { (rest : Block)
+        → StmtAsks result registers (drop (depth + 1) frames.new) (with_stmt stmt.now rest)
+        (env_of store.new) }
 {
     match stmt {
         Stmt::Assign(target, value) => assign(*target, *value, store),
@@ -220,8 +241,13 @@ pub fn run_turns(
     requires small { registers ≤ MOST_REGISTERS }
     requires room { depth + 1 + open_blocks (block_of body.now) < length frames.old }
     requires fits { IsTrue (operands_fit registers (block_of body.now)) }
-    ensures flow { (e : Expr) (rest : Block) (s : Replies) → times_then turns registers (block_of body.now) rest (env_of store.old) s ≡ stmt_flow result registers (drop (depth + 1) frames.new) (Repeat e (block_of body.now) rest) rest (env_of store.new) s }
-    ensures asks { (e : Expr) (rest : Block) → StmtAsks result registers (drop (depth + 1) frames.new) (Repeat e (block_of body.now) rest) (env_of store.new) }
+    ensures flow { (e : Expr) (rest : Block) (s : Replies)
+        → times_then turns registers (block_of body.now) rest (env_of store.old) s
+        ≡ stmt_flow result registers (drop (depth + 1) frames.new)
+        (Repeat e (block_of body.now) rest) rest (env_of store.new) s }
+    ensures asks { (e : Expr) (rest : Block)
+        → StmtAsks result registers (drop (depth + 1) frames.new)
+        (Repeat e (block_of body.now) rest) (env_of store.new) }
 {
     let mut left = turns;
     while left > 0 {
@@ -250,8 +276,12 @@ pub fn run_block(
     requires small { registers ≤ MOST_REGISTERS }
     requires room { depth + open_blocks (block_of block.now) < length frames.old }
     requires fits { IsTrue (operands_fit registers (block_of block.now)) }
-    ensures flow { (s : Replies) → exec (block_of (drop start block.now)) registers (env_of store.old) s ≡ block_flow result registers (drop depth frames.new) (block_of block.now) (env_of store.new) s }
-    ensures asks { BlockAsks result registers (drop depth frames.new) (block_of block.now) (env_of store.new) }
+    ensures flow { (s : Replies)
+        → exec (block_of (drop start block.now)) registers (env_of store.old) s
+        ≡ block_flow result registers (drop depth frames.new) (block_of block.now)
+        (env_of store.new) s }
+    ensures asks { BlockAsks result registers (drop depth frames.new) (block_of block.now)
+        (env_of store.new) }
 {
     for at in start..block.len() {
         match run_stmt(&block[at], registers, depth, store, frames)? {

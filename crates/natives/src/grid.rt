@@ -1,8 +1,7 @@
 //! Grids of splitters: a process goes from the first vertex right and down until it stops at one or leaves the grid.
 
 ghost use Rattle.std.specs.Prelude.{◌≡◌, ◌+◌, ◌-◌, ◌*◌, ◌<◌, ◌≤◌, ◌↔◌, false, Err, IfOk, IsOk, IsTrue};
-ghost use Rattle.regmodel.specs.Act.{act_of};
-ghost use Rattle.regmodel.specs.Lawful.{IsLawful};
+ghost use Rattle.regmodel.specs.Lawful.{IsAtStart};
 ghost use Rattle.regmodel.specs.Reply.{Replies};
 ghost use Rattle.uses.specs.declared.kinds.Use.TheVariants as kind;
 ghost use Rattle.uses.specs.Expansions.{expansion};
@@ -57,9 +56,13 @@ impl Grid {
     /// The grid of a use line, at its start: BASE, SIDE, ID, and how many registers there are. Fault 1 where a limit of the
     /// line is passed, which [`Use::fits`] tells; no other fault comes. It takes no memory.
     pub fn make(base: u32, side: u32, id: u32, registers: u32) -> Result<Grid, MakeFault>
-        ensures same { IfOk result (λ m. ⟦<Grid as Machine>⟧.program m ≡ expansion (kind.Grid base side id) registers) }
-        ensures starts { IfOk result (λ m. (s : Replies) → IsLawful (act_of (expansion (kind.Grid base side id) registers)) s → ⟦<Grid as Machine>⟧.rest m s ≡ act_of (expansion (kind.Grid base side id) registers) s) }
-        ensures limits { (result ≡ Err (record { code = PAST_LIMIT })) ↔ (use_fits (kind.Grid base side id) registers ≡ false) }
+        ensures same { IfOk result
+            (λ m. ⟦<Grid as Machine>⟧.program m ≡ expansion (kind.Grid base side id) registers) }
+        ensures starts { IfOk result
+            (λ m. IsAtStart (expansion (kind.Grid base side id) registers)
+            (⟦<Grid as Machine>⟧.rest m)) }
+        ensures limits { (result ≡ Err (record { code = PAST_LIMIT }))
+            ↔ (use_fits (kind.Grid base side id) registers ≡ false) }
         ensures made { IsOk result ↔ IsTrue (use_fits (kind.Grid base side id) registers) }
     {
         if !Use::Grid(base, side, id).fits(registers) {
@@ -91,7 +94,10 @@ impl Grid {
         requires some { 1 ≤ vertex }
         requires named { vertex * 2 ≤ (self.old.level + 2) * (self.old.level + 3) }
         ensures same { ⟦<Grid as Machine>⟧.program self.new ≡ ⟦<Grid as Machine>⟧.program self.old }
-        ensures goes_on { (s : Replies) → ⟦<Grid as Machine>⟧.rest self.new s ≡ grid_from self.old.base self.old.id self.old.registers (self.old.side - (self.old.level + 1)) (self.old.level + 1) vertex s }
+        ensures goes_on { (s : Replies)
+            → ⟦<Grid as Machine>⟧.rest self.new s
+            ≡ grid_from self.old.base self.old.id self.old.registers
+            (self.old.side - (self.old.level + 1)) (self.old.level + 1) vertex s }
     {
         if self.level + 1 == self.side {
             self.stage = Stage::Over;

@@ -1,8 +1,7 @@
 //! Renamings: a process proposes a name in its slot until no other slot holds it.
 
 ghost use Rattle.std.specs.Prelude.{◌≡◌, ◌≢◌, ℕ, ◌+◌, ◌<◌, ◌≤◌, ◌↔◌, ◌∷◌, false, Err, IfOk, IsOk, IsTrue, length, slice_index};
-ghost use Rattle.regmodel.specs.Act.{act_of};
-ghost use Rattle.regmodel.specs.Lawful.{IsLawful};
+ghost use Rattle.regmodel.specs.Lawful.{IsAtStart};
 ghost use Rattle.regmodel.specs.Reply.{Replies};
 ghost use Rattle.uses.specs.declared.kinds.Use.TheVariants as kind;
 ghost use Rattle.uses.specs.Expansions.{expansion};
@@ -60,9 +59,14 @@ impl NameSlots {
     /// The renaming of a use line, at its start: BASE, SLOTS, SLOT, and how many registers there are. Fault 1 where a limit of
     /// the line is passed, which [`Use::fits`] tells; no other fault comes. It takes no memory.
     pub fn make(base: u32, slots: u32, slot: u32, registers: u32) -> Result<NameSlots, MakeFault>
-        ensures same { IfOk result (λ m. ⟦<NameSlots as Machine>⟧.program m ≡ expansion (kind.Name base slots slot) registers) }
-        ensures starts { IfOk result (λ m. (s : Replies) → IsLawful (act_of (expansion (kind.Name base slots slot) registers)) s → ⟦<NameSlots as Machine>⟧.rest m s ≡ act_of (expansion (kind.Name base slots slot) registers) s) }
-        ensures limits { (result ≡ Err (record { code = PAST_LIMIT })) ↔ (use_fits (kind.Name base slots slot) registers ≡ false) }
+        ensures same { IfOk result
+            (λ m. ⟦<NameSlots as Machine>⟧.program m
+            ≡ expansion (kind.Name base slots slot) registers) }
+        ensures starts { IfOk result
+            (λ m. IsAtStart (expansion (kind.Name base slots slot) registers)
+            (⟦<NameSlots as Machine>⟧.rest m)) }
+        ensures limits { (result ≡ Err (record { code = PAST_LIMIT }))
+            ↔ (use_fits (kind.Name base slots slot) registers ≡ false) }
         ensures made { IsOk result ↔ IsTrue (use_fits (kind.Name base slots slot) registers) }
     {
         if !Use::Name(base, slots, slot).fits(registers) {
@@ -85,8 +89,15 @@ impl NameSlots {
     /// Ends a round: the proposal stands, or there is a new one for the next round, where one is left.
     fn finish(&mut self, reading: Reading)
         requires { 1 ≤ reading.rank }
-        ensures same { ⟦<NameSlots as Machine>⟧.program self.new ≡ ⟦<NameSlots as Machine>⟧.program self.old }
-        ensures goes_on { (s : Replies) → ⟦<NameSlots as Machine>⟧.rest self.new s ≡ from_after self.old.slots self.old.registers (rounds_from self.old.base self.old.slots self.old.slot self.old.registers self.old.later) (at_slot self.old.proposal (bit reading.clash) reading.rank reading.at (cells_of self.old.seen)) s }
+        ensures same { ⟦<NameSlots as Machine>⟧.program self.new
+            ≡ ⟦<NameSlots as Machine>⟧.program self.old }
+        ensures goes_on { (s : Replies)
+            → ⟦<NameSlots as Machine>⟧.rest self.new s
+            ≡ from_after self.old.slots self.old.registers
+            (rounds_from self.old.base self.old.slots self.old.slot self.old.registers
+            self.old.later)
+            (at_slot self.old.proposal (bit reading.clash) reading.rank reading.at
+            (cells_of self.old.seen)) s }
     {
         if !reading.clash {
             self.stage = Stage::Named;
@@ -105,8 +116,12 @@ impl NameSlots {
         requires other { reading.at ≢ self.old.slot }
         requires some { 1 ≤ reading.rank }
         requires small { reading.rank ≤ reading.at + 1 }
-        ensures same { ⟦<NameSlots as Machine>⟧.program self.new ≡ ⟦<NameSlots as Machine>⟧.program self.old }
-        ensures goes_on { (s : Replies) → ⟦<NameSlots as Machine>⟧.rest self.new s ≡ from_reading self.old.base self.old.slots self.old.slot self.old.registers self.old.later self.old.proposal self.old.seen reading s }
+        ensures same { ⟦<NameSlots as Machine>⟧.program self.new
+            ≡ ⟦<NameSlots as Machine>⟧.program self.old }
+        ensures goes_on { (s : Replies)
+            → ⟦<NameSlots as Machine>⟧.rest self.new s
+            ≡ from_reading self.old.base self.old.slots self.old.slot self.old.registers
+            self.old.later self.old.proposal self.old.seen reading s }
     {
         if reading.at < self.slots {
             self.stage = Stage::Reads(reading);
@@ -120,8 +135,12 @@ impl NameSlots {
         requires inside { reading.at ≤ self.old.slots }
         requires some { 1 ≤ reading.rank }
         requires small { reading.rank ≤ reading.at + 1 }
-        ensures same { ⟦<NameSlots as Machine>⟧.program self.new ≡ ⟦<NameSlots as Machine>⟧.program self.old }
-        ensures goes_on { (s : Replies) → ⟦<NameSlots as Machine>⟧.rest self.new s ≡ from_reading self.old.base self.old.slots self.old.slot self.old.registers self.old.later self.old.proposal self.old.seen reading s }
+        ensures same { ⟦<NameSlots as Machine>⟧.program self.new
+            ≡ ⟦<NameSlots as Machine>⟧.program self.old }
+        ensures goes_on { (s : Replies)
+            → ⟦<NameSlots as Machine>⟧.rest self.new s
+            ≡ from_reading self.old.base self.old.slots self.old.slot self.old.registers
+            self.old.later self.old.proposal self.old.seen reading s }
     {
         if reading.at == self.slot {
             self.read(Reading {
@@ -136,8 +155,12 @@ impl NameSlots {
     /// Takes what a slot holds, and goes on to the next one.
     fn take(&mut self, reading: Reading, reply: &[u32])
         requires read { IsRead self.old.slots self.old.slot reading }
-        ensures same { ⟦<NameSlots as Machine>⟧.program self.new ≡ ⟦<NameSlots as Machine>⟧.program self.old }
-        ensures goes_on { (s : Replies) → ⟦<NameSlots as Machine>⟧.rest self.new s ≡ from_reading self.old.base self.old.slots self.old.slot self.old.registers self.old.later self.old.proposal self.old.seen reading (reply.now ∷ s) }
+        ensures same { ⟦<NameSlots as Machine>⟧.program self.new
+            ≡ ⟦<NameSlots as Machine>⟧.program self.old }
+        ensures goes_on { (s : Replies)
+            → ⟦<NameSlots as Machine>⟧.rest self.new s
+            ≡ from_reading self.old.base self.old.slots self.old.slot self.old.registers
+            self.old.later self.old.proposal self.old.seen reading (reply.now ∷ s) }
     {
         let held = value_of(reply);
         self.seen[usize::from(reading.at)] = held;

@@ -1,8 +1,7 @@
 //! Renamings that scan: a process proposes a name in its slot until no other slot holds it, where it sees all slots at once.
 
 ghost use Rattle.std.specs.Prelude.{◌≡◌, ℕ, suc, ◌+◌, ◌<◌, ◌≤◌, ◌↔◌, ◌∷◌, false, Err, IfOk, IsOk, IsTrue, length};
-ghost use Rattle.regmodel.specs.Act.{act_of};
-ghost use Rattle.regmodel.specs.Lawful.{IsLawful};
+ghost use Rattle.regmodel.specs.Lawful.{IsAtStart};
 ghost use Rattle.regmodel.specs.Reply.{Replies, one};
 ghost use Rattle.uses.specs.declared.kinds.Use.TheVariants as kind;
 ghost use Rattle.uses.specs.Expansions.{expansion};
@@ -58,10 +57,9 @@ impl Names {
     pub fn make(base: u32, slots: u32, slot: u32, registers: u32) -> Result<Names, MakeFault>
         ensures same { IfOk result (λ m.
             ⟦<Names as Machine>⟧.program m ≡ expansion (kind.Names base slots slot) registers) }
-        ensures starts { IfOk result (λ m. (s : Replies)
-            → IsLawful (act_of (expansion (kind.Names base slots slot) registers)) s
-            → ⟦<Names as Machine>⟧.rest m s
-            ≡ act_of (expansion (kind.Names base slots slot) registers) s) }
+        ensures starts { IfOk result
+            (λ m. IsAtStart (expansion (kind.Names base slots slot) registers)
+            (⟦<Names as Machine>⟧.rest m)) }
         ensures limits { (result ≡ Err (record { code = PAST_LIMIT }))
             ↔ (use_fits (kind.Names base slots slot) registers ≡ false) }
         ensures made { IsOk result ↔ IsTrue (use_fits (kind.Names base slots slot) registers) }
@@ -86,7 +84,8 @@ impl Names {
     /// Ends a round: the proposal stands, or there is a new one for the next round, where one is left.
     fn finish(&mut self, reading: Reading)
         requires { 1 ≤ reading.rank }
-        ensures same { ⟦<Names as Machine>⟧.program self.new ≡ ⟦<Names as Machine>⟧.program self.old }
+        ensures same { ⟦<Names as Machine>⟧.program self.new
+            ≡ ⟦<Names as Machine>⟧.program self.old }
         ensures goes_on { (s : Replies) → ⟦<Names as Machine>⟧.rest self.new s
             ≡ from_after self.old.slots self.old.registers
             (scan_rounds self.old.base self.old.slots self.old.slot self.old.registers
@@ -109,7 +108,8 @@ impl Names {
     /// Takes what a scan gave, of which the own slot counts as empty, and ends the round.
     fn take(&mut self, reply: &[u32])
         requires { length reply.now ≡ self.old.slots }
-        ensures same { ⟦<Names as Machine>⟧.program self.new ≡ ⟦<Names as Machine>⟧.program self.old }
+        ensures same { ⟦<Names as Machine>⟧.program self.new
+            ≡ ⟦<Names as Machine>⟧.program self.old }
         ensures goes_on { (s : Replies) → ⟦<Names as Machine>⟧.rest self.new s
             ≡ from_scan_round self.old.base self.old.slots self.old.slot self.old.registers
             (suc self.old.later) self.old.proposal (cells_of self.old.seen)

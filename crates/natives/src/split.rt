@@ -1,9 +1,7 @@
 //! Splitters: a process leaves its number, tries a door and closes it, and stops, goes right or goes down by what it read.
 
 ghost use Rattle.std.specs.Prelude.{◌≡◌, ◌+◌, ◌≤◌, ◌↔◌, false, Err, IfOk, IsOk, IsTrue};
-ghost use Rattle.regmodel.specs.Act.{act_of};
-ghost use Rattle.regmodel.specs.Lawful.{IsLawful};
-ghost use Rattle.regmodel.specs.Reply.{Replies};
+ghost use Rattle.regmodel.specs.Lawful.{IsAtStart};
 ghost use Rattle.uses.specs.declared.kinds.Use.TheVariants as kind;
 ghost use Rattle.uses.specs.Expansions.{expansion};
 ghost use Rattle.uses.specs.Uses.{use_fits};
@@ -52,9 +50,13 @@ impl Split {
     /// The splitter of a use line, at its start: BASE, ID, and how many registers there are. Fault 1 where a limit of the
     /// line is passed, which [`Use::fits`] tells; no other fault comes. It takes no memory.
     pub fn make(base: u32, id: u32, registers: u32) -> Result<Split, MakeFault>
-        ensures same { IfOk result (λ m. ⟦<Split as Machine>⟧.program m ≡ expansion (kind.Split base id) registers) }
-        ensures starts { IfOk result (λ m. (s : Replies) → IsLawful (act_of (expansion (kind.Split base id) registers)) s → ⟦<Split as Machine>⟧.rest m s ≡ act_of (expansion (kind.Split base id) registers) s) }
-        ensures limits { (result ≡ Err (record { code = PAST_LIMIT })) ↔ (use_fits (kind.Split base id) registers ≡ false) }
+        ensures same { IfOk result
+            (λ m. ⟦<Split as Machine>⟧.program m ≡ expansion (kind.Split base id) registers) }
+        ensures starts { IfOk result
+            (λ m. IsAtStart (expansion (kind.Split base id) registers)
+            (⟦<Split as Machine>⟧.rest m)) }
+        ensures limits { (result ≡ Err (record { code = PAST_LIMIT }))
+            ↔ (use_fits (kind.Split base id) registers ≡ false) }
         ensures made { IsOk result ↔ IsTrue (use_fits (kind.Split base id) registers) }
     {
         if !Use::Split(base, id).fits(registers) {

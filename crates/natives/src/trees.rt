@@ -2,8 +2,7 @@
 //! collects the values of the vertices whose marks it reads.
 
 ghost use Rattle.std.specs.Prelude.{◌≡◌, ◌≢◌, ℕ, suc, ◌+◌, ◌-◌, ◌*◌, ◌^◌, ◌<◌, ◌≤◌, ◌↔◌, [], ◌∷◌, true, false, Err, IfOk, IfSome, IsOk, IsTrue, length, replicate, slice_set};
-ghost use Rattle.regmodel.specs.Act.{act_of};
-ghost use Rattle.regmodel.specs.Lawful.{IsLawful};
+ghost use Rattle.regmodel.specs.Lawful.{IsAtStart};
 ghost use Rattle.regmodel.specs.Reply.{Replies, one};
 ghost use Rattle.uses.specs.declared.kinds.Use.TheVariants as kind;
 ghost use Rattle.uses.specs.Expansions.{expansion};
@@ -93,9 +92,14 @@ impl Tree {
         value: u32,
         registers: u32,
     ) -> Result<Tree, MakeFault>
-        ensures same { IfOk result (λ m. ⟦<Tree as Machine>⟧.program m ≡ expansion (kind.Tree base depth id value) registers) }
-        ensures starts { IfOk result (λ m. (s : Replies) → IsLawful (act_of (expansion (kind.Tree base depth id value) registers)) s → ⟦<Tree as Machine>⟧.rest m s ≡ act_of (expansion (kind.Tree base depth id value) registers) s) }
-        ensures limits { (result ≡ Err (record { code = PAST_LIMIT })) ↔ (use_fits (kind.Tree base depth id value) registers ≡ false) }
+        ensures same { IfOk result
+            (λ m. ⟦<Tree as Machine>⟧.program m
+            ≡ expansion (kind.Tree base depth id value) registers) }
+        ensures starts { IfOk result
+            (λ m. IsAtStart (expansion (kind.Tree base depth id value) registers)
+            (⟦<Tree as Machine>⟧.rest m)) }
+        ensures limits { (result ≡ Err (record { code = PAST_LIMIT }))
+            ↔ (use_fits (kind.Tree base depth id value) registers ≡ false) }
         ensures made { IsOk result ↔ IsTrue (use_fits (kind.Tree base depth id value) registers) }
     {
         if !Use::Tree(base, depth, id, value).fits(registers) {
@@ -133,7 +137,10 @@ impl Tree {
         requires some { 1 ≤ vertex }
         requires below { vertex ≤ self.old.vertex * 2 + 1 }
         ensures same { ⟦<Tree as Machine>⟧.program self.new ≡ ⟦<Tree as Machine>⟧.program self.old }
-        ensures goes_on { (s : Replies) → ⟦<Tree as Machine>⟧.rest self.new s ≡ from_vertex self.old.base self.old.registers self.old.depth self.old.id self.old.value self.old.levels vertex s }
+        ensures goes_on { (s : Replies)
+            → ⟦<Tree as Machine>⟧.rest self.new s
+            ≡ from_vertex self.old.base self.old.registers self.old.depth self.old.id
+            self.old.value self.old.levels vertex s }
     {
         if self.levels == 0 {
             self.stage = Stage::Over;
@@ -147,7 +154,10 @@ impl Tree {
     /// Begins the collect, at the root.
     fn collect(&mut self)
         ensures same { ⟦<Tree as Machine>⟧.program self.new ≡ ⟦<Tree as Machine>⟧.program self.old }
-        ensures goes_on { (s : Replies) → ⟦<Tree as Machine>⟧.rest self.new s ≡ from_past self.old.base self.old.registers self.old.last 0 (slice_set (replicate 32 false) 1 true) [] s }
+        ensures goes_on { (s : Replies)
+            → ⟦<Tree as Machine>⟧.rest self.new s
+            ≡ from_past self.old.base self.old.registers self.old.last 0
+            (slice_set (replicate 32 false) 1 true) [] s }
     {
         self.reached = [false; 32];
         self.reached[1] = true;
@@ -159,7 +169,11 @@ impl Tree {
     fn next_reached(&self, vertex: u8) -> Option<u8>
         requires { vertex ≤ self.now.last }
         ensures there { IfSome result (IsIn self.now.last) }
-        ensures goes_on { (s : Replies) → from_next self.now.base self.now.registers self.now.last self.now.reached self.now.numbers.items result s ≡ from_past self.now.base self.now.registers (self.now.last - vertex) vertex self.now.reached self.now.numbers.items s }
+        ensures goes_on { (s : Replies)
+            → from_next self.now.base self.now.registers self.now.last self.now.reached
+            self.now.numbers.items result s
+            ≡ from_past self.now.base self.now.registers (self.now.last - vertex) vertex
+            self.now.reached self.now.numbers.items s }
     {
         for before in vertex..self.last {
             let next = before + 1;
@@ -174,7 +188,10 @@ impl Tree {
     fn go_past(&mut self, vertex: u8)
         requires { vertex ≤ self.old.last }
         ensures same { ⟦<Tree as Machine>⟧.program self.new ≡ ⟦<Tree as Machine>⟧.program self.old }
-        ensures goes_on { (s : Replies) → ⟦<Tree as Machine>⟧.rest self.new s ≡ from_past self.old.base self.old.registers (self.old.last - vertex) vertex self.old.reached self.old.numbers.items s }
+        ensures goes_on { (s : Replies)
+            → ⟦<Tree as Machine>⟧.rest self.new s
+            ≡ from_past self.old.base self.old.registers (self.old.last - vertex) vertex
+            self.old.reached self.old.numbers.items s }
     {
         match self.next_reached(vertex) {
             Some(next) => self.stage = Stage::Sees(next),
@@ -186,7 +203,10 @@ impl Tree {
     fn reach(&mut self, vertex: u8)
         requires { IsIn self.old.last vertex }
         ensures same { ⟦<Tree as Machine>⟧.program self.new ≡ ⟦<Tree as Machine>⟧.program self.old }
-        ensures goes_on { (s : Replies) → ⟦<Tree as Machine>⟧.rest self.new s ≡ from_past self.old.base self.old.registers (self.old.last - vertex) vertex (below_reached vertex self.old.reached) self.old.numbers.items s }
+        ensures goes_on { (s : Replies)
+            → ⟦<Tree as Machine>⟧.rest self.new s
+            ≡ from_past self.old.base self.old.registers (self.old.last - vertex) vertex
+            (below_reached vertex self.old.reached) self.old.numbers.items s }
     {
         self.reached[usize::from(vertex * 2)] = true;
         self.reached[usize::from(vertex * 2 + 1)] = true;
@@ -197,7 +217,10 @@ impl Tree {
     fn take(&mut self, vertex: u8, reply: &[u32])
         requires { IsIn self.old.last vertex }
         ensures same { ⟦<Tree as Machine>⟧.program self.new ≡ ⟦<Tree as Machine>⟧.program self.old }
-        ensures goes_on { (s : Replies) → ⟦<Tree as Machine>⟧.rest self.new s ≡ from_at self.old.base self.old.registers self.old.last self.old.reached self.old.numbers.items vertex (one 1 ∷ reply.now ∷ s) }
+        ensures goes_on { (s : Replies)
+            → ⟦<Tree as Machine>⟧.rest self.new s
+            ≡ from_at self.old.base self.old.registers self.old.last self.old.reached
+            self.old.numbers.items vertex (one 1 ∷ reply.now ∷ s) }
     {
         let value = value_of(reply);
         if value == 0 {

@@ -62,7 +62,10 @@ pub fn scan_fits(registers: u32, cell: u32, first: u32, count: u32) -> bool
 /// Whether `if` and `repeat` are nested at most so deep in a block, and `repeat` alone at most so deep.
 #[cycle(nests)]
 pub fn nests_within(block: &[Stmt], blocks: u32, repeats: u32) -> bool
-    ensures { IsTrue result ↔ ((spec.open_blocks (block_of block.now) ≤ blocks) × (spec.open_repeats (block_of block.now) ≤ repeats)) }
+    ensures { IsTrue result
+        ↔
+        ((spec.open_blocks (block_of block.now) ≤ blocks)
+        × (spec.open_repeats (block_of block.now) ≤ repeats)) }
 {
     for stmt in block {
         if !stmt_nests_within(stmt, blocks, repeats) {
@@ -75,7 +78,10 @@ pub fn nests_within(block: &[Stmt], blocks: u32, repeats: u32) -> bool
 /// The same of one statement.
 #[cycle(nests)]
 fn stmt_nests_within(stmt: &Stmt, blocks: u32, repeats: u32) -> bool
-    ensures { IsTrue result ↔ ((spec.open_blocks (with_stmt stmt.now Stop) ≤ blocks) × (spec.open_repeats (with_stmt stmt.now Stop) ≤ repeats)) }
+    ensures { IsTrue result
+        ↔
+        ((spec.open_blocks (with_stmt stmt.now Stop) ≤ blocks)
+        × (spec.open_repeats (with_stmt stmt.now Stop) ≤ repeats)) }
 {
     match stmt {
         Stmt::If(_, first, second) => {
@@ -105,7 +111,8 @@ fn stmt_nests_within(stmt: &Stmt, blocks: u32, repeats: u32) -> bool
 /// What is left of a number after the statements of a block are taken from it, those of inner blocks counted. None where they are more.
 #[cycle(counts)]
 pub fn room_after(block: &[Stmt], room: u32) -> Option<u32>
-    ensures { MatchOption result (room < spec.statements (block_of block.now)) (λ left. left + spec.statements (block_of block.now) ≡ room) }
+    ensures { MatchOption result (room < spec.statements (block_of block.now))
+        (λ left. left + spec.statements (block_of block.now) ≡ room) }
 {
     let mut left = room;
     for stmt in block {
@@ -120,7 +127,8 @@ pub fn room_after(block: &[Stmt], room: u32) -> Option<u32>
 /// The same of one statement.
 #[cycle(counts)]
 fn room_after_stmt(stmt: &Stmt, room: u32) -> Option<u32>
-    ensures { MatchOption result (room < spec.statements (with_stmt stmt.now Stop)) (λ left. left + spec.statements (with_stmt stmt.now Stop) ≡ room) }
+    ensures { MatchOption result (room < spec.statements (with_stmt stmt.now Stop))
+        (λ left. left + spec.statements (with_stmt stmt.now Stop) ≡ room) }
 {
     if room == 0 {
         return None;

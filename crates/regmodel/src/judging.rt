@@ -101,7 +101,9 @@ fn see_themselves(p: usize, ends: &[ProcEnd]) -> bool
 /// Whether each name m is at least 1, and m + 1 at most twice the number of processes that took a step.
 fn are_adaptive(ends: &[ProcEnd]) -> bool
     requires { length ends.now ≤ MOST_PROCESSES }
-    ensures { result ≡ list_all (λ m. nat_le 1 m && nat_le (m + 1) (2 * count_started ends.now)) (names ends.now) }
+    ensures { result
+        ≡ list_all (λ m. nat_le 1 m && nat_le (m + 1) (2 * count_started ends.now))
+        (names ends.now) }
 {
     let most = 2 * count_started(ends) as u64;
     ends.iter()
@@ -112,7 +114,11 @@ fn are_adaptive(ends: &[ProcEnd]) -> bool
 /// Whether each name m is at least 1, and 2m at most k(k + 1), where k processes took a step.
 fn are_in_triangle(ends: &[ProcEnd]) -> bool
     requires { length ends.now ≤ MOST_PROCESSES }
-    ensures { result ≡ list_all (λ m. nat_le 1 m && nat_le (2 * m) (count_started ends.now * (count_started ends.now + 1))) (names ends.now) }
+    ensures { result
+        ≡ list_all
+        (λ m. nat_le 1 m
+        && nat_le (2 * m) (count_started ends.now * (count_started ends.now + 1)))
+        (names ends.now) }
 {
     let k = count_started(ends) as u64;
     let most = k * (k + 1);

@@ -1,7 +1,7 @@
 //! How far an exploration goes.
 
 ghost use Rattle.std.specs.Prelude.{◌≡◌, ◌↔◌, IsOk, IfOk, IfErr};
-ghost use Rattle.regmodel.specs.Settings.{AreSettingsWithin, setting_fault};
+ghost use Rattle.regmodel.specs.Settings.{AreSettingsWithin, bounds_of, setting_fault};
 
 use crate::limits::{GREATEST_CUT, GREATEST_ROOM, MOST_CRASHES, MOST_LETTERS, MOST_WORKERS};
 use std::marker::Model;
@@ -61,9 +61,10 @@ impl Settings {
         cut: u32,
         room: u32,
     ) -> Result<Settings, SettingFault>
-        ensures value { IfOk result (λ s. s ≡ record { length = length; crashes = crashes; workers = workers; cut = cut; room = room }) }
-        ensures fits { IsOk result ↔ AreSettingsWithin (record { length = length; crashes = crashes; workers = workers; cut = cut; room = room }) }
-        ensures lowest { IfErr result (λ e. e.code ≡ setting_fault (record { length = length; crashes = crashes; workers = workers; cut = cut; room = room })) }
+        ensures value { IfOk result (λ s. s ≡ bounds_of length crashes workers cut room) }
+        ensures fits { IsOk result ↔ AreSettingsWithin (bounds_of length crashes workers cut room) }
+        ensures lowest { IfErr result
+            (λ e. e.code ≡ setting_fault (bounds_of length crashes workers cut room)) }
     {
         if length > MOST_LETTERS {
             return Err(SettingFault {

@@ -42,7 +42,8 @@ pub struct ExpandFault {
 /// fault 2 only where a request for memory was refused.
 pub fn expand(alloc: Global, kind: &Use, registers: u32) -> Result<Prog, ExpandFault>
     ensures program { IfOk result (λ prog. program_of prog ≡ expansion kind.now registers) }
-    ensures limits { (result ≡ Err (record { code = PAST_LIMIT })) ↔ (use_fits kind.now registers ≡ false) }
+    ensures limits { (result ≡ Err (record { code = PAST_LIMIT }))
+        ↔ (use_fits kind.now registers ≡ false) }
     ensures code { IfErr result (λ fault. (fault.code ≡ PAST_LIMIT) ⊎ (fault.code ≡ NO_MEMORY)) }
 {
     if !kind.fits(registers) {
