@@ -6,10 +6,11 @@ ghost use Rattle.reglang.specs.Lines.{words};
 ghost use Rattle.reglang.specs.Words.{word_of};
 ghost use Rattle.reglang.specs.Forms as spec;
 
-use crate::clauses::clause_of;
+use crate::arguments::{clause_with, line_with, use_with};
 use crate::lines::{is_printable, split_word};
-use crate::operands::{alone, expr_of, kind_of, number_in, operand_of, target_of, use_of};
+use crate::operands::{arguments, kind_of, property_of};
 use crate::refusals::{NO_FORM, NO_NUMBER, NOT_PRINTABLE, UNKNOWN_WORD};
+use crate::sorts::{kind_sorts, property_sorts, sorts_after};
 use crate::words::{Keyword, Word, word_of};
 use arrayvec::ArrayVec;
 use regmodel::{Clause, Expr, Operand, Target};
@@ -122,49 +123,33 @@ fn later_words(line: &[u8]) -> LaterWords
     later
 }
 
+/// What follows `use`: a kind and its arguments.
+fn use_form(words: &[Word]) -> Option<Line>
+    ensures { result ≡ spec.use_form words.now }
+{
+    let (word, words) = words.split_first()?;
+    let kind = kind_of(*word)?;
+    let list = arguments(kind_sorts(kind), words)?;
+    Some(Line::Use(use_with(kind, list.as_slice())?))
+}
+
+/// What follows `check`: a property and its arguments. None for any other words.
+fn clause_of(words: &[Word]) -> Option<Clause>
+    ensures { result ≡ spec.clause_of words.now }
+{
+    let (word, words) = words.split_first()?;
+    let property = property_of(*word)?;
+    let list = arguments(property_sorts(property), words)?;
+    clause_with(property, list.as_slice())
+}
+
 /// The line that a first word and those after it make.
 fn form_of(key: Keyword, more: &[Word]) -> Option<Line>
     ensures { result ≡ spec.form_of key more.now }
 {
     match key {
-        Keyword::Registers => {
-            let [n] = more else { return None };
-            Some(Line::Registers(number_in(*n)?))
-        }
-        Keyword::Process => alone(Line::Process, more),
-        Keyword::End => alone(Line::End, more),
-        Keyword::Set => {
-            let [to, value @ ..] = more else { return None };
-            Some(Line::Set(target_of(*to)?, expr_of(value)?))
-        }
-        Keyword::Read => {
-            let [to, from] = more else { return None };
-            Some(Line::Read(target_of(*to)?, operand_of(*from)?))
-        }
-        Keyword::Write => {
-            let [to, value @ ..] = more else { return None };
-            Some(Line::Write(operand_of(*to)?, expr_of(value)?))
-        }
-        Keyword::Scan => {
-            let [cell, first, count] = more else {
-                return None
-            };
-            Some(Line::Scan(number_in(*cell)?, number_in(*first)?, number_in(*count)?))
-        }
-        Keyword::If => Some(Line::If(expr_of(more)?)),
-        Keyword::Else => alone(Line::Else, more),
-        Keyword::Fi => alone(Line::Fi, more),
-        Keyword::Repeat => Some(Line::Repeat(expr_of(more)?)),
-        Keyword::Done => alone(Line::Done, more),
-        Keyword::Emit => Some(Line::Emit(expr_of(more)?)),
-        Keyword::Halt => alone(Line::Halt, more),
-        Keyword::Use => {
-            let [kind, numbers @ ..] = more else {
-                return None
-            };
-            Some(Line::Use(use_of(kind_of(*kind)?, numbers)?))
-        }
-        Keyword::Check => None,
+        Keyword::Use => use_form(more),
+        _ => line_with(key, arguments(sorts_after(key), more)?.as_slice()),
     }
 }
 
