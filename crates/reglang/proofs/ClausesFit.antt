@@ -98,13 +98,10 @@ IsClauseFit None = Unit {0}
 property_fits : (p : Property) (list : List Argument) → are_of (property_sorts p) list ≡ true → IsClauseFit (clause_with p list)
 property_fits property.AtMost (argument.Number name ∷ argument.Number count ∷ []) h = h
 property_fits property.Within (argument.Number low ∷ argument.Number high ∷ []) h = h
-property_fits property.Distinct [] h = h
-property_fits property.Adaptive [] h = h
-property_fits property.Triangle [] h = h
-property_fits property.SelfSeen [] h = h
-property_fits property.Ended [] h = h
-property_fits property.NoFault [] h = h
-property_fits _ _ h = tt
+property_fits property.AtMost _ h = tt
+property_fits property.Within _ h = tt
+property_fits _ [] h = h
+property_fits _ (a ∷ more) h = tt
 
 of_arguments : (p : Property) (list : Option (List Argument)) → AreOf (property_sorts p) list → IsClauseFit (option_and_then (clause_with p) list)
 of_arguments p (Some list) h = property_fits p list h
@@ -135,15 +132,10 @@ plain keyword.Set (argument.Target to ∷ argument.Expression value ∷ []) = tt
 plain keyword.Read (argument.Target to ∷ argument.Operand from ∷ []) = tt
 plain keyword.Write (argument.Operand to ∷ argument.Expression value ∷ []) = tt
 plain keyword.Scan (argument.Number cell ∷ argument.Number first ∷ argument.Number count ∷ []) = tt
-plain keyword.If (argument.Expression value ∷ []) = tt
-plain keyword.Repeat (argument.Expression value ∷ []) = tt
+plain keyword.If (argument.Expression test ∷ []) = tt
+plain keyword.Repeat (argument.Expression count ∷ []) = tt
 plain keyword.Emit (argument.Expression value ∷ []) = tt
-plain keyword.Process [] = tt
-plain keyword.End [] = tt
-plain keyword.Else [] = tt
-plain keyword.Fi [] = tt
-plain keyword.Done [] = tt
-plain keyword.Halt [] = tt
+plain _ [] = tt
 plain _ _ = tt
 
 made_fits : (key : Keyword) (list : Option (List Argument)) → IsFormFit (option_and_then (line_with key) list)
