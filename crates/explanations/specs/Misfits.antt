@@ -45,26 +45,30 @@ first_misfit places [] = None
 first_misfit [] (word ∷ more) = Some word
 first_misfit (is_placed ∷ places) (word ∷ more) = if is_placed (word_of word) then first_misfit places more else Some word
 
--- the first word that has no place after a kind or a property, where the first of all is one; else that first one
-abbrev pub misfit_of_row : List ℕ → Option (List Sort) → List (List ℕ) → Option (List ℕ)
-misfit_of_row word (Some sorts) more = first_misfit (places sorts) more
-misfit_of_row word None more = Some word
+-- the first word that has no place where words of these sorts are wanted
+abbrev pub misfit_of : List Sort → List (List ℕ) → Option (List ℕ)
+misfit_of sorts words = first_misfit (places sorts) words
+
+-- the same after a word that these sorts follow; that word itself where nothing does
+abbrev pub misfit_with : List ℕ → Option (List Sort) → List (List ℕ) → Option (List ℕ)
+misfit_with word (Some sorts) more = misfit_of sorts more
+misfit_with word None more = Some word
 
 -- the first word that has no place after `use`
 abbrev pub use_misfit : List (List ℕ) → Option (List ℕ)
 use_misfit [] = None
-use_misfit (word ∷ more) = misfit_of_row word (option_map kind_sorts (kind_of (word_of word))) more
+use_misfit (word ∷ more) = misfit_with word (option_map kind_sorts (kind_of (word_of word))) more
 
 -- the first word that has no place after `check`
 abbrev pub check_misfit : List (List ℕ) → Option (List ℕ)
 check_misfit [] = None
-check_misfit (word ∷ more) = misfit_of_row word (option_map property_sorts (property_of (word_of word))) more
+check_misfit (word ∷ more) = misfit_with word (option_map property_sorts (property_of (word_of word))) more
 
 -- the first word that has no place after a first word of lines
 abbrev pub misfit_after : Word → List (List ℕ) → Option (List ℕ)
 misfit_after (word.Keyword keyword.Use) more = use_misfit more
 misfit_after (word.Keyword keyword.Check) more = check_misfit more
-misfit_after (word.Keyword key) more = first_misfit (places (sorts_after key)) more
+misfit_after (word.Keyword key) more = misfit_of (sorts_after key) more
 misfit_after _ more = None
 
 -- the word at fault, by the code: the first unknown one, the first that is no number although it begins with a digit, or the first that has

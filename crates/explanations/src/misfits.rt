@@ -1,11 +1,10 @@
 //! The word of a refused line that is at fault.
 
-ghost use Rattle.std.specs.Prelude.{◌≡◌, [], ◌∷◌, MatchOption, None, Some, not};
+ghost use Rattle.std.specs.Prelude.{◌≡◌, [], ◌∷◌, not, option_copied};
 ghost use Rattle.reglang.specs.Forms.{is_known, is_no_number};
 ghost use Rattle.reglang.specs.Lines.{words};
 ghost use Rattle.reglang.specs.declared.sorts.Sort.TheVariants as sort;
 ghost use Rattle.explanations.specs.Misfits as spec;
-ghost use Rattle.explanations.specs.Misfits.{places};
 
 use reglang::{
     Keyword, NO_CLAUSE, NO_FORM, NO_NUMBER, Sort, UNKNOWN_WORD, Word, argument_of, is_known,
@@ -17,7 +16,7 @@ use reglang::{
 /// that begins with a digit and is no number word, for codes 4 and 8 the first that has no place in a line with its first word. None for
 /// another code, and where the line wants another word at its end.
 pub fn word_at_fault(line: &[u8], code: u8) -> Option<&[u8]>
-    ensures { MatchOption result (spec.word_at_fault code line.now ≡ None) (λ word. spec.word_at_fault code line.now ≡ Some word.now) }
+    ensures { option_copied result ≡ spec.word_at_fault code line.now }
 {
     let (first, rest) = split_word(line)?;
     if code == UNKNOWN_WORD {
@@ -37,7 +36,7 @@ pub fn word_at_fault(line: &[u8], code: u8) -> Option<&[u8]>
 
 /// The first word that may not stand after a first word.
 fn first_unknown(line: &[u8]) -> Option<&[u8]>
-    ensures { MatchOption result (spec.first_that (λ word. not (is_known word)) (words line.now) ≡ None) (λ word. spec.first_that (λ word. not (is_known word)) (words line.now) ≡ Some word.now) }
+    ensures { option_copied result ≡ spec.first_that (λ word. not (is_known word)) (words line.now) }
 {
     let mut rest = line;
     while let Some((word, after)) = split_word(rest) {
@@ -51,7 +50,7 @@ fn first_unknown(line: &[u8]) -> Option<&[u8]>
 
 /// The first word that begins with a digit and is no number word.
 fn first_no_number(line: &[u8]) -> Option<&[u8]>
-    ensures { MatchOption result (spec.first_that is_no_number (words line.now) ≡ None) (λ word. spec.first_that is_no_number (words line.now) ≡ Some word.now) }
+    ensures { option_copied result ≡ spec.first_that is_no_number (words line.now) }
 {
     let mut rest = line;
     while let Some((word, after)) = split_word(rest) {
@@ -65,7 +64,7 @@ fn first_no_number(line: &[u8]) -> Option<&[u8]>
 
 /// The first word after a first one that has no place there.
 fn misfit_after(first: Word, rest: &[u8]) -> Option<&[u8]>
-    ensures { MatchOption result (spec.misfit_after first (words rest.now) ≡ None) (λ word. spec.misfit_after first (words rest.now) ≡ Some word.now) }
+    ensures { option_copied result ≡ spec.misfit_after first (words rest.now) }
 {
     match first {
         Word::Keyword(Keyword::Use) => use_misfit(rest),
@@ -77,7 +76,7 @@ fn misfit_after(first: Word, rest: &[u8]) -> Option<&[u8]>
 
 /// The first word after `use` that has no place there.
 fn use_misfit(line: &[u8]) -> Option<&[u8]>
-    ensures { MatchOption result (spec.use_misfit (words line.now) ≡ None) (λ word. spec.use_misfit (words line.now) ≡ Some word.now) }
+    ensures { option_copied result ≡ spec.use_misfit (words line.now) }
 {
     let (word, rest) = split_word(line)?;
     match kind_of(word_of(word)) {
@@ -88,7 +87,7 @@ fn use_misfit(line: &[u8]) -> Option<&[u8]>
 
 /// The first word after `check` that has no place there.
 fn check_misfit(line: &[u8]) -> Option<&[u8]>
-    ensures { MatchOption result (spec.check_misfit (words line.now) ≡ None) (λ word. spec.check_misfit (words line.now) ≡ Some word.now) }
+    ensures { option_copied result ≡ spec.check_misfit (words line.now) }
 {
     let (word, rest) = split_word(line)?;
     match property_of(word_of(word)) {
@@ -99,7 +98,7 @@ fn check_misfit(line: &[u8]) -> Option<&[u8]>
 
 /// The first word that is not of the sort of its place, or has no place.
 fn first_misfit<'a>(sorts: &[Sort], line: &'a [u8]) -> Option<&'a [u8]>
-    ensures { MatchOption result (spec.first_misfit (places sorts.now) (words line.now) ≡ None) (λ word. spec.first_misfit (places sorts.now) (words line.now) ≡ Some word.now) }
+    ensures { option_copied result ≡ spec.misfit_of sorts.now (words line.now) }
 {
     let mut sorts = sorts;
     let mut rest = line;
@@ -121,7 +120,7 @@ fn first_misfit<'a>(sorts: &[Sort], line: &'a [u8]) -> Option<&'a [u8]>
 
 /// The first word that has no place in an expression: in its longest form an operand, an operator and an operand.
 fn expression_misfit(line: &[u8]) -> Option<&[u8]>
-    ensures { MatchOption result (spec.first_misfit (places (sort.Expression ∷ [])) (words line.now) ≡ None) (λ word. spec.first_misfit (places (sort.Expression ∷ [])) (words line.now) ≡ Some word.now) }
+    ensures { option_copied result ≡ spec.misfit_of (sort.Expression ∷ []) (words line.now) }
 {
     let (first, rest) = split_word(line)?;
     if operand_of(word_of(first)).is_none() {
