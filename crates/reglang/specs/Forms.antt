@@ -1,5 +1,5 @@
 -- What a line says, or the code of its fault.
-use Rattle.std.specs.Prelude.{ℕ, Bool, true, false, not, if◌then◌else◌, List, [], ◌∷◌, map, Option, Some, None, option_and_then, option_map, Result, Ok, Err, nat_le}
+use Rattle.std.specs.Prelude.{◌≡◌, ℕ, Bool, true, false, not, if◌then◌else◌, List, [], ◌∷◌, ◌++◌, map, take, Option, Some, None, option_and_then, option_map, Result, Ok, Err, nat_le}
 use Rattle.std.specs.List.{list_all, list_any}
 use Rattle.reglang.specs.declared.refusals.TheConstants.{NO_FORM, NO_NUMBER, NOT_PRINTABLE, UNKNOWN_WORD}
 use Rattle.regmodel.specs.declared.programs.Target.{Target}
@@ -158,3 +158,13 @@ line_of _ = Err UNKNOWN_WORD
 -- what a line says, or the code of its fault: a byte that is not in 32 to 126, or one of its words
 abbrev pub read_line : List ℕ → Result (Option Line) ℕ
 read_line line = if is_printable line then line_of (map word_of (words line)) else Err NOT_PRINTABLE
+
+-- ---- inside the crate: the words that are kept of a line
+
+-- what a line's words may stand for
+abbrev pub words_said : List ℕ → List Word
+words_said line = map word_of (words line)
+
+-- one word more is kept where there is room: whatever comes after, the first six are those that they would be
+abbrev pub KeepsFirst : List Word → Word → List Word → Type 0
+KeepsFirst old word new = (more : List Word) → take 6 (new ++ more) ≡ take 6 (old ++ word ∷ more)

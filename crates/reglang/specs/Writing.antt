@@ -1,5 +1,5 @@
 -- The one text that is written of a source: no comment, no empty line, no space but the one between two words.
-use Rattle.std.specs.Prelude.{ℕ, List, [], ◌∷◌, ◌++◌, map, Some, codes, decimal}
+use Rattle.std.specs.Prelude.{◌≡◌, ℕ, List, [], ◌∷◌, ◌++◌, map, Some, codes, decimal}
 use Rattle.std.specs.List.{flat_map, join_by}
 use Rattle.regmodel.specs.declared.programs.Target.{Target}
 use Rattle.regmodel.specs.declared.programs.Target.TheVariants as target
@@ -9,17 +9,25 @@ use Rattle.regmodel.specs.declared.programs.Expr.{Expr}
 use Rattle.regmodel.specs.declared.programs.Expr.TheVariants as expr
 use Rattle.regmodel.specs.declared.clauses.Clause.{Clause}
 use Rattle.regmodel.specs.Program as program
-use Rattle.regmodel.specs.Program.{Block}
+use Rattle.regmodel.specs.Program.{Block, block_of, with_stmt}
+use Rattle.regmodel.specs.declared.programs.Stmt.{Stmt}
 use Rattle.reglang.specs.Arguments.{clause_parts, line_parts, use_parts}
 use Rattle.reglang.specs.Spelling.{keyword_text, kind_text, operator_text, property_text}
-use Rattle.reglang.specs.Contents.{Body, Text, Kind, Contents}
+use Rattle.reglang.specs.Contents.{Body, Text, Kind, Contents, body_of}
+use Rattle.reglang.specs.Sources.{contents_of}
 use Rattle.uses.specs.declared.kinds.Use.{Use}
 use Rattle.reglang.specs.declared.arguments.Argument.{Argument}
 use Rattle.reglang.specs.declared.arguments.Argument.TheVariants as argument
+use Rattle.reglang.specs.declared.source.Process.{Process}
+use Rattle.reglang.specs.declared.source.Source.{Source}
 use Rattle.reglang.specs.declared.words.Word.{Word}
 use Rattle.reglang.specs.declared.words.Word.TheVariants as word
 use Rattle.reglang.specs.declared.forms.Line.{Line}
 use Rattle.reglang.specs.declared.forms.Line.TheVariants as line
+
+-- a number between two pieces of text
+abbrev pub between : List ℕ → ℕ → List ℕ → List ℕ
+between before n after = before ++ (decimal n ++ after)
 
 -- a word as it is written; one that no line has is not
 abbrev pub word_text : Word → List ℕ
@@ -86,6 +94,10 @@ line_words line = word.Keyword (line_parts line).0 ∷ later_words line
 abbrev pub spaced : List Word → List ℕ
 spaced words = flat_map (λ word. codes " " ++ word_text word) words
 
+-- the words of arguments, each after a space
+abbrev pub arguments_text : List Argument → List ℕ
+arguments_text arguments = spaced (arguments_words arguments)
+
 -- words parted by one space
 abbrev pub words_text : List Word → List ℕ
 words_text words = join_by word_text (codes " ") words
@@ -128,10 +140,48 @@ process_lines body = line.Process ∷ (body_lines body ++ (line.End ∷ []))
 abbrev pub check_line : Clause → Line
 check_line clause = line.Check (Some clause)
 
+-- the lines of processes
+abbrev pub processes_lines : List Body → List Line
+processes_lines bodies = flat_map process_lines bodies
+
 -- the `registers` line, the processes in their order, the checks in theirs
 abbrev pub source_lines : Contents → List Line
-source_lines source = line.Registers source.registers ∷ (flat_map process_lines source.processes ++ map check_line source.clauses)
+source_lines source = line.Registers source.registers ∷ (processes_lines source.processes ++ map check_line source.clauses)
 
 -- the text that is written of a source
 abbrev pub source_text : Contents → List ℕ
 source_text source = lines_text (source_lines source)
+
+-- ---- the same of what lies in memory
+
+-- the lines of statements
+abbrev pub stmts_text : List Stmt → List ℕ
+stmts_text stmts = lines_text (block_lines (block_of stmts))
+
+-- those of the second part of an `if`, behind its `else`
+abbrev pub else_text : List Stmt → List ℕ
+else_text second = lines_text (else_lines (block_of second) (block_lines (block_of second)))
+
+-- a text grew by the lines of a statement, whatever comes after it
+abbrev pub GrowsBy : Stmt → List ℕ → List ℕ → Type 0
+GrowsBy stmt old new = (rest : Block) → new ++ lines_text (block_lines rest) ≡ old ++ lines_text (block_lines (with_stmt stmt rest))
+
+-- the lines of what a process runs
+abbrev pub body_text : Process → List ℕ
+body_text process = lines_text (body_lines (body_of process))
+
+-- the lines of a process
+abbrev pub process_text : Process → List ℕ
+process_text process = lines_text (process_lines (body_of process))
+
+-- the lines of processes
+abbrev pub processes_text : List Process → List ℕ
+processes_text processes = lines_text (processes_lines (map body_of processes))
+
+-- the lines of clauses
+abbrev pub checks_text : List Clause → List ℕ
+checks_text clauses = lines_text (map check_line clauses)
+
+-- the text that is written of a source
+abbrev pub text_of : Source → List ℕ
+text_of source = source_text (contents_of source)

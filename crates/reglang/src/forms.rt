@@ -1,10 +1,9 @@
 //! What a line says.
 
-ghost use Rattle.std.specs.Prelude.{◌≡◌, ◌≤◌, ◌++◌, ◌∷◌, ◌&&◌, ◌||◌, List, length, map, take};
+ghost use Rattle.std.specs.Prelude.{◌≡◌, ◌≤◌, ◌&&◌, ◌||◌, length, take};
 ghost use Rattle.std.specs.List.{list_all, list_any};
-ghost use Rattle.reglang.specs.Lines.{words};
-ghost use Rattle.reglang.specs.Words.{word_of};
 ghost use Rattle.reglang.specs.Forms as spec;
+ghost use Rattle.reglang.specs.Forms.{KeepsFirst, words_said};
 
 use crate::arguments::{clause_with, line_with, use_with};
 use crate::lines::{is_printable, split_word};
@@ -70,7 +69,7 @@ struct LaterWords {
 impl LaterWords {
     /// One more word.
     fn add(&mut self, word: Word)
-        ensures first { (more : List Word) → take 6 (self.new.first.items ++ more) ≡ take 6 (self.old.first.items ++ word ∷ more) }
+        ensures first { KeepsFirst self.old.first.items word self.new.first.items }
         ensures few { length self.new.first.items ≤ 6 }
         ensures known { self.new.known ≡ (self.old.known && spec.is_known word) }
         ensures no_number { self.new.no_number ≡ (self.old.no_number || spec.is_no_number word) }
@@ -83,7 +82,7 @@ impl LaterWords {
 
 /// Appends a word where there is room.
 fn keep(first: &mut ArrayVec<Word, MOST_WORDS>, word: Word)
-    ensures first { (more : List Word) → take 6 (first.new.items ++ more) ≡ take 6 (first.old.items ++ word ∷ more) }
+    ensures first { KeepsFirst first.old.items word first.new.items }
     ensures few { length first.new.items ≤ 6 }
 {
     if first.is_full() {
@@ -106,9 +105,9 @@ pub fn is_known(word: Word) -> bool
 
 /// The words of what follows the first word of a line.
 fn later_words(line: &[u8]) -> LaterWords
-    ensures first { result.first.items ≡ take 6 (map word_of (words line.now)) }
-    ensures known { result.known ≡ list_all spec.is_known (map word_of (words line.now)) }
-    ensures no_number { result.no_number ≡ list_any spec.is_no_number (map word_of (words line.now)) }
+    ensures first { result.first.items ≡ take 6 (words_said line.now) }
+    ensures known { result.known ≡ list_all spec.is_known (words_said line.now) }
+    ensures no_number { result.no_number ≡ list_any spec.is_no_number (words_said line.now) }
 {
     let mut later = LaterWords {
         first: ArrayVec::new(),
@@ -156,7 +155,7 @@ fn form_of(key: Keyword, more: &[Word]) -> Option<Line>
 /// What a line says whose first word is this, no check. Code 2 where a later word is unknown, 3 where one begins with a digit
 /// and is no number word, 4 where the words have no form of the first one.
 fn keyword_line(key: Keyword, rest: &[u8]) -> Result<Option<Line>, u8>
-    ensures { result ≡ spec.keyword_line key (map word_of (words rest.now)) }
+    ensures { result ≡ spec.keyword_line key (words_said rest.now) }
 {
     let later = later_words(rest);
     if !later.known {

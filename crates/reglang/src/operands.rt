@@ -1,6 +1,6 @@
 //! Arguments of lines: what words stand for at their places.
 
-ghost use Rattle.std.specs.Prelude.{◌≡◌, ◌≤◌, length, MatchOption, None, Some};
+ghost use Rattle.std.specs.Prelude.{◌≡◌, ◌≤◌, length, option_map};
 ghost use Rattle.reglang.specs.Forms as spec;
 
 use crate::arguments::{Argument, Arguments};
@@ -112,7 +112,7 @@ pub fn argument_of(sort: Sort, word: Word) -> Option<Argument>
 /// None for any other words.
 pub fn arguments(sorts: &[Sort], words: &[Word]) -> Option<Arguments>
     requires { length sorts.now ≤ MOST_ARGUMENTS }
-    ensures { MatchOption result (spec.arguments sorts.now words.now ≡ None) (λ list. spec.arguments sorts.now words.now ≡ Some list.items) }
+    ensures { option_map (λ list. list.items) result ≡ spec.arguments sorts.now words.now }
 {
     let mut list = ArrayVec::new();
     let mut rest = words;

@@ -2,7 +2,7 @@
 
 ghost use Rattle.std.specs.Prelude.{◌≡◌, ◌++◌, OnOk, codes};
 ghost use Rattle.reglang.specs.Writing as spec;
-ghost use Rattle.reglang.specs.Writing.{spaced};
+ghost use Rattle.reglang.specs.Writing.{argument_words, arguments_text, spaced};
 
 use crate::arguments::{Argument, clause_parts, line_parts, use_parts};
 use crate::forms::Line;
@@ -46,7 +46,7 @@ fn push_words(text: &mut Vec<u8>, words: &[Word]) -> Result<(), OutOfMemory>
 
 /// Appends the words of an argument, each after a space.
 fn push_argument(text: &mut Vec<u8>, argument: Argument) -> Result<(), OutOfMemory>
-    ensures { OnOk result (text.new.items ≡ text.old.items ++ spaced (spec.argument_words argument)) }
+    ensures { OnOk result (text.new.items ≡ text.old.items ++ spaced (argument_words argument)) }
 {
     match argument {
         Argument::Number(n) => push_words(text, &[Word::Number(n)]),
@@ -62,7 +62,7 @@ fn push_argument(text: &mut Vec<u8>, argument: Argument) -> Result<(), OutOfMemo
 
 /// Appends the words of arguments, each after a space.
 fn push_arguments(text: &mut Vec<u8>, arguments: &[Argument]) -> Result<(), OutOfMemory>
-    ensures { OnOk result (text.new.items ≡ text.old.items ++ spaced (spec.arguments_words arguments.now)) }
+    ensures { OnOk result (text.new.items ≡ text.old.items ++ arguments_text arguments.now) }
 {
     for argument in arguments {
         push_argument(text, *argument)?;
