@@ -16,6 +16,10 @@ abbrev pub is_keyword : Word → Bool
 is_keyword (word.Keyword key) = true
 is_keyword _ = false
 
+-- whether a word may not stand after a first one
+abbrev pub is_unknown : Word → Bool
+is_unknown word = not (is_known word)
+
 -- whether a word is an argument of a sort
 abbrev pub is_of : Sort → Word → Bool
 is_of sort word = is_some (argument_of sort word)
@@ -76,7 +80,7 @@ misfit_after _ more = None
 abbrev pub at_fault : ℕ → List (List ℕ) → Option (List ℕ)
 at_fault code [] = None
 at_fault code (first ∷ more) =
-    if code == UNKNOWN_WORD then (if is_keyword (word_of first) then first_that (λ word. not (is_known word)) more else Some first) else
+    if code == UNKNOWN_WORD then (if is_keyword (word_of first) then first_that is_unknown more else Some first) else
     (if code == NO_NUMBER then first_that is_no_number more else
     (if code == NO_FORM || code == NO_CLAUSE then misfit_after (word_of first) more else None))
 

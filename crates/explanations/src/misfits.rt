@@ -1,7 +1,7 @@
 //! The word of a refused line that is at fault.
 
-ghost use Rattle.std.specs.Prelude.{◌≡◌, [], ◌∷◌, not, option_copied};
-ghost use Rattle.reglang.specs.Forms.{is_known, is_no_number};
+ghost use Rattle.std.specs.Prelude.{◌≡◌, [], ◌∷◌, option_copied};
+ghost use Rattle.reglang.specs.Forms.{is_no_number};
 ghost use Rattle.reglang.specs.Lines.{words};
 ghost use Rattle.reglang.specs.declared.sorts.Sort.TheVariants as sort;
 ghost use Rattle.explanations.specs.Misfits as spec;
@@ -36,7 +36,7 @@ pub fn word_at_fault(line: &[u8], code: u8) -> Option<&[u8]>
 
 /// The first word that may not stand after a first word.
 fn first_unknown(line: &[u8]) -> Option<&[u8]>
-    ensures { option_copied result ≡ spec.first_that (λ word. not (is_known word)) (words line.now) }
+    ensures { option_copied result ≡ spec.first_that spec.is_unknown (words line.now) }
 {
     let mut rest = line;
     while let Some((word, after)) = split_word(rest) {

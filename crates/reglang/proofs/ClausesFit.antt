@@ -10,7 +10,7 @@ use Rattle.regmodel.specs.declared.programs.Target.{Target}
 use Rattle.uses.specs.declared.kinds.Use.{Use}
 use Rattle.reglang.specs.Arguments.{are_of, clause_with, line_with}
 use Rattle.reglang.specs.Contents.{clause_fits}
-use Rattle.reglang.specs.Forms.{◌⊛◌, arguments, clause_of, expr_of, form_of, is_known, is_no_number, keyword_line, kind_of, line_of, number_in, number_to, operand_of, or_fault, property_clause, property_of, read_line, target_of, use_form, use_of}
+use Rattle.reglang.specs.Forms.{and_more, arguments, clause_of, expr_of, form_of, is_known, is_no_number, keyword_line, kind_of, line_of, number_in, number_to, operand_of, or_fault, property_clause, property_of, read_line, target_of, use_form, use_of}
 use Rattle.reglang.specs.Lines.{is_printable, words}
 use Rattle.reglang.specs.Sorts.{property_sorts, sorts_after}
 use Rattle.reglang.specs.Words.{word_of}
@@ -43,11 +43,7 @@ abbrev AreOf : List Sort → Option (List Argument) → Type 0
 AreOf sorts (Some list) = are_of sorts list ≡ true
 AreOf sorts None = Unit {0}
 
--- one argument more
-abbrev one_more : Option Argument → Option (List Argument) → Option (List Argument)
-one_more a more = Some (λ x rest. x ∷ rest) ⊛ a ⊛ more
-
-number_more : (sorts : List Sort) (n : Option ℕ) (more : Option (List Argument)) → AreOf sorts more → AreOf (sort.Number ∷ sorts) (one_more (option_map argument.Number n) more)
+number_more : (sorts : List Sort) (n : Option ℕ) (more : Option (List Argument)) → AreOf sorts more → AreOf (sort.Number ∷ sorts) (and_more (option_map argument.Number n) more)
 number_more sorts (Some n) (Some list) h = h
 number_more sorts _ _ h = tt
 
@@ -63,15 +59,15 @@ number_fits : (limit : ℕ) (w : Word) → IsUpTo limit (number_to limit w)
 number_fits limit (word.Number n) = number_chosen limit n (leb n limit) refl
 number_fits limit _ = tt
 
-limited_more : (limit : ℕ) (sorts : List Sort) (n : Option ℕ) (more : Option (List Argument)) → IsUpTo limit n → AreOf sorts more → AreOf (sort.NumberTo limit ∷ sorts) (one_more (option_map argument.Number n) more)
+limited_more : (limit : ℕ) (sorts : List Sort) (n : Option ℕ) (more : Option (List Argument)) → IsUpTo limit n → AreOf sorts more → AreOf (sort.NumberTo limit ∷ sorts) (and_more (option_map argument.Number n) more)
 limited_more limit sorts (Some n) (Some list) k h = and_from (leb n limit) (are_of sorts list) k h
 limited_more limit sorts _ _ k h = tt
 
-target_more : (sorts : List Sort) (to : Option Target) (more : Option (List Argument)) → AreOf sorts more → AreOf (sort.Target ∷ sorts) (one_more (option_map argument.Target to) more)
+target_more : (sorts : List Sort) (to : Option Target) (more : Option (List Argument)) → AreOf sorts more → AreOf (sort.Target ∷ sorts) (and_more (option_map argument.Target to) more)
 target_more sorts (Some to) (Some list) h = h
 target_more sorts _ _ h = tt
 
-operand_more : (sorts : List Sort) (a : Option Operand) (more : Option (List Argument)) → AreOf sorts more → AreOf (sort.Operand ∷ sorts) (one_more (option_map argument.Operand a) more)
+operand_more : (sorts : List Sort) (a : Option Operand) (more : Option (List Argument)) → AreOf sorts more → AreOf (sort.Operand ∷ sorts) (and_more (option_map argument.Operand a) more)
 operand_more sorts (Some a) (Some list) h = h
 operand_more sorts _ _ h = tt
 

@@ -4,7 +4,7 @@ use Rattle.std.specs.Prelude.{option_and_then, option_map}
 use Rattle.std.specs.List.{list_all, list_any}
 use Rattle.std.proofs.lemmas.Bool.{cond-true}
 use Rattle.reglang.specs.Arguments.{clause_with, line_with, use_with}
-use Rattle.reglang.specs.Forms.{◌⊛◌, argument_of, arguments, clause_of, expr_of, form_of, is_known, is_no_number, keyword_line, kind_of, line_of, or_fault, property_clause, property_of, read_line, use_form, use_of}
+use Rattle.reglang.specs.Forms.{and_more, argument_of, arguments, clause_of, expr_of, form_of, is_known, is_no_number, keyword_line, kind_of, line_of, or_fault, property_clause, property_of, read_line, use_form, use_of}
 use Rattle.reglang.specs.Lines.{words, is_printable}
 use Rattle.reglang.specs.Sorts.{kind_sorts, property_sorts, sorts_after}
 use Rattle.reglang.specs.Words.{word_of}
@@ -43,7 +43,7 @@ arguments-take (suc n) [] [] h = refl
 arguments-take (suc n) [] (w ∷ ws) h = refl
 arguments-take (suc n) (sort.Expression ∷ sorts) ws h = ap (option_map (λ e. argument.Expression e ∷ [])) (expr_of-take (suc n) ws h)
 arguments-take (suc n) (sort ∷ sorts) [] h = refl
-arguments-take (suc n) (sort ∷ sorts) (w ∷ ws) h = ap (λ more. Some (λ a rest. a ∷ rest) ⊛ argument_of sort w ⊛ more) (arguments-take n sorts ws (omega (arith, h)))
+arguments-take (suc n) (sort ∷ sorts) (w ∷ ws) h = ap (and_more (argument_of sort w)) (arguments-take n sorts ws (omega (arith, h)))
 
 -- ---- no line has more than five words after its first one
 

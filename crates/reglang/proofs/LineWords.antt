@@ -1,5 +1,5 @@
 -- The words of a line within its limits make the line.
-use Rattle.std.proofs.Common.{◌≡◌, Bool, true, false, not, ◌&&◌, ◌||◌, leb, List, [], ◌∷◌, Option, Some, None, Ok, refl, ap, ◌∙◌, arith}
+use Rattle.std.proofs.Common.{◌≡◌, Bool, true, false, not, ◌&&◌, ◌||◌, leb, List, [], ◌∷◌, Some, None, Ok, refl, ap, ◌∙◌, arith}
 use Rattle.std.specs.Prelude.{option_and_then, option_map}
 use Rattle.std.specs.List.{list_all, list_any}
 use Rattle.std.proofs.lemmas.Bool.{and_from, and_parts, cond-true, le-leb, leb-true}
@@ -16,7 +16,7 @@ use Rattle.regmodel.specs.declared.clauses.Clause.TheVariants as clause
 use Rattle.regmodel.specs.Limits.{target_fits, operand_fits, expr_fits}
 use Rattle.reglang.specs.Arguments.{are_of, clause_parts, clause_with, line_parts, line_with, use_parts}
 use Rattle.reglang.specs.Contents.{clause_fits}
-use Rattle.reglang.specs.Forms.{◌⊛◌, arguments, clause_of, expr_of, form_of, is_known, is_no_number, keyword_line, line_of, operand_of, or_fault, target_of, use_of}
+use Rattle.reglang.specs.Forms.{and_more, arguments, clause_of, expr_of, form_of, is_known, is_no_number, keyword_line, line_of, operand_of, or_fault, target_of, use_of}
 use Rattle.reglang.specs.Sorts.{property_sorts, sorts_after}
 use Rattle.reglang.specs.Writing.{argument_words, arguments_words, clause_words, expr_words, later_words, line_words, operand_word, target_word, use_words}
 use Rattle.uses.specs.declared.kinds.Use.{Use}
@@ -185,23 +185,19 @@ expr_again : (e : Expr) → expr_of (expr_words e) ≡ Some e
 expr_again (expr.One a) = rw (operand_again a) refl
 expr_again (expr.Two a op b) = rw (operand_again a, operand_again b) refl
 
--- one argument more
-abbrev one_more : Option Argument → Option (List Argument) → Option (List Argument)
-one_more a more = Some (λ x rest. x ∷ rest) ⊛ a ⊛ more
-
 arguments_again : (sorts : List Sort) (list : List Argument) → are_of sorts list ≡ true → arguments sorts (arguments_words list) ≡ Some list
 arguments_again [] [] h = refl
-arguments_again (sort.Number ∷ sorts) (argument.Number n ∷ more) h = ap (one_more (Some (argument.Number n))) (arguments_again sorts more h)
+arguments_again (sort.Number ∷ sorts) (argument.Number n ∷ more) h = ap (and_more (Some (argument.Number n))) (arguments_again sorts more h)
 arguments_again (sort.NumberTo limit ∷ sorts) (argument.Number n ∷ more) h =
     let parts = and_parts (leb n limit) (are_of sorts more) h in
-    ap (λ o. one_more (option_map argument.Number o) (arguments sorts (arguments_words more))) (cond-true _ (Some n) None parts.0)
-    ∙ ap (one_more (Some (argument.Number n))) (arguments_again sorts more parts.1)
+    ap (λ o. and_more (option_map argument.Number o) (arguments sorts (arguments_words more))) (cond-true _ (Some n) None parts.0)
+    ∙ ap (and_more (Some (argument.Number n))) (arguments_again sorts more parts.1)
 arguments_again (sort.Target ∷ sorts) (argument.Target to ∷ more) h =
-    ap (λ o. one_more (option_map argument.Target o) (arguments sorts (arguments_words more))) (target_again to)
-    ∙ ap (one_more (Some (argument.Target to))) (arguments_again sorts more h)
+    ap (λ o. and_more (option_map argument.Target o) (arguments sorts (arguments_words more))) (target_again to)
+    ∙ ap (and_more (Some (argument.Target to))) (arguments_again sorts more h)
 arguments_again (sort.Operand ∷ sorts) (argument.Operand a ∷ more) h =
-    ap (λ o. one_more (option_map argument.Operand o) (arguments sorts (arguments_words more))) (operand_again a)
-    ∙ ap (one_more (Some (argument.Operand a))) (arguments_again sorts more h)
+    ap (λ o. and_more (option_map argument.Operand o) (arguments sorts (arguments_words more))) (operand_again a)
+    ∙ ap (and_more (Some (argument.Operand a))) (arguments_again sorts more h)
 arguments_again (sort.Expression ∷ sorts) (argument.Expression value ∷ []) h =
     ap (λ ws. option_map (λ e. argument.Expression e ∷ []) (expr_of ws)) (append-nil (expr_words value))
     ∙ ap (option_map (λ e. argument.Expression e ∷ [])) (expr_again value)

@@ -89,13 +89,17 @@ argument_of sort.Target word = option_map argument.Target (target_of word)
 argument_of sort.Operand word = option_map argument.Operand (operand_of word)
 argument_of sort.Expression word = option_map (λ a. argument.Expression (expr.One a)) (operand_of word)
 
+-- an argument and those after it
+abbrev pub and_more : Option Argument → Option (List Argument) → Option (List Argument)
+and_more argument more = Some (λ a rest. a ∷ rest) ⊛ argument ⊛ more
+
 -- the arguments of these sorts that words are: one word is one argument, but an expression is all the words that are left
 abbrev pub arguments : List Sort → List Word → Option (List Argument)
 arguments [] [] = Some []
 arguments [] (word ∷ words) = None
 arguments (sort.Expression ∷ sorts) words = option_map (λ e. argument.Expression e ∷ []) (expr_of words)
 arguments (sort ∷ sorts) [] = None
-arguments (sort ∷ sorts) (word ∷ words) = Some (λ a more. a ∷ more) ⊛ argument_of sort word ⊛ arguments sorts words
+arguments (sort ∷ sorts) (word ∷ words) = and_more (argument_of sort word) (arguments sorts words)
 
 -- a kind with its arguments
 abbrev pub use_of : Kind → List Word → Option Use

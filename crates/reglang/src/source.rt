@@ -26,7 +26,7 @@ impl Process {
     /// What it runs: a copy of its own program, or its expansion. An error where a request for memory was refused.
     fn prog(&self, alloc: Global, registers: u32) -> Result<Prog, OutOfMemory>
         requires { is_over registers self.now ≡ true }
-        ensures { IfOk result (λ prog. program_of prog ≡ program_over registers (body_of self.now)) }
+        ensures { IfOk result (λ p. program_of p ≡ program_over registers (body_of self.now)) }
     {
         match self {
             Process::Text(prog) => {
@@ -132,7 +132,7 @@ impl Source {
     /// An error where a request for memory was refused.
     pub fn prog(&self, alloc: Global, p: usize) -> Result<Prog, OutOfMemory>
         requires { p < length (source_programs self.now) }
-        ensures { IfOk result (λ prog. slice_get (source_programs self.now) p ≡ Some (program_of prog)) }
+        ensures { IfOk result (λ q. slice_get (source_programs self.now) p ≡ Some (program_of q)) }
     {
         self.processes[p].prog(alloc, self.registers())
     }
