@@ -1,7 +1,7 @@
 -- Which word of a refused line is at fault.
 use Rattle.std.specs.Prelude.{ℕ, ◌==◌, ◌||◌, Bool, true, false, not, if◌then◌else◌, List, [], ◌∷◌, Option, Some, None, is_some, option_map}
 use Rattle.reglang.specs.declared.refusals.TheConstants.{NO_CLAUSE, NO_FORM, NO_NUMBER, UNKNOWN_WORD}
-use Rattle.reglang.specs.Forms.{argument_of, is_known, is_no_number, kind_of, operand_of, operator_of, property_of}
+use Rattle.reglang.specs.Forms.{argument_of, is_known, is_no_number, kind_of, operator_of, property_of}
 use Rattle.reglang.specs.Lines.{words}
 use Rattle.reglang.specs.Sorts.{kind_sorts, property_sorts, sorts_after}
 use Rattle.reglang.specs.Words.{word_of}
@@ -11,22 +11,18 @@ use Rattle.reglang.specs.declared.words.Keyword.TheVariants as keyword
 use Rattle.reglang.specs.declared.words.Word.{Word}
 use Rattle.reglang.specs.declared.words.Word.TheVariants as word
 
--- whether it is a first word of lines
+-- whether a word is a first word of lines
 abbrev pub is_keyword : Word → Bool
 is_keyword (word.Keyword key) = true
 is_keyword _ = false
 
--- whether a word may not stand after a first one
+-- whether it may not stand after a first one
 abbrev pub is_unknown : Word → Bool
 is_unknown word = not (is_known word)
 
--- whether a word is an argument of a sort
+-- whether it is an argument of a sort
 abbrev pub is_of : Sort → Word → Bool
 is_of sort word = is_some (argument_of sort word)
-
--- whether it is an operand
-abbrev pub is_operand : Word → Bool
-is_operand word = is_some (operand_of word)
 
 -- whether it is an operator
 abbrev pub is_operator : Word → Bool
@@ -35,7 +31,7 @@ is_operator word = is_some (operator_of word)
 -- what the words of these sorts must be, place by place; an expression in its longest form is an operand, an operator and an operand
 abbrev pub places : List Sort → List (Word → Bool)
 places [] = []
-places (sort.Expression ∷ sorts) = is_operand ∷ is_operator ∷ is_operand ∷ []
+places (sort.Expression ∷ sorts) = is_of sort.Operand ∷ is_operator ∷ is_of sort.Operand ∷ []
 places (sort ∷ sorts) = is_of sort ∷ places sorts
 
 -- the first of some words that a test holds of

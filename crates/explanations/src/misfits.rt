@@ -8,8 +8,8 @@ ghost use Rattle.explanations.specs.Misfits as spec;
 
 use reglang::{
     Keyword, NO_CLAUSE, NO_FORM, NO_NUMBER, Sort, UNKNOWN_WORD, Word, argument_of, is_known,
-    kind_of, kind_sorts, operand_of, operator_of, property_of, property_sorts, sorts_after,
-    split_word, word_of,
+    kind_of, kind_sorts, operator_of, property_of, property_sorts, sorts_after, split_word,
+    word_of,
 };
 
 /// The word of a line that is at fault, where the fault of the line has this code: for code 2 the first unknown one, for code 3 the first
@@ -123,7 +123,7 @@ fn expression_misfit(line: &[u8]) -> Option<&[u8]>
     ensures { option_copied result ≡ spec.misfit_of (sort.Expression ∷ []) (words line.now) }
 {
     let (first, rest) = split_word(line)?;
-    if operand_of(word_of(first)).is_none() {
+    if argument_of(Sort::Operand, word_of(first)).is_none() {
         return Some(first);
     }
     let (operator, rest) = split_word(rest)?;
@@ -131,7 +131,7 @@ fn expression_misfit(line: &[u8]) -> Option<&[u8]>
         return Some(operator);
     }
     let (second, rest) = split_word(rest)?;
-    if operand_of(word_of(second)).is_none() {
+    if argument_of(Sort::Operand, word_of(second)).is_none() {
         return Some(second);
     }
     let (more, _) = split_word(rest)?;

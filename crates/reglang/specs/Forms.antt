@@ -159,15 +159,15 @@ line_of (word.Keyword keyword.Check ∷ more) = Ok (Some (Check (clause_of more)
 line_of (word.Keyword key ∷ more) = keyword_line key more
 line_of _ = Err UNKNOWN_WORD
 
--- what a line says, or the code of its fault: a byte that is not in 32 to 126, or one of its words
-abbrev pub read_line : List ℕ → Result (Option Line) ℕ
-read_line line = if is_printable line then line_of (map word_of (words line)) else Err NOT_PRINTABLE
-
--- ---- inside the crate: the words that are kept of a line
-
--- what a line's words may stand for
+-- the words of a line, by what they may stand for
 abbrev pub words_said : List ℕ → List Word
 words_said line = map word_of (words line)
+
+-- what a line says, or the code of its fault: a byte that is not in 32 to 126, or one of its words
+abbrev pub read_line : List ℕ → Result (Option Line) ℕ
+read_line line = if is_printable line then line_of (words_said line) else Err NOT_PRINTABLE
+
+-- ---- inside the crate: the words that are kept of a line
 
 -- one word more is kept where there is room: whatever comes after, the first six are those that they would be
 abbrev pub KeepsFirst : List Word → Word → List Word → Type 0

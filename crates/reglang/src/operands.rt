@@ -42,7 +42,7 @@ fn target_of(word: Word) -> Option<Target>
 }
 
 /// The operand that a word is: a number, a variable or a cell.
-pub fn operand_of(word: Word) -> Option<Operand>
+fn operand_of(word: Word) -> Option<Operand>
     ensures { result ≡ spec.operand_of word }
 {
     match word {
