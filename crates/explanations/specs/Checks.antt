@@ -1,6 +1,8 @@
 -- Where a line stands in a text, and which lines are checks.
-use Rattle.std.specs.Prelude.{◌≡◌, ℕ, zero, suc, Bool, true, false, if◌then◌else◌, List, [], ◌∷◌, Option, Some, None, Result, Ok, slice_get}
+use Rattle.std.specs.Prelude.{◌≡◌, ℕ, zero, suc, Bool, true, false, if◌then◌else◌, List, [], ◌∷◌, Option, Some, None, Result, Ok, IfSome, MatchOption, slice_get}
 use Rattle.regmodel.specs.declared.clauses.Clause.{Clause}
+use Rattle.reglang.specs.Contents.{Contents}
+use Rattle.reglang.specs.Grammar.{Spells}
 use Rattle.reglang.specs.Lines.{lines}
 use Rattle.reglang.specs.Forms.{read_line}
 use Rattle.reglang.specs.declared.forms.Line.{Line}
@@ -30,3 +32,7 @@ pub record ChecksAt (text : List ℕ) (clause : Clause) (number : ℕ) : Type 0 
   pub bytes : List ℕ
   pub there : line_at number text ≡ Some bytes
   pub says : read_line bytes ≡ Ok (Some (line.Check (Some clause)))
+
+-- where the text spells a source that has a clause i, counted from 0, the line with this number is the check of that clause
+abbrev pub IsCheckOf : List ℕ → ℕ → Option ℕ → Type 0
+IsCheckOf text i number = (source : Contents) → Spells text source → IfSome (slice_get source.clauses i) (λ clause. MatchOption number ⊥ (ChecksAt text clause))

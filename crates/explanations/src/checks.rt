@@ -1,10 +1,8 @@
 //! Which lines of a text are checks.
 
-ghost use Rattle.std.specs.Prelude.{◌≡◌, IfSome, MatchOption, slice_get};
+ghost use Rattle.std.specs.Prelude.{◌≡◌, slice_get};
 ghost use Rattle.explanations.specs.Checks as spec;
-ghost use Rattle.reglang.specs.Contents.{Contents};
 ghost use Rattle.reglang.specs.Forms as forms;
-ghost use Rattle.reglang.specs.Grammar.{Spells};
 
 use reglang::{Line, read_line, split_line};
 
@@ -19,7 +17,7 @@ fn is_check(line: &[u8]) -> bool
 /// Of a text that spells a source, the line is the check of clause i.
 pub fn check_line(text: &[u8], i: usize) -> Option<u64>
     ensures number { result ≡ slice_get (spec.check_lines text.now) i }
-    ensures clause { (source : Contents) → Spells text.now source → IfSome (slice_get source.clauses i) (λ clause. MatchOption result ⊥ (spec.ChecksAt text.now clause)) }
+    ensures clause { spec.IsCheckOf text.now i result }
 {
     let mut left = i;
     let mut number = 0u64;

@@ -1,6 +1,6 @@
 //! Lines of a text, by their numbers.
 
-ghost use Rattle.std.specs.Prelude.{◌≡◌, MatchOption, None, Some};
+ghost use Rattle.std.specs.Prelude.{◌≡◌, option_copied};
 ghost use Rattle.explanations.specs.Checks as spec;
 ghost use Rattle.explanations.specs.Shown.{shown};
 
@@ -8,7 +8,7 @@ use reglang::split_line;
 
 /// The line of a text with this number, counted from 1, without its byte 10. None where there is none.
 pub fn line_at(text: &[u8], number: u64) -> Option<&[u8]>
-    ensures { MatchOption result (spec.line_at number text.now ≡ None) (λ line. spec.line_at number text.now ≡ Some line.now) }
+    ensures { option_copied result ≡ spec.line_at number text.now }
 {
     let mut before = number.checked_sub(1)?;
     let mut rest = text;

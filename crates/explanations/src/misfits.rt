@@ -1,37 +1,22 @@
 //! The word of a refused line that is at fault.
 
-ghost use Rattle.std.specs.Prelude.{◌≡◌, MatchOption, None, Some, not};
-ghost use Rattle.reglang.specs.Forms.{is_known, is_no_number};
+ghost use Rattle.std.specs.Prelude.{◌≡◌, [], ◌∷◌, option_copied};
+ghost use Rattle.reglang.specs.Forms.{is_no_number};
 ghost use Rattle.reglang.specs.Lines.{words};
+ghost use Rattle.reglang.specs.declared.sorts.Sort.TheVariants as sort;
 ghost use Rattle.explanations.specs.Misfits as spec;
 
 use reglang::{
-    Keyword, Kind, NO_CLAUSE, NO_FORM, NO_NUMBER, Property, UNKNOWN_WORD, Word, is_known,
-    number_in, number_to, operand_of, operator_of, split_word, target_of, word_of,
+    Keyword, NO_CLAUSE, NO_FORM, NO_NUMBER, Sort, UNKNOWN_WORD, Word, argument_of, is_known,
+    kind_of, kind_sorts, operator_of, property_of, property_sorts, sorts_after, split_word,
+    word_of,
 };
-use regmodel::limits::{GREATEST_VALUE, MOST_PROCESSES};
-
-/// What may stand at a place of a line.
-#[derive(Clone, Copy)]
-pub enum Sort {
-    Number,
-    /// A number up to this one.
-    NumberTo(u32),
-    Target,
-    Operand,
-    Operator,
-    Kind,
-    Property,
-}
-
-/// What stands after a first word that has the form of an expression.
-const EXPRESSION: &[Sort] = &[Sort::Operand, Sort::Operator, Sort::Operand];
 
 /// The word of a line that is at fault, where the fault of the line has this code: for code 2 the first unknown one, for code 3 the first
 /// that begins with a digit and is no number word, for codes 4 and 8 the first that has no place in a line with its first word. None for
 /// another code, and where the line wants another word at its end.
 pub fn word_at_fault(line: &[u8], code: u8) -> Option<&[u8]>
-    ensures { MatchOption result (spec.word_at_fault code line.now ≡ None) (λ word. spec.word_at_fault code line.now ≡ Some word.now) }
+    ensures { option_copied result ≡ spec.word_at_fault code line.now }
 {
     let (first, rest) = split_word(line)?;
     if code == UNKNOWN_WORD {
@@ -51,7 +36,7 @@ pub fn word_at_fault(line: &[u8], code: u8) -> Option<&[u8]>
 
 /// The first word that may not stand after a first word.
 fn first_unknown(line: &[u8]) -> Option<&[u8]>
-    ensures { MatchOption result (spec.first_that (λ word. not (is_known word)) (words line.now) ≡ None) (λ word. spec.first_that (λ word. not (is_known word)) (words line.now) ≡ Some word.now) }
+    ensures { option_copied result ≡ spec.first_that spec.is_unknown (words line.now) }
 {
     let mut rest = line;
     while let Some((word, after)) = split_word(rest) {
@@ -65,7 +50,7 @@ fn first_unknown(line: &[u8]) -> Option<&[u8]>
 
 /// The first word that begins with a digit and is no number word.
 fn first_no_number(line: &[u8]) -> Option<&[u8]>
-    ensures { MatchOption result (spec.first_that is_no_number (words line.now) ≡ None) (λ word. spec.first_that is_no_number (words line.now) ≡ Some word.now) }
+    ensures { option_copied result ≡ spec.first_that is_no_number (words line.now) }
 {
     let mut rest = line;
     while let Some((word, after)) = split_word(rest) {
@@ -79,17 +64,41 @@ fn first_no_number(line: &[u8]) -> Option<&[u8]>
 
 /// The first word after a first one that has no place there.
 fn misfit_after(first: Word, rest: &[u8]) -> Option<&[u8]>
-    ensures { MatchOption result (spec.misfit_after first (words rest.now) ≡ None) (λ word. spec.misfit_after first (words rest.now) ≡ Some word.now) }
+    ensures { option_copied result ≡ spec.misfit_after first (words rest.now) }
 {
     match first {
-        Word::Keyword(key) => first_misfit(sorts_after(key, next_word(rest)), rest),
+        Word::Keyword(Keyword::Use) => use_misfit(rest),
+        Word::Keyword(Keyword::Check) => check_misfit(rest),
+        Word::Keyword(key) => first_misfit(sorts_after(key), rest),
         _ => None,
+    }
+}
+
+/// The first word after `use` that has no place there.
+fn use_misfit(line: &[u8]) -> Option<&[u8]>
+    ensures { option_copied result ≡ spec.use_misfit (words line.now) }
+{
+    let (word, rest) = split_word(line)?;
+    match kind_of(word_of(word)) {
+        Some(kind) => first_misfit(kind_sorts(kind), rest),
+        None => Some(word),
+    }
+}
+
+/// The first word after `check` that has no place there.
+fn check_misfit(line: &[u8]) -> Option<&[u8]>
+    ensures { option_copied result ≡ spec.check_misfit (words line.now) }
+{
+    let (word, rest) = split_word(line)?;
+    match property_of(word_of(word)) {
+        Some(property) => first_misfit(property_sorts(property), rest),
+        None => Some(word),
     }
 }
 
 /// The first word that is not of the sort of its place, or has no place.
 fn first_misfit<'a>(sorts: &[Sort], line: &'a [u8]) -> Option<&'a [u8]>
-    ensures { MatchOption result (spec.first_misfit sorts.now (words line.now) ≡ None) (λ word. spec.first_misfit sorts.now (words line.now) ≡ Some word.now) }
+    ensures { option_copied result ≡ spec.misfit_of sorts.now (words line.now) }
 {
     let mut sorts = sorts;
     let mut rest = line;
@@ -97,7 +106,10 @@ fn first_misfit<'a>(sorts: &[Sort], line: &'a [u8]) -> Option<&'a [u8]>
         let Some((sort, later)) = sorts.split_first() else {
             return Some(word);
         };
-        if !is_of(*sort, word_of(word)) {
+        if matches!(sort, Sort::Expression) {
+            return expression_misfit(rest);
+        }
+        if argument_of(*sort, word_of(word)).is_none() {
             return Some(word);
         }
         sorts = later;
@@ -106,89 +118,22 @@ fn first_misfit<'a>(sorts: &[Sort], line: &'a [u8]) -> Option<&'a [u8]>
     None
 }
 
-/// What the first word may stand for; another word where there is none.
-fn next_word(line: &[u8]) -> Word
-    ensures { result ≡ spec.next_word (words line.now) }
+/// The first word that has no place in an expression: in its longest form an operand, an operator and an operand.
+fn expression_misfit(line: &[u8]) -> Option<&[u8]>
+    ensures { option_copied result ≡ spec.misfit_of (sort.Expression ∷ []) (words line.now) }
 {
-    match split_word(line) {
-        Some((word, _)) => word_of(word),
-        None => Word::Other,
+    let (first, rest) = split_word(line)?;
+    if argument_of(Sort::Operand, word_of(first)).is_none() {
+        return Some(first);
     }
-}
-
-/// What stands after a first word, place by place, in its longest form; a `use` and a `check` by the word that comes next.
-fn sorts_after(key: Keyword, next: Word) -> &'static [Sort]
-    ensures { result.now ≡ spec.sorts_after key next }
-{
-    match key {
-        Keyword::Registers => &[Sort::Number],
-        Keyword::Set => &[Sort::Target, Sort::Operand, Sort::Operator, Sort::Operand],
-        Keyword::Read => &[Sort::Target, Sort::Operand],
-        Keyword::Write => &[Sort::Operand, Sort::Operand, Sort::Operator, Sort::Operand],
-        Keyword::Scan => &[Sort::Number, Sort::Number, Sort::Number],
-        Keyword::If | Keyword::Repeat | Keyword::Emit => EXPRESSION,
-        Keyword::Use => use_sorts(next),
-        Keyword::Check => clause_sorts(next),
-        _ => &[],
+    let (operator, rest) = split_word(rest)?;
+    if operator_of(word_of(operator)).is_none() {
+        return Some(operator);
     }
-}
-
-/// What stands in a `use` line, by its kind.
-fn use_sorts(kind: Word) -> &'static [Sort]
-    ensures { result.now ≡ spec.use_sorts kind }
-{
-    match kind {
-        Word::Kind(Kind::Split) => &[Sort::Kind, Sort::Number, Sort::Number],
-        Word::Kind(Kind::Grid | Kind::Name | Kind::Names) => {
-            &[Sort::Kind, Sort::Number, Sort::Number, Sort::Number]
-        }
-        Word::Kind(Kind::Tree) => {
-            &[
-                Sort::Kind,
-                Sort::Number,
-                Sort::Number,
-                Sort::Number,
-                Sort::Number,
-            ]
-        }
-        _ => &[Sort::Kind],
+    let (second, rest) = split_word(rest)?;
+    if argument_of(Sort::Operand, word_of(second)).is_none() {
+        return Some(second);
     }
-}
-
-/// What stands in a clause, by its property.
-fn clause_sorts(property: Word) -> &'static [Sort]
-    ensures { result.now ≡ spec.clause_sorts property }
-{
-    match property {
-        Word::Property(Property::AtMost) => {
-            &[
-                Sort::Property,
-                Sort::NumberTo(GREATEST_VALUE),
-                Sort::NumberTo(MOST_PROCESSES as u32),
-            ]
-        }
-        Word::Property(Property::Within) => {
-            &[
-                Sort::Property,
-                Sort::NumberTo(GREATEST_VALUE),
-                Sort::NumberTo(GREATEST_VALUE),
-            ]
-        }
-        _ => &[Sort::Property],
-    }
-}
-
-/// Whether a word is of a sort.
-fn is_of(sort: Sort, word: Word) -> bool
-    ensures { result ≡ spec.is_of sort word }
-{
-    match sort {
-        Sort::Number => number_in(word).is_some(),
-        Sort::NumberTo(limit) => number_to(limit, word).is_some(),
-        Sort::Target => target_of(word).is_some(),
-        Sort::Operand => operand_of(word).is_some(),
-        Sort::Operator => operator_of(word).is_some(),
-        Sort::Kind => matches!(word, Word::Kind(_)),
-        Sort::Property => matches!(word, Word::Property(_)),
-    }
+    let (more, _) = split_word(rest)?;
+    Some(more)
 }

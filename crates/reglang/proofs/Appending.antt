@@ -54,13 +54,7 @@ repeat_text old count body rest =
 
 else_of_stmt : (s : Stmt) (rest : Block) (lines : List Line) → else_lines (with_stmt s rest) lines ≡ line.Else ∷ lines
 else_of_stmt (stmt.Assign t e) rest lines = refl
-else_of_stmt (stmt.Read t a) rest lines = refl
-else_of_stmt (stmt.Write a e) rest lines = refl
-else_of_stmt (stmt.Scan cell first count) rest lines = refl
-else_of_stmt (stmt.If' e m first k second) rest lines = refl
-else_of_stmt (stmt.Repeat' e m body) rest lines = refl
-else_of_stmt (stmt.Emit e) rest lines = refl
-else_of_stmt stmt.Halt rest lines = refl
+else_of_stmt _ rest lines = refl
 
 -- an `else` stands before statements
 pub else_before : (stmts : List Stmt) (lines : List Line) → eqb (length stmts) 0 ≡ false → else_lines (block_of stmts) lines ≡ line.Else ∷ lines

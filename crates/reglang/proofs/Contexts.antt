@@ -41,21 +41,7 @@ one_more xs x = length-append xs (x ∷ []) ∙ omega arith
 
 begins : (l : Line) → Steps Empty l (take_line Empty l)
 begins (line.Registers n) = limited Empty (line.Registers n) _ (is_between 1 64 n) refl refl
-begins line.Process = refl
-begins line.End = refl
-begins (line.Set to value) = refl
-begins (line.Read to from) = refl
-begins (line.Write to value) = refl
-begins (line.Scan cell first count) = refl
-begins (line.If test) = refl
-begins line.Else = refl
-begins line.Fi = refl
-begins (line.Repeat count) = refl
-begins line.Done = refl
-begins (line.Emit value) = refl
-begins line.Halt = refl
-begins (line.Use kind) = refl
-begins (line.Check clause) = refl
+begins _ = refl
 
 abbrev outside : ℕ → ℕ → ℕ → Context
 outside registers processes checks = record { registers = Some registers; processes = processes; checks = checks; place = faults.Outside }
@@ -71,22 +57,9 @@ checked before (Some clause) =
 checked before None = no_clause before (nat_lt (length before.clauses) 16) refl
 
 between : (before : Contents) (l : Line) → Steps (Between before) l (take_line (Between before) l)
-between before (line.Registers n) = refl
 between before line.Process = limited (Between before) line.Process _ (nat_lt (length before.processes) 8) refl refl
-between before line.End = refl
-between before (line.Set to value) = refl
-between before (line.Read to from) = refl
-between before (line.Write to value) = refl
-between before (line.Scan cell first count) = refl
-between before (line.If test) = refl
-between before line.Else = refl
-between before line.Fi = refl
-between before (line.Repeat count) = refl
-between before line.Done = refl
-between before (line.Emit value) = refl
-between before line.Halt = refl
-between before (line.Use kind) = refl
 between before (line.Check clause) = checked before clause
+between before _ = refl
 
 entered : (before : Contents) (frames : List Frame) (block : Block) (n : ℕ) (l : Line) (frame : Frame) (fits : Bool) →
     line_fault (context_of (Inside before frames block n)) l ≡ (if not (nat_lt n 200 && fits && nat_lt (length (map opened_of frames)) 16) then Some 6 else None) →
@@ -129,9 +102,6 @@ halted before frames block n true h = (ap (λ t. if not t then Some 6 else None)
 halted before frames block n false h = ap (λ t. if not t then Some 6 else None) h
 
 inside : (before : Contents) (frames : List Frame) (block : Block) (n : ℕ) (l : Line) → Steps (Inside before frames block n) l (take_line (Inside before frames block n) l)
-inside before frames block n (line.Registers r) = refl
-inside before frames block n line.Process = refl
-inside before frames block n (line.Check clause) = refl
 inside before frames block n (line.Set to value) = limited (Inside before frames block n) (line.Set to value) _ (nat_lt n 200 && (target_fits to && expr_fits value)) refl refl
 inside before frames block n (line.Read to from) = limited (Inside before frames block n) (line.Read to from) _ (nat_lt n 200 && (target_fits to && operand_fits from)) refl refl
 inside before frames block n (line.Write to value) = limited (Inside before frames block n) (line.Write to value) _ (nat_lt n 200 && (operand_fits to && expr_fits value)) refl refl
@@ -145,24 +115,11 @@ inside before frames block n line.Fi = fi_left before frames block n
 inside before frames block n line.Done = done_left before frames block n
 inside before frames block n line.End = ended before frames block n
 inside before frames block n (line.Use kind) = stood before frames block n kind (nat_lt 0 n) refl
+inside before frames block n _ = refl
 
 used : (before : Contents) (kind : Use) (l : Line) → Steps (Used before kind) l (take_line (Used before kind) l)
-used before kind (line.Registers n) = refl
-used before kind line.Process = refl
 used before kind line.End = (refl, ap (λ m. outside before.registers m (length before.clauses)) (one_more before.processes (Kind kind)))
-used before kind (line.Set to value) = refl
-used before kind (line.Read to from) = refl
-used before kind (line.Write to value) = refl
-used before kind (line.Scan cell first count) = refl
-used before kind (line.If test) = refl
-used before kind line.Else = refl
-used before kind line.Fi = refl
-used before kind (line.Repeat count) = refl
-used before kind line.Done = refl
-used before kind (line.Emit value) = refl
-used before kind line.Halt = refl
-used before kind (line.Use other) = refl
-used before kind (line.Check clause) = refl
+used before kind _ = refl
 
 steps : (reading : Reading) (l : Line) → Steps reading l (take_line reading l)
 steps Empty l = begins l

@@ -1,6 +1,17 @@
 -- What a line says, from its first words.
-use Rattle.std.proofs.Common.{◌≡◌, ℕ, true, false, List, [], ◌∷◌, map, take, Option, Some, None, Ok, Err, refl, ap, ◌∙◌}
+use Rattle.std.proofs.Common.{◌≡◌, ℕ, zero, suc, ◌<◌, true, false, List, [], ◌∷◌, map, take, Option, Some, None, Ok, Err, refl, ap, ◌∙◌, arith}
+use Rattle.std.specs.Prelude.{option_and_then, option_map}
+use Rattle.std.specs.List.{list_all, list_any}
 use Rattle.std.proofs.lemmas.Bool.{cond-true}
+use Rattle.reglang.specs.Arguments.{clause_with, line_with, use_with}
+use Rattle.reglang.specs.Forms.{and_more, argument_of, arguments, clause_of, expr_of, form_of, is_known, is_no_number, keyword_line, kind_of, line_of, or_fault, property_clause, property_of, read_line, use_form, use_of}
+use Rattle.reglang.specs.Lines.{words, is_printable}
+use Rattle.reglang.specs.Sorts.{kind_sorts, property_sorts, sorts_after}
+use Rattle.reglang.specs.Words.{word_of}
+use Rattle.reglang.specs.declared.arguments.Argument.TheVariants as argument
+use Rattle.reglang.specs.declared.forms.Line.TheVariants as line
+use Rattle.reglang.specs.declared.sorts.Sort.{Sort}
+use Rattle.reglang.specs.declared.sorts.Sort.TheVariants as sort
 use Rattle.reglang.specs.declared.words.Keyword.{Keyword}
 use Rattle.reglang.specs.declared.words.Keyword.TheVariants as keyword
 use Rattle.reglang.specs.declared.words.Kind.{Kind}
@@ -9,84 +20,70 @@ use Rattle.reglang.specs.declared.words.Property.{Property}
 use Rattle.reglang.specs.declared.words.Property.TheVariants as property
 use Rattle.reglang.specs.declared.words.Word.{Word}
 use Rattle.reglang.specs.declared.words.Word.TheVariants as word
-use Rattle.std.specs.List.{list_all, list_any}
-use Rattle.reglang.specs.Forms.{kind_of, use_of_kind, form_of, property_clause, clause_of, is_known, is_no_number, or_fault, keyword_line, line_of, read_line}
-use Rattle.reglang.specs.Lines.{words, is_printable}
-use Rattle.reglang.specs.Words.{word_of}
-use Rattle.reglang.specs.declared.forms.Line.TheVariants.{Check}
 
-use_of_long : (k : Option Kind) (b c d e f : Word) (more : List Word) → use_of_kind k (b ∷ c ∷ d ∷ e ∷ f ∷ []) ≡ use_of_kind k (b ∷ c ∷ d ∷ e ∷ f ∷ more)
-use_of_long (Some kind.Split) b c d e f more = refl
-use_of_long (Some kind.Grid) b c d e f more = refl
-use_of_long (Some kind.Tree) b c d e f more = refl
-use_of_long (Some kind.Name) b c d e f more = refl
-use_of_long (Some kind.Names) b c d e f more = refl
-use_of_long None b c d e f more = refl
+-- ---- arguments, from more words than they are
 
-form_of_long : (key : Keyword) (a b c d e f : Word) (more : List Word) → form_of key (a ∷ b ∷ c ∷ d ∷ e ∷ f ∷ []) ≡ form_of key (a ∷ b ∷ c ∷ d ∷ e ∷ f ∷ more)
-form_of_long keyword.Registers a b c d e f more = refl
-form_of_long keyword.Process a b c d e f more = refl
-form_of_long keyword.End a b c d e f more = refl
-form_of_long keyword.Set a b c d e f more = refl
-form_of_long keyword.Read a b c d e f more = refl
-form_of_long keyword.Write a b c d e f more = refl
-form_of_long keyword.Scan a b c d e f more = refl
-form_of_long keyword.If a b c d e f more = refl
-form_of_long keyword.Else a b c d e f more = refl
-form_of_long keyword.Fi a b c d e f more = refl
-form_of_long keyword.Repeat a b c d e f more = refl
-form_of_long keyword.Done a b c d e f more = refl
-form_of_long keyword.Emit a b c d e f more = refl
-form_of_long keyword.Halt a b c d e f more = refl
-form_of_long keyword.Use a b c d e f more = use_of_long (kind_of a) b c d e f more
-form_of_long keyword.Check a b c d e f more = refl
+-- how many words arguments of these sorts are at most
+abbrev longest : List Sort → ℕ
+longest [] = 0
+longest (sort.Expression ∷ sorts) = 3
+longest (sort ∷ sorts) = suc (longest sorts)
 
--- six words after the first one tell the form
+expr_of-take : (n : ℕ) (ws : List Word) → 3 < n → expr_of (take n ws) ≡ expr_of ws
+expr_of-take (suc (suc (suc (suc n)))) [] h = refl
+expr_of-take (suc (suc (suc (suc n)))) (a ∷ []) h = refl
+expr_of-take (suc (suc (suc (suc n)))) (a ∷ b ∷ []) h = refl
+expr_of-take (suc (suc (suc (suc n)))) (a ∷ b ∷ c ∷ []) h = refl
+expr_of-take (suc (suc (suc (suc n)))) (a ∷ b ∷ c ∷ d ∷ ws) h = refl
+expr_of-take n ws h = absurd (omega (arith, h))
+
+arguments-take : (n : ℕ) (sorts : List Sort) (ws : List Word) → longest sorts < n → arguments sorts (take n ws) ≡ arguments sorts ws
+arguments-take zero sorts ws h = absurd (omega (arith, h))
+arguments-take (suc n) [] [] h = refl
+arguments-take (suc n) [] (w ∷ ws) h = refl
+arguments-take (suc n) (sort.Expression ∷ sorts) ws h = ap (option_map (λ e. argument.Expression e ∷ [])) (expr_of-take (suc n) ws h)
+arguments-take (suc n) (sort ∷ sorts) [] h = refl
+arguments-take (suc n) (sort ∷ sorts) (w ∷ ws) h = ap (and_more (argument_of sort w)) (arguments-take n sorts ws (omega (arith, h)))
+
+-- ---- no line has more than five words after its first one
+
+few_after : (key : Keyword) → longest (sorts_after key) < 6
+few_after keyword.Registers = omega arith
+few_after _ = omega arith
+
+few_of_kind : (kind : Kind) → longest (kind_sorts kind) < 5
+few_of_kind kind.Split = omega arith
+few_of_kind _ = omega arith
+
+few_of_property : (property : Property) → longest (property_sorts property) < 5
+few_of_property property.Distinct = omega arith
+few_of_property _ = omega arith
+
+use_of-take : (kind : Option Kind) (ws : List Word) → option_and_then (λ kind. use_of kind (take 5 ws)) kind ≡ option_and_then (λ kind. use_of kind ws) kind
+use_of-take (Some kind) ws = ap (option_and_then (use_with kind)) (arguments-take 5 (kind_sorts kind) ws (few_of_kind kind))
+use_of-take None ws = refl
+
+use_form-take : (more : List Word) → use_form (take 6 more) ≡ use_form more
+use_form-take [] = refl
+use_form-take (w ∷ ws) = ap (option_map line.Use) (use_of-take (kind_of w) ws)
+
+-- the first six of the words after the first one tell the form
 pub form_of-take : (key : Keyword) (more : List Word) → form_of key (take 6 more) ≡ form_of key more
-form_of-take key [] = refl
-form_of-take key (a ∷ []) = refl
-form_of-take key (a ∷ b ∷ []) = refl
-form_of-take key (a ∷ b ∷ c ∷ []) = refl
-form_of-take key (a ∷ b ∷ c ∷ d ∷ []) = refl
-form_of-take key (a ∷ b ∷ c ∷ d ∷ e ∷ []) = refl
-form_of-take key (a ∷ b ∷ c ∷ d ∷ e ∷ f ∷ more) = form_of_long key a b c d e f more
+form_of-take keyword.Use more = use_form-take more
+form_of-take key more = ap (option_and_then (line_with key)) (arguments-take 6 (sorts_after key) more (few_after key))
 
-property_long : (p : Property) (b c d e f : Word) (more : List Word) → property_clause p (b ∷ c ∷ d ∷ e ∷ f ∷ []) ≡ property_clause p (b ∷ c ∷ d ∷ e ∷ f ∷ more)
-property_long property.Distinct b c d e f more = refl
-property_long property.AtMost b c d e f more = refl
-property_long property.Within b c d e f more = refl
-property_long property.Adaptive b c d e f more = refl
-property_long property.Triangle b c d e f more = refl
-property_long property.SelfSeen b c d e f more = refl
-property_long property.Ended b c d e f more = refl
-property_long property.NoFault b c d e f more = refl
+property_clause-take : (property : Option Property) (ws : List Word) → option_and_then (λ property. property_clause property (take 5 ws)) property ≡ option_and_then (λ property. property_clause property ws) property
+property_clause-take (Some property) ws = ap (option_and_then (clause_with property)) (arguments-take 5 (property_sorts property) ws (few_of_property property))
+property_clause-take None ws = refl
 
-clause_of_long : (a b c d e f : Word) (more : List Word) → clause_of (a ∷ b ∷ c ∷ d ∷ e ∷ f ∷ []) ≡ clause_of (a ∷ b ∷ c ∷ d ∷ e ∷ f ∷ more)
-clause_of_long (word.Property p) b c d e f more = property_long p b c d e f more
-clause_of_long (word.Keyword key) b c d e f more = refl
-clause_of_long (word.Number n) b c d e f more = refl
-clause_of_long word.NoNumber b c d e f more = refl
-clause_of_long (word.Var i) b c d e f more = refl
-clause_of_long (word.Cell i) b c d e f more = refl
-clause_of_long (word.CellOf i) b c d e f more = refl
-clause_of_long (word.Operator op) b c d e f more = refl
-clause_of_long (word.Kind k) b c d e f more = refl
-clause_of_long word.Comment b c d e f more = refl
-clause_of_long word.Other b c d e f more = refl
-
--- six words after `check` tell the clause
+-- and the clause
 pub clause_of-take : (words : List Word) → clause_of (take 6 words) ≡ clause_of words
 clause_of-take [] = refl
-clause_of-take (a ∷ []) = refl
-clause_of-take (a ∷ b ∷ []) = refl
-clause_of-take (a ∷ b ∷ c ∷ []) = refl
-clause_of-take (a ∷ b ∷ c ∷ d ∷ []) = refl
-clause_of-take (a ∷ b ∷ c ∷ d ∷ e ∷ []) = refl
-clause_of-take (a ∷ b ∷ c ∷ d ∷ e ∷ f ∷ more) = clause_of_long a b c d e f more
+clause_of-take (w ∷ ws) = property_clause-take (property_of w) ws
 
 pub keyword_line_from : (key : Keyword) (more : List Word) → list_all is_known more ≡ true → list_any is_no_number more ≡ false → keyword_line key more ≡ or_fault 4 (form_of key more)
 keyword_line_from key more known numbers = rw (known, numbers) refl
 
-pub read_check : (line first rest : List ℕ) → is_printable line ≡ true → words line ≡ first ∷ words rest → word_of first ≡ word.Keyword keyword.Check → read_line line ≡ Ok (Some (Check (clause_of (map word_of (words rest)))))
-read_check line first rest printable cut key =
+pub read_check : (bytes first rest : List ℕ) → is_printable bytes ≡ true → words bytes ≡ first ∷ words rest → word_of first ≡ word.Keyword keyword.Check → read_line bytes ≡ Ok (Some (line.Check (clause_of (map word_of (words rest)))))
+read_check bytes first rest printable cut key =
     cond-true _ _ (Err 1) printable ∙ ap (λ ws. line_of (map word_of ws)) cut ∙ ap (λ f. line_of (f ∷ map word_of (words rest))) key

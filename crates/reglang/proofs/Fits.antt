@@ -248,9 +248,6 @@ and_true : (x : Bool) → x ≡ true → x && true ≡ true
 and_true x h = ap (λ y. y && true) h
 
 inside : (before : Contents) (frames : List Frame) (block : Block) (n : ℕ) (l : Line) → InsideFits before frames block n → Fitting (take_line (Inside before frames block n) l)
-inside before frames block n (line.Registers r) h = tt
-inside before frames block n line.Process h = tt
-inside before frames block n (line.Check clause) h = tt
 inside before frames block n (line.Set to value) h = added before frames block n (target_fits to && expr_fits value) (program.Assign to value Stop) h (and_true _) refl refl refl
 inside before frames block n (line.Read to from) h = added before frames block n (target_fits to && operand_fits from) (program.Read to from Stop) h (and_true _) refl refl refl
 inside before frames block n (line.Write to value) h = added before frames block n (operand_fits to && expr_fits value) (program.Write to value Stop) h (and_true _) refl refl refl
@@ -264,6 +261,7 @@ inside before frames block n line.Fi h = fi_left before frames block n h
 inside before frames block n line.Done h = done_left before frames block n h
 inside before frames block n line.End h = ended before frames block n h
 inside before frames block n (line.Use kind) h = stood before frames block n kind (nat_lt 0 n) h
+inside before frames block n _ h = tt
 
 begins : (l : Line) → Fitting (take_line Empty l)
 begins (line.Registers n) =
@@ -279,21 +277,7 @@ begins (line.Registers n) =
       few_clauses = omega arith;
       clauses_fit = All-from_recursion (λ clause. clause_fits clause ≡ true) [] tt;
     })
-begins line.Process = tt
-begins line.End = tt
-begins (line.Set to value) = tt
-begins (line.Read to from) = tt
-begins (line.Write to value) = tt
-begins (line.Scan cell first count) = tt
-begins (line.If test) = tt
-begins line.Else = tt
-begins line.Fi = tt
-begins (line.Repeat count) = tt
-begins line.Done = tt
-begins (line.Emit value) = tt
-begins line.Halt = tt
-begins (line.Use kind) = tt
-begins (line.Check clause) = tt
+begins _ = tt
 
 refused : (t : Bool) → Fitting (if t then Err 8 else Err 6)
 refused true = tt
@@ -316,38 +300,11 @@ between before (line.Check (Some clause)) h k =
       clauses_fit = All-append (λ clause. clause_fits clause ≡ true) before.clauses (clause ∷ []) h.clauses_fit (All-from_recursion (λ clause. clause_fits clause ≡ true) (clause ∷ []) (k, tt));
     })
 between before (line.Check None) h k = refused (nat_lt (length before.clauses) 16)
-between before (line.Registers n) h k = tt
-between before line.End h k = tt
-between before (line.Set to value) h k = tt
-between before (line.Read to from) h k = tt
-between before (line.Write to value) h k = tt
-between before (line.Scan cell first count) h k = tt
-between before (line.If test) h k = tt
-between before line.Else h k = tt
-between before line.Fi h k = tt
-between before (line.Repeat count) h k = tt
-between before line.Done h k = tt
-between before (line.Emit value) h k = tt
-between before line.Halt h k = tt
-between before (line.Use kind) h k = tt
+between before _ h k = tt
 
 used : (before : Contents) (kind : Use) (l : Line) → UsedFits before kind → Fitting (take_line (Used before kind) l)
 used before kind line.End h = process_more before (Kind kind) h.contents h.room h.fits
-used before kind (line.Registers n) h = tt
-used before kind line.Process h = tt
-used before kind (line.Set to value) h = tt
-used before kind (line.Read to from) h = tt
-used before kind (line.Write to value) h = tt
-used before kind (line.Scan cell first count) h = tt
-used before kind (line.If test) h = tt
-used before kind line.Else h = tt
-used before kind line.Fi h = tt
-used before kind (line.Repeat count) h = tt
-used before kind line.Done h = tt
-used before kind (line.Emit value) h = tt
-used before kind line.Halt h = tt
-used before kind (line.Use other) h = tt
-used before kind (line.Check clause) h = tt
+used before kind _ h = tt
 
 line_fits : (reading : Reading) (l : Line) → ReadingFits reading → IsLineFit l → Fitting (take_line reading l)
 line_fits Empty l h k = begins l

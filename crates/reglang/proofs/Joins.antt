@@ -8,13 +8,7 @@ use Rattle.reglang.specs.Drafts.{◌⊕◌}
 -- a statement before a block
 pub with_stmt-join : (s : Stmt) (a b : Block) → with_stmt s (a ⊕ b) ≡ with_stmt s a ⊕ b
 with_stmt-join (stmt.Assign t e) a b = refl
-with_stmt-join (stmt.Read t o) a b = refl
-with_stmt-join (stmt.Write o e) a b = refl
-with_stmt-join (stmt.Scan cell first count) a b = refl
-with_stmt-join (stmt.If' e m first k second) a b = refl
-with_stmt-join (stmt.Repeat' e m body) a b = refl
-with_stmt-join (stmt.Emit e) a b = refl
-with_stmt-join stmt.Halt a b = refl
+with_stmt-join _ a b = refl
 
 -- a statement after a list of them
 pub block_of-push : (xs : List Stmt) (s : Stmt) → block_of (xs ++ s ∷ []) ≡ block_of xs ⊕ with_stmt s Stop

@@ -11,7 +11,7 @@ use Rattle.regmodel.specs.Limits.{target_fits, operand_fits, expr_fits, scan_fit
 use Rattle.regmodel.specs.Program as program
 use Rattle.regmodel.specs.Program.{Block, Stop}
 use Rattle.reglang.specs.Contents.{Contents, Body, Text, Kind, IsBodyWithin, IsSourceWithin}
-use Rattle.reglang.specs.Drafts.{Frame, First, Second, Turn, Reading, Empty, Between, Inside, Used, ◌⊕◌, turns, add, enter, take_line, BlockFits}
+use Rattle.reglang.specs.Drafts.{Frame, First, Second, Turn, Reading, Empty, Between, Inside, Used, ◌⊕◌, turns, add, enter, take_line, with_body, with_clause, BlockFits}
 use Rattle.reglang.specs.Grammar.{Begins, Then, BlockSays, ElseSays, BodySays, Part, Process, Check, PartSays, PartsSay, processes_in, clauses_in, LinesSay}
 use Rattle.reglang.specs.declared.forms.Line.{Line}
 use Rattle.reglang.specs.declared.forms.Line.TheVariants as line
@@ -168,14 +168,8 @@ block_leads (program.Repeat count body rest) lines h before frames block n fits 
 
 -- ---- processes and checks
 
-abbrev with_process : Contents → Body → Contents
-with_process before body = record before { processes = before.processes ++ body ∷ [] }
-
-abbrev with_clause : Contents → Clause → Contents
-with_clause before clause = record before { clauses = before.clauses ++ clause ∷ [] }
-
 -- a process, after its first line
-body_leads : (before : Contents) (body : Body) → IsBodyWithin before.registers body → (lines : List Line) → Then (BodySays body) (λ last. last ≡ line.End ∷ []) lines → takes (Inside before [] Stop 0) lines ≡ Ok (Between (with_process before body))
+body_leads : (before : Contents) (body : Body) → IsBodyWithin before.registers body → (lines : List Line) → Then (BodySays body) (λ last. last ≡ line.End ∷ []) lines → takes (Inside before [] Stop 0) lines ≡ Ok (Between (with_body before body))
 body_leads before (Text block) fits lines t =
     let operands = fits.operands in
     let few = fits.statements in
@@ -189,7 +183,7 @@ body_leads before (Kind kind) fits lines t =
     ap (takes (Inside before [] Stop 0)) (t.whole ∙ (ap (λ ls. ls ++ t.back) t.before ∙ ap (λ ls. line.Use kind ∷ ls) t.after))
     ∙ first_lead (Inside before [] Stop 0) (Used before kind) (line.Use kind) (line.End ∷ []) _ (rw fits refl) refl
 
-process_leads : (before : Contents) (body : Body) → length before.processes < 8 → IsBodyWithin before.registers body → (lines : List Line) → PartSays (Process body) lines → takes (Between before) lines ≡ Ok (Between (with_process before body))
+process_leads : (before : Contents) (body : Body) → length before.processes < 8 → IsBodyWithin before.registers body → (lines : List Line) → PartSays (Process body) lines → takes (Between before) lines ≡ Ok (Between (with_body before body))
 process_leads before body room fits lines h =
     ap (takes (Between before)) h.whole
     ∙ first_lead (Between before) (Inside before [] Stop 0) line.Process h.more _ (rw (lt-ltb (length before.processes) 8 room) refl) (body_leads before body fits h.more h.holds)
@@ -217,7 +211,7 @@ parts_lead (Process body ∷ parts) before room lines t =
     let processes = room.processes in
     let clauses = room.clauses in
     let count = length-append before.processes (body ∷ []) in
-    let next = with_process before body in
+    let next = with_body before body in
     ap (takes (Between before)) t.whole
     ∙ then_lead (Between before) (Between next) t.front t.back _
     (process_leads before body (omega arith) room.bodies.0 t.front t.before)

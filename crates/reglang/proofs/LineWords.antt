@@ -1,7 +1,10 @@
 -- The words of a line within its limits make the line.
 use Rattle.std.proofs.Common.{◌≡◌, Bool, true, false, not, ◌&&◌, ◌||◌, leb, List, [], ◌∷◌, Some, None, Ok, refl, ap, ◌∙◌, arith}
+use Rattle.std.specs.Prelude.{option_and_then, option_map}
 use Rattle.std.specs.List.{list_all, list_any}
-use Rattle.std.proofs.lemmas.Bool.{and_from, and_parts, le-leb, leb-true}
+use Rattle.std.proofs.lemmas.Bool.{and_from, and_parts, cond-true, le-leb, leb-true}
+use Rattle.std.proofs.lemmas.List.{append-nil}
+use Rattle.std.proofs.lemmas.List.Folds.{list_all-append}
 use Rattle.regmodel.specs.declared.programs.Target.{Target}
 use Rattle.regmodel.specs.declared.programs.Target.TheVariants as target
 use Rattle.regmodel.specs.declared.programs.Operand.{Operand}
@@ -11,42 +14,49 @@ use Rattle.regmodel.specs.declared.programs.Expr.TheVariants as expr
 use Rattle.regmodel.specs.declared.clauses.Clause.{Clause}
 use Rattle.regmodel.specs.declared.clauses.Clause.TheVariants as clause
 use Rattle.regmodel.specs.Limits.{target_fits, operand_fits, expr_fits}
+use Rattle.reglang.specs.Arguments.{are_of, clause_parts, clause_with, line_parts, line_with, use_parts}
 use Rattle.reglang.specs.Contents.{clause_fits}
-use Rattle.reglang.specs.Forms.{target_of, operand_of, expr_of, clause_of, form_of, is_known, is_no_number, or_fault, keyword_line, line_of}
-use Rattle.reglang.specs.Writing.{target_word, operand_word, expr_words, use_words, clause_words, later_words, line_words}
+use Rattle.reglang.specs.Forms.{and_more, arguments, clause_of, expr_of, form_of, is_known, is_no_number, keyword_line, line_of, operand_of, or_fault, target_of, use_of}
+use Rattle.reglang.specs.Sorts.{property_sorts, sorts_after}
+use Rattle.reglang.specs.Writing.{argument_words, arguments_words, clause_words, expr_words, later_words, line_words, operand_word, target_word, use_words}
 use Rattle.uses.specs.declared.kinds.Use.{Use}
 use Rattle.uses.specs.declared.kinds.Use.TheVariants as use_line
+use Rattle.reglang.specs.declared.arguments.Argument.{Argument}
+use Rattle.reglang.specs.declared.arguments.Argument.TheVariants as argument
+use Rattle.reglang.specs.declared.sorts.Sort.{Sort}
+use Rattle.reglang.specs.declared.sorts.Sort.TheVariants as sort
 use Rattle.reglang.specs.declared.words.Keyword.{Keyword}
 use Rattle.reglang.specs.declared.words.Keyword.TheVariants as keyword
+use Rattle.reglang.specs.declared.words.Property.{Property}
+use Rattle.reglang.specs.declared.words.Property.TheVariants as property
 use Rattle.reglang.specs.declared.words.Word.{Word}
 use Rattle.reglang.specs.declared.forms.Line.{Line}
 use Rattle.reglang.specs.declared.forms.Line.TheVariants as line
 use Rattle.reglang.proofs.FirstWords.{keyword_line_from}
 use Rattle.reglang.proofs.WordTexts.{word_fits}
 
+-- an argument within its limits
+abbrev argument_fits : Argument → Bool
+argument_fits (argument.Number n) = leb n 1000000000
+argument_fits (argument.Target to) = target_fits to
+argument_fits (argument.Operand a) = operand_fits a
+argument_fits (argument.Expression value) = expr_fits value
+
+abbrev all_fit : List Argument → Bool
+all_fit [] = true
+all_fit (a ∷ []) = argument_fits a
+all_fit (a ∷ b ∷ more) = argument_fits a && all_fit (b ∷ more)
+
 -- each number of a use line is at most 1000000000
 abbrev pub numbers_small : Use → Bool
-numbers_small kind = list_all word_fits (use_words kind)
+numbers_small kind = all_fit (use_parts kind).1
 
 -- a line within its limits
 abbrev pub line_fits : Line → Bool
-line_fits (line.Registers n) = leb n 1000000000
-line_fits line.Process = true
-line_fits line.End = true
-line_fits (line.Set to value) = target_fits to && expr_fits value
-line_fits (line.Read to from) = target_fits to && operand_fits from
-line_fits (line.Write to value) = operand_fits to && expr_fits value
-line_fits (line.Scan cell first count) = list_all word_fits (later_words (line.Scan cell first count))
-line_fits (line.If test) = expr_fits test
-line_fits line.Else = true
-line_fits line.Fi = true
-line_fits (line.Repeat count) = expr_fits count
-line_fits line.Done = true
-line_fits (line.Emit value) = expr_fits value
-line_fits line.Halt = true
 line_fits (line.Use kind) = numbers_small kind
 line_fits (line.Check (Some clause)) = clause_fits clause
 line_fits (line.Check None) = false
+line_fits line = all_fit (line_parts line).1
 
 -- ---- each word is within its limit
 
@@ -67,46 +77,50 @@ expr_fit (expr.Two a op b) h =
     let parts = and_parts (operand_fits a) (operand_fits b) h in
     and_from (word_fits (operand_word a)) (word_fits (operand_word b) && true) (operand_fit a parts.0) (and_from (word_fits (operand_word b)) true (operand_fit b parts.1) refl)
 
-clause_fit : (c : Clause) → clause_fits c ≡ true → list_all word_fits (clause_words c) ≡ true
-clause_fit clause.Distinct h = refl
-clause_fit (clause.AtMost name count) h =
-    let parts = and_parts (leb name 1000000000) (leb count 8) h in
-    let few = leb-true count 8 parts.1 in
-    rw (parts.0, le-leb count 1000000000 (omega arith)) refl
-clause_fit (clause.Within low high) h = let parts = and_parts (leb low 1000000000) (leb high 1000000000) h in rw (parts.0, parts.1) refl
-clause_fit clause.Adaptive h = refl
-clause_fit clause.Triangle h = refl
-clause_fit clause.SelfSeen h = refl
-clause_fit clause.Ended h = refl
-clause_fit clause.NoFault h = refl
+argument_fit : (a : Argument) → argument_fits a ≡ true → list_all word_fits (argument_words a) ≡ true
+argument_fit (argument.Number n) h = and_from (leb n 1000000000) true h refl
+argument_fit (argument.Target to) h = and_from (word_fits (target_word to)) true (target_fit to h) refl
+argument_fit (argument.Operand a) h = and_from (word_fits (operand_word a)) true (operand_fit a h) refl
+argument_fit (argument.Expression value) h = expr_fit value h
+
+arguments_fit : (list : List Argument) → all_fit list ≡ true → list_all word_fits (arguments_words list) ≡ true
+arguments_fit [] h = refl
+arguments_fit (a ∷ []) h = ap (list_all word_fits) (append-nil (argument_words a)) ∙ argument_fit a h
+arguments_fit (a ∷ b ∷ more) h =
+    let parts = and_parts (argument_fits a) (all_fit (b ∷ more)) h in
+    list_all-append word_fits (argument_words a) (arguments_words (b ∷ more))
+    ∙ and_from (list_all word_fits (argument_words a)) (list_all word_fits (arguments_words (b ∷ more))) (argument_fit a parts.0) (arguments_fit (b ∷ more) parts.1)
+
+-- what follows a property is a number up to a limit
+abbrev is_small : Sort → Bool
+is_small (sort.NumberTo limit) = leb limit 1000000000
+is_small _ = false
+
+numbers_fit : (sorts : List Sort) (list : List Argument) → list_all is_small sorts ≡ true → are_of sorts list ≡ true → list_all word_fits (arguments_words list) ≡ true
+numbers_fit [] [] k h = refl
+numbers_fit (sort.NumberTo limit ∷ sorts) (argument.Number n ∷ more) k h =
+    let small = and_parts (leb limit 1000000000) (list_all is_small sorts) k in
+    let parts = and_parts (leb n limit) (are_of sorts more) h in
+    let most = leb-true limit 1000000000 small.0 in
+    let few = leb-true n limit parts.0 in
+    and_from (leb n 1000000000) (list_all word_fits (arguments_words more)) (le-leb n 1000000000 (omega (arith, most, few))) (numbers_fit sorts more small.1 parts.1)
+numbers_fit _ _ k h = cc
+
+small_of_property : (p : Property) → list_all is_small (property_sorts p) ≡ true
+small_of_property property.Distinct = refl
+small_of_property _ = refl
 
 later_fit : (l : Line) → line_fits l ≡ true → list_all word_fits (later_words l) ≡ true
-later_fit (line.Registers n) h = and_from (leb n 1000000000) true h refl
-later_fit line.Process h = refl
-later_fit line.End h = refl
-later_fit (line.Set to value) h = let parts = and_parts (target_fits to) (expr_fits value) h in and_from (word_fits (target_word to)) (list_all word_fits (expr_words value)) (target_fit to parts.0) (expr_fit value parts.1)
-later_fit (line.Read to from) h =
-    let parts = and_parts (target_fits to) (operand_fits from) h in
-    and_from (word_fits (target_word to)) (word_fits (operand_word from) && true) (target_fit to parts.0) (and_from (word_fits (operand_word from)) true (operand_fit from parts.1) refl)
-later_fit (line.Write to value) h = let parts = and_parts (operand_fits to) (expr_fits value) h in and_from (word_fits (operand_word to)) (list_all word_fits (expr_words value)) (operand_fit to parts.0) (expr_fit value parts.1)
-later_fit (line.Scan cell first count) h = h
-later_fit (line.If test) h = expr_fit test h
-later_fit line.Else h = refl
-later_fit line.Fi h = refl
-later_fit (line.Repeat count) h = expr_fit count h
-later_fit line.Done h = refl
-later_fit (line.Emit value) h = expr_fit value h
-later_fit line.Halt h = refl
-later_fit (line.Use kind) h = h
-later_fit (line.Check (Some clause)) h = clause_fit clause h
+later_fit (line.Use kind) h = arguments_fit (use_parts kind).1 h
+later_fit (line.Check (Some clause)) h = numbers_fit (property_sorts (clause_parts clause).0) (clause_parts clause).1 (small_of_property (clause_parts clause).0) h
 later_fit (line.Check None) h = cc
+later_fit l h = arguments_fit (line_parts l).1 h
 
 pub words_fit : (l : Line) → line_fits l ≡ true → list_all word_fits (line_words l) ≡ true
 words_fit l h = later_fit l h
 
--- ---- the words make the line
+-- ---- the words may stand after the first one
 
--- a word that may stand after the first one
 abbrev may_follow : Word → Bool
 may_follow w = is_known w && not (is_no_number w)
 
@@ -126,9 +140,6 @@ all_numbers (w ∷ ws) h =
     let parts = and_parts (may_follow w) (list_all may_follow ws) h in
     no_number_or (is_no_number w) (list_any is_no_number ws) (and_parts (is_known w) (not (is_no_number w)) parts.0).1 (all_numbers ws parts.1)
 
-keyword_line_again : (key : Keyword) (more : List Word) → list_all may_follow more ≡ true → keyword_line key more ≡ or_fault 4 (form_of key more)
-keyword_line_again key more h = keyword_line_from key more (all_known more h) (all_numbers more h)
-
 target_follows : (t : Target) → may_follow (target_word t) ≡ true
 target_follows (target.Var i) = refl
 target_follows (target.Cell i) = refl
@@ -140,9 +151,24 @@ operand_follows (operand.Var i) = refl
 operand_follows (operand.Cell i) = refl
 operand_follows (operand.CellOf i) = refl
 
-expr_follows : (e : Expr) → list_all may_follow (expr_words e) ≡ true
-expr_follows (expr.One a) = and_from (may_follow (operand_word a)) true (operand_follows a) refl
-expr_follows (expr.Two a op b) = and_from (may_follow (operand_word a)) (may_follow (operand_word b) && true) (operand_follows a) (and_from (may_follow (operand_word b)) true (operand_follows b) refl)
+argument_follows : (a : Argument) → list_all may_follow (argument_words a) ≡ true
+argument_follows (argument.Number n) = refl
+argument_follows (argument.Target to) = and_from (may_follow (target_word to)) true (target_follows to) refl
+argument_follows (argument.Operand a) = and_from (may_follow (operand_word a)) true (operand_follows a) refl
+argument_follows (argument.Expression (expr.One a)) = and_from (may_follow (operand_word a)) true (operand_follows a) refl
+argument_follows (argument.Expression (expr.Two a op b)) =
+    and_from (may_follow (operand_word a)) (may_follow (operand_word b) && true) (operand_follows a) (and_from (may_follow (operand_word b)) true (operand_follows b) refl)
+
+arguments_follow : (list : List Argument) → list_all may_follow (arguments_words list) ≡ true
+arguments_follow [] = refl
+arguments_follow (a ∷ more) =
+    list_all-append may_follow (argument_words a) (arguments_words more)
+    ∙ and_from (list_all may_follow (argument_words a)) (list_all may_follow (arguments_words more)) (argument_follows a) (arguments_follow more)
+
+keyword_line_again : (key : Keyword) (more : List Word) → list_all may_follow more ≡ true → keyword_line key more ≡ or_fault 4 (form_of key more)
+keyword_line_again key more h = keyword_line_from key more (all_known more h) (all_numbers more h)
+
+-- ---- the words make the arguments
 
 target_again : (t : Target) → target_of (target_word t) ≡ Some t
 target_again (target.Var i) = refl
@@ -159,44 +185,43 @@ expr_again : (e : Expr) → expr_of (expr_words e) ≡ Some e
 expr_again (expr.One a) = rw (operand_again a) refl
 expr_again (expr.Two a op b) = rw (operand_again a, operand_again b) refl
 
-use_again : (kind : Use) → line_of (line_words (line.Use kind)) ≡ Ok (Some (line.Use kind))
+arguments_again : (sorts : List Sort) (list : List Argument) → are_of sorts list ≡ true → arguments sorts (arguments_words list) ≡ Some list
+arguments_again [] [] h = refl
+arguments_again (sort.Number ∷ sorts) (argument.Number n ∷ more) h = ap (and_more (Some (argument.Number n))) (arguments_again sorts more h)
+arguments_again (sort.NumberTo limit ∷ sorts) (argument.Number n ∷ more) h =
+    let parts = and_parts (leb n limit) (are_of sorts more) h in
+    ap (λ o. and_more (option_map argument.Number o) (arguments sorts (arguments_words more))) (cond-true _ (Some n) None parts.0)
+    ∙ ap (and_more (Some (argument.Number n))) (arguments_again sorts more parts.1)
+arguments_again (sort.Target ∷ sorts) (argument.Target to ∷ more) h =
+    ap (λ o. and_more (option_map argument.Target o) (arguments sorts (arguments_words more))) (target_again to)
+    ∙ ap (and_more (Some (argument.Target to))) (arguments_again sorts more h)
+arguments_again (sort.Operand ∷ sorts) (argument.Operand a ∷ more) h =
+    ap (λ o. and_more (option_map argument.Operand o) (arguments sorts (arguments_words more))) (operand_again a)
+    ∙ ap (and_more (Some (argument.Operand a))) (arguments_again sorts more h)
+arguments_again (sort.Expression ∷ sorts) (argument.Expression value ∷ []) h =
+    ap (λ ws. option_map (λ e. argument.Expression e ∷ []) (expr_of ws)) (append-nil (expr_words value))
+    ∙ ap (option_map (λ e. argument.Expression e ∷ [])) (expr_again value)
+arguments_again _ _ h = cc
+
+-- ---- and the arguments the line
+
+use_again : (kind : Use) → use_of (use_parts kind).0 (arguments_words (use_parts kind).1) ≡ Some kind
 use_again (use_line.Split base id) = refl
-use_again (use_line.Grid base side id) = refl
-use_again (use_line.Tree base depth id value) = refl
-use_again (use_line.Name base slots slot) = refl
-use_again (use_line.Names base slots slot) = refl
+use_again _ = refl
+
+clause_with_parts : (c : Clause) → clause_with (clause_parts c).0 (clause_parts c).1 ≡ Some c
+clause_with_parts clause.Distinct = refl
+clause_with_parts _ = refl
 
 clause_again : (c : Clause) → clause_fits c ≡ true → clause_of (clause_words c) ≡ Some c
-clause_again clause.Distinct h = refl
-clause_again (clause.AtMost name count) h = let parts = and_parts (leb name 1000000000) (leb count 8) h in rw (parts.0, parts.1) refl
-clause_again (clause.Within low high) h = let parts = and_parts (leb low 1000000000) (leb high 1000000000) h in rw (parts.0, parts.1) refl
-clause_again clause.Adaptive h = refl
-clause_again clause.Triangle h = refl
-clause_again clause.SelfSeen h = refl
-clause_again clause.Ended h = refl
-clause_again clause.NoFault h = refl
+clause_again c h = ap (option_and_then (clause_with (clause_parts c).0)) (arguments_again (property_sorts (clause_parts c).0) (clause_parts c).1 h) ∙ clause_with_parts c
 
 pub line_again : (l : Line) → line_fits l ≡ true → line_of (line_words l) ≡ Ok (Some l)
-line_again (line.Registers n) h = refl
-line_again line.Process h = refl
-line_again line.End h = refl
-line_again (line.Set to value) h =
-    keyword_line_again keyword.Set (target_word to ∷ expr_words value) (and_from (may_follow (target_word to)) (list_all may_follow (expr_words value)) (target_follows to) (expr_follows value))
-    ∙ rw (target_again to, expr_again value) refl
-line_again (line.Read to from) h =
-    keyword_line_again keyword.Read (target_word to ∷ operand_word from ∷ []) (and_from (may_follow (target_word to)) (may_follow (operand_word from) && true) (target_follows to) (and_from (may_follow (operand_word from)) true (operand_follows from) refl))
-    ∙ rw (target_again to, operand_again from) refl
-line_again (line.Write to value) h =
-    keyword_line_again keyword.Write (operand_word to ∷ expr_words value) (and_from (may_follow (operand_word to)) (list_all may_follow (expr_words value)) (operand_follows to) (expr_follows value))
-    ∙ rw (operand_again to, expr_again value) refl
-line_again (line.Scan cell first count) h = refl
-line_again (line.If test) h = keyword_line_again keyword.If (expr_words test) (expr_follows test) ∙ rw (expr_again test) refl
-line_again line.Else h = refl
-line_again line.Fi h = refl
-line_again (line.Repeat count) h = keyword_line_again keyword.Repeat (expr_words count) (expr_follows count) ∙ rw (expr_again count) refl
-line_again line.Done h = refl
-line_again (line.Emit value) h = keyword_line_again keyword.Emit (expr_words value) (expr_follows value) ∙ rw (expr_again value) refl
-line_again line.Halt h = refl
-line_again (line.Use kind) h = use_again kind
+line_again (line.Use kind) h =
+    keyword_line_again keyword.Use (use_words kind) (arguments_follow (use_parts kind).1)
+    ∙ ap (λ o. or_fault 4 (option_map line.Use o)) (use_again kind)
 line_again (line.Check (Some clause)) h = ap (λ c. Ok (Some (line.Check c))) (clause_again clause h)
 line_again (line.Check None) h = cc
+line_again l h =
+    keyword_line_again (line_parts l).0 (arguments_words (line_parts l).1) (arguments_follow (line_parts l).1)
+    ∙ ap (λ o. or_fault 4 (option_and_then (line_with (line_parts l).0) o)) (arguments_again (sorts_after (line_parts l).0) (line_parts l).1 refl)

@@ -194,45 +194,18 @@ refused reading l true = tt
 refused reading l false = tt
 
 between : (before : Contents) (l : Line) → Keeps (Between before) l (take_line (Between before) l)
-between before (line.Registers n) = tt
 between before line.Process =
     kept (Between before) line.Process _ (nat_lt (length before.processes) 8) 6 (then_new _ _ (line.Process ∷ []) (alone line.Process))
-between before line.End = tt
-between before (line.Set to value) = tt
-between before (line.Read to from) = tt
-between before (line.Write to value) = tt
-between before (line.Scan cell first count) = tt
-between before (line.If test) = tt
-between before line.Else = tt
-between before line.Fi = tt
-between before (line.Repeat count) = tt
-between before line.Done = tt
-between before (line.Emit value) = tt
-between before line.Halt = tt
-between before (line.Use kind) = tt
 between before (line.Check (Some clause)) =
     kept (Between before) (line.Check (Some clause)) _ (nat_lt (length before.clauses) 16) 6 (lines_check before clause (line.Check (Some clause) ∷ []) refl)
 between before (line.Check None) = refused (Between before) (line.Check None) (nat_lt (length before.clauses) 16)
+between before _ = tt
 
 begins : (l : Line) → Keeps Empty l (take_line Empty l)
 begins (line.Registers n) =
     kept Empty (line.Registers n) _ (is_between 1 64 n) 6
     (λ x h. record { parts = []; whole = record { more = []; whole = ap (λ lines. lines ++ line.Registers n ∷ []) h; holds = refl }; processes = refl; clauses = refl })
-begins line.Process = tt
-begins line.End = tt
-begins (line.Set to value) = tt
-begins (line.Read to from) = tt
-begins (line.Write to value) = tt
-begins (line.Scan cell first count) = tt
-begins (line.If test) = tt
-begins line.Else = tt
-begins line.Fi = tt
-begins (line.Repeat count) = tt
-begins line.Done = tt
-begins (line.Emit value) = tt
-begins line.Halt = tt
-begins (line.Use kind) = tt
-begins (line.Check clause) = tt
+begins _ = tt
 
 used : (before : Contents) (kind : Use) (l : Line) → Keeps (Used before kind) l (take_line (Used before kind) l)
 used before kind line.End =
@@ -242,32 +215,11 @@ used before kind line.End =
       whole = ap (λ lines. lines ++ line.End ∷ []) h;
       holds = record { front = line.Use kind ∷ []; back = line.End ∷ []; whole = refl; before = refl; after = refl };
     })
-used before kind (line.Registers n) = tt
-used before kind line.Process = tt
-used before kind (line.Set to value) = tt
-used before kind (line.Read to from) = tt
-used before kind (line.Write to value) = tt
-used before kind (line.Scan cell first count) = tt
-used before kind (line.If test) = tt
-used before kind line.Else = tt
-used before kind line.Fi = tt
-used before kind (line.Repeat count) = tt
-used before kind line.Done = tt
-used before kind (line.Emit value) = tt
-used before kind line.Halt = tt
-used before kind (line.Use other) = tt
-used before kind (line.Check clause) = tt
+used before kind _ = tt
 
 no_statements : (block : Block) → statements block ≡ 0 → block ≡ Stop
 no_statements Stop h = refl
-no_statements (program.Assign to value rest) h = absurd (omega arith)
-no_statements (program.Read to from rest) h = absurd (omega arith)
-no_statements (program.Write to value rest) h = absurd (omega arith)
-no_statements (program.Scan cell first count rest) h = absurd (omega arith)
-no_statements (program.If test first second rest) h = absurd (omega arith)
-no_statements (program.Repeat count body rest) h = absurd (omega arith)
-no_statements (program.Emit value rest) h = absurd (omega arith)
-no_statements (program.Halt rest) h = absurd (omega arith)
+no_statements _ h = absurd (omega arith)
 
 no_frames : (frames : List Frame) → statements_around frames ≡ 0 → frames ≡ []
 no_frames [] h = refl
@@ -284,9 +236,6 @@ stood before frames block n kind h false e =
     (λ x s. stood_within before kind block frames x s (no_frames frames (omega arith)) (no_statements block (omega arith)))
 
 inside : (before : Contents) (frames : List Frame) (block : Block) (n : ℕ) (l : Line) → InsideFits before frames block n → Keeps (Inside before frames block n) l (take_line (Inside before frames block n) l)
-inside before frames block n (line.Registers r) h = tt
-inside before frames block n line.Process h = tt
-inside before frames block n (line.Check clause) h = tt
 inside before frames block n (line.Set to value) h = added before frames block n (line.Set to value) (target_fits to && expr_fits value) (program.Assign to value Stop) (alone _)
 inside before frames block n (line.Read to from) h = added before frames block n (line.Read to from) (target_fits to && operand_fits from) (program.Read to from Stop) (alone _)
 inside before frames block n (line.Write to value) h = added before frames block n (line.Write to value) (operand_fits to && expr_fits value) (program.Write to value Stop) (alone _)
@@ -300,6 +249,7 @@ inside before frames block n line.Fi h = fi_left before frames block n
 inside before frames block n line.Done h = done_left before frames block n
 inside before frames block n line.End h = ended before frames block n
 inside before frames block n (line.Use kind) h = stood before frames block n kind h (nat_lt 0 n) refl
+inside before frames block n _ h = tt
 
 line_kept : (reading : Reading) (l : Line) → ReadingFits reading → Keeps reading l (take_line reading l)
 line_kept Empty l h = begins l

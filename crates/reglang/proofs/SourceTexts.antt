@@ -25,14 +25,7 @@ use Rattle.reglang.proofs.LineWords.{line_fits, numbers_small}
 
 else_says : (second : Block) → BlockSays second (block_lines second) → ElseSays second (BlockSays second) (else_lines second (block_lines second))
 else_says program.Stop h = inl (refl, refl)
-else_says (program.Assign to value rest) h = inr (record { more = _; whole = refl; holds = h })
-else_says (program.Read to from rest) h = inr (record { more = _; whole = refl; holds = h })
-else_says (program.Write to value rest) h = inr (record { more = _; whole = refl; holds = h })
-else_says (program.Scan cell first count rest) h = inr (record { more = _; whole = refl; holds = h })
-else_says (program.If test first second rest) h = inr (record { more = _; whole = refl; holds = h })
-else_says (program.Repeat count body rest) h = inr (record { more = _; whole = refl; holds = h })
-else_says (program.Emit value rest) h = inr (record { more = _; whole = refl; holds = h })
-else_says (program.Halt rest) h = inr (record { more = _; whole = refl; holds = h })
+else_says _ h = inr (record { more = _; whole = refl; holds = h })
 
 block_says : (block : Block) → BlockSays block (block_lines block)
 block_says program.Stop = refl
@@ -131,14 +124,7 @@ both_fit xs ys h k = list_all-append line_fits xs ys ∙ and_from (list_all line
 
 else_fits : (second : Block) (lines : List Line) → list_all line_fits lines ≡ true → list_all line_fits (else_lines second lines) ≡ true
 else_fits program.Stop lines h = refl
-else_fits (program.Assign to value rest) lines h = h
-else_fits (program.Read to from rest) lines h = h
-else_fits (program.Write to value rest) lines h = h
-else_fits (program.Scan cell first count rest) lines h = h
-else_fits (program.If test first second rest) lines h = h
-else_fits (program.Repeat count body rest) lines h = h
-else_fits (program.Emit value rest) lines h = h
-else_fits (program.Halt rest) lines h = h
+else_fits _ lines h = h
 
 scan_small : (n cell first count : ℕ) → n ≤ 64 → scan_fits n cell first count ≡ true → line_fits (line.Scan cell first count) ≡ true
 scan_small n cell first count few h =

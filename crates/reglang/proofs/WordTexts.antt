@@ -139,45 +139,19 @@ cell_of_again i h = ap cell_or_other (variable_again i h)
 
 key_again : (key : Keyword) → word_of (keyword_text key) ≡ word.Keyword key
 key_again keyword.Registers = refl
-key_again keyword.Process = refl
-key_again keyword.End = refl
-key_again keyword.Set = refl
-key_again keyword.Read = refl
-key_again keyword.Write = refl
-key_again keyword.Scan = refl
-key_again keyword.If = refl
-key_again keyword.Else = refl
-key_again keyword.Fi = refl
-key_again keyword.Repeat = refl
-key_again keyword.Done = refl
-key_again keyword.Emit = refl
-key_again keyword.Halt = refl
-key_again keyword.Use = refl
-key_again keyword.Check = refl
+key_again _ = refl
 
 operator_again : (o : Op) → word_of (operator_text o) ≡ word.Operator o
 operator_again op.Add = refl
-operator_again op.Sub = refl
-operator_again op.Mul = refl
-operator_again op.Equal = refl
-operator_again op.Less = refl
+operator_again _ = refl
 
 kind_again : (k : Kind) → word_of (kind_text k) ≡ word.Kind k
 kind_again kind.Split = refl
-kind_again kind.Grid = refl
-kind_again kind.Tree = refl
-kind_again kind.Name = refl
-kind_again kind.Names = refl
+kind_again _ = refl
 
 property_again : (p : Property) → word_of (property_text p) ≡ word.Property p
 property_again property.Distinct = refl
-property_again property.AtMost = refl
-property_again property.Within = refl
-property_again property.Adaptive = refl
-property_again property.Triangle = refl
-property_again property.SelfSeen = refl
-property_again property.Ended = refl
-property_again property.NoFault = refl
+property_again _ = refl
 
 pub word_again : (w : Word) → word_fits w ≡ true → word_of (word_text w) ≡ w
 word_again (word.Keyword key) h = key_again key

@@ -1,13 +1,14 @@
 -- What a source says.
-use Rattle.std.specs.Prelude.{◌≡◌, ℕ, ◌<◌, ◌≤◌, ◌==◌, ◌&&◌, Bool, true, List, length, map, All, nat_le}
+use Rattle.std.specs.Prelude.{◌≡◌, ℕ, ◌<◌, ◌≤◌, ◌==◌, Bool, true, List, length, map, All}
 use Rattle.regmodel.specs.declared.clauses.Clause.{Clause}
-use Rattle.regmodel.specs.declared.clauses.Clause.TheVariants as clause
-use Rattle.regmodel.specs.declared.limits.TheConstants.{GREATEST_VALUE, MOST_CHECKS, MOST_PROCESSES, MOST_REGISTERS}
+use Rattle.regmodel.specs.declared.limits.TheConstants.{MOST_CHECKS, MOST_PROCESSES, MOST_REGISTERS}
 use Rattle.regmodel.specs.Limits.{IsWithin}
 use Rattle.regmodel.specs.Program.{Block, Program, block_of}
 use Rattle.uses.specs.Expansions.{expansion}
 use Rattle.uses.specs.Uses.{use_fits}
 use Rattle.uses.specs.declared.kinds.Use.{Use}
+use Rattle.reglang.specs.Arguments.{are_of, clause_parts}
+use Rattle.reglang.specs.Sorts.{property_sorts}
 use Rattle.reglang.specs.declared.source.Process.{Process}
 use Rattle.reglang.specs.declared.source.Process.TheVariants as process
 
@@ -41,11 +42,9 @@ abbrev pub IsBodyWithin : ℕ → Body → Type 0
 IsBodyWithin registers (Text block) = IsWithin (record { registers = registers; body = block })
 IsBodyWithin registers (Kind kind) = use_fits kind registers ≡ true
 
--- the numbers of a clause are within their limits
+-- the arguments of a clause are of the sorts of its property: its numbers are within their limits
 abbrev pub clause_fits : Clause → Bool
-clause_fits (clause.AtMost name count) = nat_le name GREATEST_VALUE && nat_le count MOST_PROCESSES
-clause_fits (clause.Within low high) = nat_le low GREATEST_VALUE && nat_le high GREATEST_VALUE
-clause_fits _ = true
+clause_fits clause = are_of (property_sorts (clause_parts clause).0) (clause_parts clause).1
 
 -- a source within the limits
 pub record IsSourceWithin (source : Contents) : Type 0 where

@@ -1,14 +1,17 @@
 -- Inside the crate: reading by whole values: what was read so far, and what one line more makes of it.
-use Rattle.std.specs.Prelude.{◌≡◌, ℕ, suc, ◌+◌, ◌<◌, ◌≤◌, Bool, true, false, ◌&&◌, if◌then◌else◌, List, [], ◌∷◌, ◌++◌, length, map, reverse, max, All, Option, Some, None, Result, Ok, Err, MatchResult, nat_lt}
+use Rattle.std.specs.Prelude.{◌≡◌, ℕ, suc, ◌+◌, ◌<◌, ◌≤◌, Bool, true, false, ◌&&◌, if◌then◌else◌, List, [], ◌∷◌, ◌++◌, length, map, reverse, max, All, Option, Some, None, Result, Ok, Err, IfOk, MatchResult, nat_lt}
 use Rattle.regmodel.specs.declared.clauses.Clause.{Clause}
 use Rattle.regmodel.specs.declared.programs.Expr.{Expr}
 use Rattle.regmodel.specs.declared.limits.TheConstants.{MOST_CHECKS, MOST_OPEN_BLOCKS, MOST_OPEN_REPEATS, MOST_PROCESSES, MOST_REGISTERS, MOST_STATEMENTS}
 use Rattle.reglang.specs.declared.refusals.TheConstants.{MISPLACED, NO_CLAUSE, NO_MEMORY, NO_REGISTERS, PAST_LIMIT}
 use Rattle.regmodel.specs.Limits.{target_fits, operand_fits, expr_fits, scan_fits, operands_fit, statements, open_blocks, open_repeats}
 use Rattle.regmodel.specs.Program as program
-use Rattle.regmodel.specs.Program.{Block, Stop, block_of}
+use Rattle.regmodel.specs.Program.{Block, Stop, block_of, with_stmt}
+use Rattle.regmodel.specs.declared.programs.Stmt.{Stmt}
 use Rattle.reglang.specs.Forms.{read_line}
-use Rattle.reglang.specs.Contents.{Text, Kind, Contents, IsBodyWithin, body_of, clause_fits}
+use Rattle.reglang.specs.Contents.{Body, Text, Kind, Contents, IsBodyWithin, clause_fits}
+use Rattle.reglang.specs.Sources.{contents_of, contents_with}
+use Rattle.reglang.specs.declared.source.Source.{Source}
 use Rattle.reglang.specs.Faults.{Opened, If, Else, Repeat, repeats_in}
 use Rattle.uses.specs.Uses.{is_between, use_fits}
 use Rattle.reglang.specs.declared.parts.Parts.{Parts}
@@ -61,6 +64,14 @@ pub data Reading : Type 0 where
   Inside : (before : Contents) (frames : List Frame) (block : Block) (statements : ℕ) → Reading
   Used : (before : Contents) (kind : Use) → Reading
 
+-- one process more
+abbrev pub with_body : Contents → Body → Contents
+with_body before body = record before { processes = before.processes ++ body ∷ [] }
+
+-- one clause more
+abbrev pub with_clause : Contents → Clause → Contents
+with_clause before clause = record before { clauses = before.clauses ++ clause ∷ [] }
+
 -- one statement more
 abbrev pub add : Contents → List Frame → Block → ℕ → Bool → Block → Result Reading ℕ
 add before frames block n fits statement = if nat_lt n MOST_STATEMENTS && fits then Ok (Inside before frames (block ⊕ statement) (suc n)) else Err PAST_LIMIT
@@ -87,21 +98,25 @@ leave_repeat before frames block n = Err MISPLACED
 
 -- the `end` of a process without open blocks
 abbrev pub leave : Contents → List Frame → Block → Result Reading ℕ
-leave before [] block = Ok (Between (record before { processes = before.processes ++ Text block ∷ [] }))
+leave before [] block = Ok (Between (with_body before (Text block)))
 leave before (frame ∷ frames) block = Err MISPLACED
 
 -- a use line, which stands alone
 abbrev pub stand_for : Contents → ℕ → Use → Result Reading ℕ
 stand_for before n kind = if nat_lt 0 n then Err MISPLACED else (if use_fits kind before.registers then Ok (Used before kind) else Err PAST_LIMIT)
 
--- one clause more
+-- one clause more, where there is one and room for it
 abbrev pub add_clause : Contents → Option Clause → Result Reading ℕ
-add_clause before (Some clause) = if nat_lt (length before.clauses) MOST_CHECKS then Ok (Between (record before { clauses = before.clauses ++ clause ∷ [] })) else Err PAST_LIMIT
+add_clause before (Some clause) = if nat_lt (length before.clauses) MOST_CHECKS then Ok (Between (with_clause before clause)) else Err PAST_LIMIT
 add_clause before None = if nat_lt (length before.clauses) MOST_CHECKS then Err NO_CLAUSE else Err PAST_LIMIT
+
+-- so many registers, and nothing after them
+abbrev pub begun : ℕ → Contents
+begun registers = record { registers = registers; processes = []; clauses = [] }
 
 -- the first line, one between processes, one of a process, and one after a use line; or the code of its fault
 abbrev pub begin : Line → Result Reading ℕ
-begin (line.Registers n) = if is_between 1 MOST_REGISTERS n then Ok (Between (record { registers = n; processes = []; clauses = [] })) else Err PAST_LIMIT
+begin (line.Registers n) = if is_between 1 MOST_REGISTERS n then Ok (Between (begun n)) else Err PAST_LIMIT
 begin line.Process = Err NO_REGISTERS
 begin (line.Check clause) = Err NO_REGISTERS
 begin _ = Err MISPLACED
@@ -131,7 +146,7 @@ take_inside before frames block n _ = Err MISPLACED
 
 -- a line after a use line
 abbrev pub take_used : Contents → Use → Line → Result Reading ℕ
-take_used before kind line.End = Ok (Between (record before { processes = before.processes ++ Kind kind ∷ [] }))
+take_used before kind line.End = Ok (Between (with_body before (Kind kind)))
 take_used before kind _ = Err MISPLACED
 
 -- what one line more makes of what was read, or the code of its fault
@@ -225,7 +240,7 @@ ReadingFits (Used before kind) = UsedFits before kind
 
 -- whole processes and checks
 abbrev pub contents_before : Parts → Contents
-contents_before parts = record { registers = parts.registers; processes = map body_of parts.processes.items; clauses = parts.clauses.items }
+contents_before parts = contents_with parts.registers parts.processes.items parts.clauses.items
 
 -- one open block
 abbrev pub frame_of : Open → Frame
@@ -243,9 +258,30 @@ is_turn (opened.First test outer) = false
 is_turn (opened.Second test first outer) = false
 is_turn (opened.Turn count outer) = true
 
+-- a process with these blocks open, this innermost block and so many statements, after whole processes and checks
+abbrev pub open_with : Parts → List Open → Block → ℕ → Reading
+open_with before opens block n = Inside (contents_before before) (frames_of opens) block n
+
 -- an open process
 abbrev pub inside_of : OpenProcess → Reading
-inside_of process = Inside (contents_before process.before) (frames_of process.blocks.items) (block_of process.block.items) process.statements
+inside_of process = open_with process.before process.blocks.items (block_of process.block.items) process.statements
+
+-- one statement more in it, where its operands are within their limits
+abbrev pub add_to : OpenProcess → Bool → Stmt → Result Reading ℕ
+add_to process fits stmt =
+    add (contents_before process.before) (frames_of process.blocks.items) (block_of process.block.items) process.statements fits (with_stmt stmt Stop)
+
+-- whether it has room for one more statement and one more block
+abbrev pub may_enter : OpenProcess → Bool
+may_enter process = nat_lt process.statements MOST_STATEMENTS && nat_lt (length process.blocks.items) MOST_OPEN_BLOCKS
+
+-- statements and one more
+abbrev pub pushed : List Stmt → Stmt → Block
+pushed stmts stmt = block_of stmts ⊕ with_stmt stmt Stop
+
+-- one more block is open, without statements so far
+abbrev pub entered : Parts → Open → List Open → ℕ → Reading
+entered before opened opens n = Inside (contents_before before) (frame_of opened ∷ frames_of opens) Stop (suc n)
 
 -- what was read so far
 abbrev pub reading_of : Draft → Reading
@@ -267,3 +303,12 @@ IsFaultOf number refusal.Memory fault = fault ≡ record { line = number; code =
 -- the answer is what is expected, unless memory was refused
 abbrev pub Answers : Result Reading ℕ → Result Draft LineRefusal → Type 0
 Answers expected result = MatchResult result (λ draft. expected ≡ Ok (reading_of draft)) (IsRefusalOf expected)
+
+-- where a line is taken, this is what was read then
+abbrev pub Reads : Result Draft LineRefusal → Reading → Type 0
+Reads result reading = IfOk result (λ draft. reading_of draft ≡ reading)
+
+-- the answer at the end of a text
+abbrev pub AnswersAtEnd : Reading → Result Source ℕ → Type 0
+AnswersAtEnd reading result =
+    MatchResult result (λ source. contents_at_end reading ≡ Ok (contents_of source)) (λ code. contents_at_end reading ≡ Err code)

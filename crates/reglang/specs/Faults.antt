@@ -1,15 +1,17 @@
 -- The first fault of a text.
-use Rattle.std.specs.Prelude.{ℕ, suc, Bool, true, false, not, ◌&&◌, if◌then◌else◌, List, [], ◌∷◌, ◌++◌, length, max, Option, Some, None, is_some, is_none, unwrap_or, option_map, Result, Ok, Err, nat_lt}
+use Rattle.std.specs.Prelude.{◌≡◌, ◌≢◌, ℕ, suc, ◌≤◌, Bool, true, false, not, ◌&&◌, if◌then◌else◌, List, [], ◌∷◌, ◌++◌, length, max, Option, Some, None, IfSome, is_some, is_none, unwrap_or, option_map, Result, Ok, Err, nat_lt}
 use Rattle.regmodel.specs.declared.limits.TheConstants.{MOST_CHECKS, MOST_OPEN_BLOCKS, MOST_OPEN_REPEATS, MOST_PROCESSES, MOST_REGISTERS, MOST_STATEMENTS}
-use Rattle.reglang.specs.declared.refusals.TheConstants.{MISPLACED, NO_CLAUSE, NO_REGISTERS, PAST_LIMIT}
+use Rattle.reglang.specs.declared.refusals.TheConstants.{MISPLACED, NO_CLAUSE, NO_MEMORY, NO_REGISTERS, PAST_LIMIT}
 use Rattle.regmodel.specs.Limits.{target_fits, operand_fits, expr_fits, scan_fits}
 use Rattle.reglang.specs.Lines.{lines}
 use Rattle.reglang.specs.Forms.{read_line}
-use Rattle.reglang.specs.Grammar.{line_said, lines_said}
+use Rattle.reglang.specs.Contents.{Contents}
+use Rattle.reglang.specs.Grammar.{Spells, line_said, lines_said}
 use Rattle.uses.specs.Uses.{is_between, use_fits}
 use Rattle.reglang.specs.declared.forms.Line.{Line}
 use Rattle.reglang.specs.declared.forms.Line.TheVariants as line
 use Rattle.reglang.specs.declared.reader.ReadFault.{ReadFault}
+use Rattle.reglang.specs.declared.reader.Rejection.{Rejection}
 
 -- ---- where a line stands, by the lines before it
 
@@ -256,3 +258,29 @@ fault_from before (line ∷ lines) =
 -- the first fault of a text, where it has one
 abbrev pub first_fault : List ℕ → Option ReadFault
 first_fault text = fault_from [] (lines text)
+
+-- the number of the last line of a text; 1 where there is none
+abbrev pub last_line : List ℕ → ℕ
+last_line text = max 1 (length (lines text))
+
+-- ---- what is told of a text that is not read
+
+-- this is its first fault, unless memory was refused
+abbrev pub IsFirst : List ℕ → ReadFault → Type 0
+IsFirst text fault = fault.code ≢ NO_MEMORY → first_fault text ≡ Some fault
+
+-- it spells no source, unless memory was refused
+abbrev pub IsUnspelled : List ℕ → ReadFault → Type 0
+IsUnspelled text fault = fault.code ≢ NO_MEMORY → (source : Contents) → Spells text source → ⊥
+
+-- no fault stands on a line before
+abbrev pub HasNoneBefore : List ℕ → ReadFault → Type 0
+HasNoneBefore text fault = IfSome (first_fault text) (λ first. fault.line ≤ first.line)
+
+-- it is told to be that of the end just where no line has one, unless memory was refused
+abbrev pub TellsEnd : List ℕ → Rejection → Type 0
+TellsEnd text rejection = rejection.fault.code ≢ NO_MEMORY → rejection.is_of_end ≡ are_faultless at_start (lines text)
+
+-- and never where memory was
+abbrev pub TellsMemory : Rejection → Type 0
+TellsMemory rejection = rejection.fault.code ≡ NO_MEMORY → rejection.is_of_end ≡ false

@@ -1,3 +1,4 @@
+pub mod Arguments
 pub mod Contents
 pub mod Drafts
 pub mod FaultExamples
@@ -7,6 +8,7 @@ pub mod Grammar
 pub mod GrammarExamples
 pub mod LineExamples
 pub mod Lines
+pub mod Sorts
 pub mod Sources
 pub mod Spelling
 pub mod Words

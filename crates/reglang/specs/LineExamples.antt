@@ -5,9 +5,28 @@ use Rattle.regmodel.specs.declared.programs.Operand.TheVariants as operand
 use Rattle.regmodel.specs.declared.programs.Op.TheVariants as op
 use Rattle.regmodel.specs.declared.programs.Expr.TheVariants as expr
 use Rattle.regmodel.specs.declared.clauses.Clause.TheVariants as clause
-use Rattle.reglang.specs.Forms.{read_line}
+use Rattle.reglang.specs.Forms.{arguments, read_line}
 use Rattle.uses.specs.declared.kinds.Use.TheVariants as use_line
+use Rattle.reglang.specs.declared.arguments.Argument.TheVariants as argument
 use Rattle.reglang.specs.declared.forms.Line.TheVariants as line
+use Rattle.reglang.specs.declared.sorts.Sort.TheVariants as sort
+use Rattle.reglang.specs.declared.words.Word.TheVariants as word
+
+-- ---- arguments
+
+-- a target, and an expression of three words
+pub target_and_sum : arguments (sort.Target ∷ sort.Expression ∷ []) (word.Var 2 ∷ word.Cell 0 ∷ word.Operator op.Add ∷ word.Number 1 ∷ []) ≡ Some (argument.Target (target.Var 2) ∷ argument.Expression (expr.Two (operand.Cell 0) op.Add (operand.Number 1)) ∷ [])
+target_and_sum = refl
+
+-- a number past its limit
+pub past_its_limit : arguments (sort.Number ∷ sort.NumberTo 8 ∷ []) (word.Number 9 ∷ word.Number 9 ∷ []) ≡ None
+past_its_limit = refl
+
+-- an expression has one word or three
+pub two_words : arguments (sort.Expression ∷ []) (word.Var 2 ∷ word.Var 3 ∷ []) ≡ None
+two_words = refl
+
+-- ---- lines
 
 -- a tab in a comment
 pub tab : read_line (codes "#" ++ 9 ∷ []) ≡ Err 1

@@ -1,5 +1,6 @@
 -- How a text is cut into lines, and a line into words.
-use Rattle.std.specs.Prelude.{ℕ, ◌==◌, Bool, true, false, ◌&&◌, not, if◌then◌else◌, List, [], ◌∷◌, nat_le}
+use Rattle.std.specs.Prelude.{◌≡◌, ℕ, ◌<◌, ◌==◌, Bool, true, false, ◌&&◌, not, if◌then◌else◌, List, [], ◌∷◌, length, Option, MatchOption, nat_le}
+use Rattle.std.specs.Borrow.{Bor}
 use Rattle.std.specs.List.{slice_split, filter, list_all}
 
 -- whether there is no byte
@@ -24,3 +25,8 @@ words line = filter (λ word. not (is_empty word)) (slice_split (λ b. b == 32) 
 -- only bytes 32 to 126 stand in a line
 abbrev pub is_printable : List ℕ → Bool
 is_printable line = list_all (λ b. nat_le 32 b && nat_le b 126) line
+
+-- the first part of a text, a line or a word, and what follows it, which is shorter than the text; nothing where it has no parts
+abbrev pub SplitsOff : (List ℕ → List (List ℕ)) → List ℕ → Option (Bor (List ℕ) × Bor (List ℕ)) → Type 0
+SplitsOff parts text split =
+    MatchOption split (parts text ≡ []) (λ r. (parts text ≡ r.0.now ∷ parts r.1.now) × (length r.1.now < length text))

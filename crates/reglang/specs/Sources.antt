@@ -1,12 +1,20 @@
 -- What a source holds, however it lies in memory.
-use Rattle.std.specs.Prelude.{ℕ, List, map}
+use Rattle.std.specs.Prelude.{◌≡◌, ℕ, List, map, Option, Some, IfSome, MatchOption, slice_get}
+use Rattle.std.specs.Borrow.{Bor}
+use Rattle.regmodel.specs.declared.clauses.Clause.{Clause}
 use Rattle.regmodel.specs.Program.{Program}
-use Rattle.reglang.specs.Contents.{Contents, programs_in, body_of}
+use Rattle.reglang.specs.Contents.{Body, Contents, IsText, Kind, programs_in, body_of}
+use Rattle.uses.specs.declared.kinds.Use.{Use}
+use Rattle.reglang.specs.declared.source.Process.{Process}
 use Rattle.reglang.specs.declared.source.Source.{Source}
+
+-- so many registers, these processes and these clauses
+abbrev pub contents_with : ℕ → List Process → List Clause → Contents
+contents_with registers processes clauses = record { registers = registers; processes = map body_of processes; clauses = clauses }
 
 -- a source as a value
 abbrev pub contents_of : Source → Contents
-contents_of source = record { registers = source.registers; processes = map body_of source.processes.items; clauses = source.clauses }
+contents_of source = contents_with source.registers source.processes.items source.clauses
 
 -- how many registers it has
 abbrev pub registers_of : Source → ℕ
@@ -15,3 +23,11 @@ registers_of source = source.registers
 -- the programs of its processes, from process 0
 abbrev pub source_programs : Source → List Program
 source_programs source = programs_in (contents_of source)
+
+-- what a process of it runs, counted from 0
+abbrev pub body_at : Source → ℕ → Option Body
+body_at source p = slice_get (contents_of source).processes p
+
+-- a process has this use line; or none, and then statements of its own
+abbrev pub IsUseOf : Option Body → Option (Bor Use) → Type 0
+IsUseOf body told = MatchOption told (IfSome body IsText) (λ kind. body ≡ Some (Kind kind.now))

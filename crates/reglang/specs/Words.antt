@@ -4,16 +4,13 @@ use Rattle.std.specs.List.{list_all}
 use Rattle.std.specs.Str.{bytes_eq}
 use Rattle.std.specs.Str.Parse.{digits_value}
 use Rattle.regmodel.specs.declared.programs.Op.{Op}
-use Rattle.regmodel.specs.declared.programs.Op.TheVariants as op
 use Rattle.regmodel.specs.declared.limits.TheConstants.{CELLS, GREATEST_VALUE, VARIABLES}
 use Rattle.reglang.specs.Lines.{is_empty}
 use Rattle.reglang.specs.Spelling.{keyword_text, kind_text, operator_text, property_text}
 use Rattle.reglang.specs.declared.words.Keyword.{Keyword}
-use Rattle.reglang.specs.declared.words.Keyword.TheVariants as keyword
 use Rattle.reglang.specs.declared.words.Kind.{Kind}
-use Rattle.reglang.specs.declared.words.Kind.TheVariants as kind
 use Rattle.reglang.specs.declared.words.Property.{Property}
-use Rattle.reglang.specs.declared.words.Property.TheVariants as property
+use Rattle.reglang.specs.declared.words.TheConstants.{KEYWORDS, KINDS, OPERATORS, PROPERTIES}
 use Rattle.reglang.specs.declared.words.Word.{Word}
 use Rattle.reglang.specs.declared.words.Word.TheVariants.{Number, NoNumber, Var, Cell, CellOf, Comment, Other}
 use Rattle.reglang.specs.declared.words.Word.TheVariants as word
@@ -94,27 +91,19 @@ value_word word =
 
 -- the first words of lines, as they are spelled
 abbrev pub keywords : List (List ℕ × Keyword)
-keywords =
-    map (λ one. (keyword_text one, one)) (
-    keyword.Registers ∷ keyword.Process ∷ keyword.End ∷ keyword.Set ∷ keyword.Read ∷ keyword.Write ∷ keyword.Scan ∷ keyword.If ∷ keyword.Else ∷ keyword.Fi ∷ keyword.Repeat ∷ keyword.Done ∷ keyword.Emit ∷ keyword.Halt ∷ keyword.Use ∷ keyword.Check ∷ [])
+keywords = map (λ one. (keyword_text one, one)) KEYWORDS
 
 -- the operators, as they are spelled
 abbrev pub operators : List (List ℕ × Op)
-operators =
-    map (λ one. (operator_text one, one)) (
-    op.Add ∷ op.Sub ∷ op.Mul ∷ op.Equal ∷ op.Less ∷ [])
+operators = map (λ one. (operator_text one, one)) OPERATORS
 
 -- the kinds, as they are spelled
 abbrev pub kinds : List (List ℕ × Kind)
-kinds =
-    map (λ one. (kind_text one, one)) (
-    kind.Split ∷ kind.Grid ∷ kind.Tree ∷ kind.Name ∷ kind.Names ∷ [])
+kinds = map (λ one. (kind_text one, one)) KINDS
 
 -- the properties of checks, as they are spelled
 abbrev pub properties : List (List ℕ × Property)
-properties =
-    map (λ one. (property_text one, one)) (
-    property.Distinct ∷ property.AtMost ∷ property.Within ∷ property.Adaptive ∷ property.Triangle ∷ property.SelfSeen ∷ property.Ended ∷ property.NoFault ∷ [])
+properties = map (λ one. (property_text one, one)) PROPERTIES
 
 -- what stands beside a word in a table of spellings
 abbrev pub spelled_in : {A : Type 0} → List (List ℕ × A) → List ℕ → Option A

@@ -1,5 +1,5 @@
 -- The one text that is written of a source: no comment, no empty line, no space but the one between two words.
-use Rattle.std.specs.Prelude.{ℕ, List, [], ◌∷◌, ◌++◌, map, Some, None, codes, decimal}
+use Rattle.std.specs.Prelude.{◌≡◌, ℕ, List, [], ◌∷◌, ◌++◌, map, Some, codes, decimal}
 use Rattle.std.specs.List.{flat_map, join_by}
 use Rattle.regmodel.specs.declared.programs.Target.{Target}
 use Rattle.regmodel.specs.declared.programs.Target.TheVariants as target
@@ -8,21 +8,26 @@ use Rattle.regmodel.specs.declared.programs.Operand.TheVariants as operand
 use Rattle.regmodel.specs.declared.programs.Expr.{Expr}
 use Rattle.regmodel.specs.declared.programs.Expr.TheVariants as expr
 use Rattle.regmodel.specs.declared.clauses.Clause.{Clause}
-use Rattle.regmodel.specs.declared.clauses.Clause.TheVariants as clause
 use Rattle.regmodel.specs.Program as program
-use Rattle.regmodel.specs.Program.{Block}
+use Rattle.regmodel.specs.Program.{Block, block_of, with_stmt}
+use Rattle.regmodel.specs.declared.programs.Stmt.{Stmt}
+use Rattle.reglang.specs.Arguments.{clause_parts, line_parts, use_parts}
 use Rattle.reglang.specs.Spelling.{keyword_text, kind_text, operator_text, property_text}
-use Rattle.reglang.specs.Contents.{Body, Text, Kind, Contents}
+use Rattle.reglang.specs.Contents.{Body, Text, Kind, Contents, body_of}
+use Rattle.reglang.specs.Sources.{contents_of}
 use Rattle.uses.specs.declared.kinds.Use.{Use}
-use Rattle.uses.specs.declared.kinds.Use.TheVariants as use_line
-use Rattle.reglang.specs.declared.words.Keyword.{Keyword}
-use Rattle.reglang.specs.declared.words.Keyword.TheVariants as keyword
-use Rattle.reglang.specs.declared.words.Kind.TheVariants as kind
-use Rattle.reglang.specs.declared.words.Property.TheVariants as property
+use Rattle.reglang.specs.declared.arguments.Argument.{Argument}
+use Rattle.reglang.specs.declared.arguments.Argument.TheVariants as argument
+use Rattle.reglang.specs.declared.source.Process.{Process}
+use Rattle.reglang.specs.declared.source.Source.{Source}
 use Rattle.reglang.specs.declared.words.Word.{Word}
 use Rattle.reglang.specs.declared.words.Word.TheVariants as word
 use Rattle.reglang.specs.declared.forms.Line.{Line}
 use Rattle.reglang.specs.declared.forms.Line.TheVariants as line
+
+-- a number between two pieces of text
+abbrev pub between : List ℕ → ℕ → List ℕ → List ℕ
+between before n after = before ++ (decimal n ++ after)
 
 -- a word as it is written; one that no line has is not
 abbrev pub word_text : Word → List ℕ
@@ -56,67 +61,42 @@ abbrev pub expr_words : Expr → List Word
 expr_words (expr.One a) = operand_word a ∷ []
 expr_words (expr.Two a op b) = operand_word a ∷ word.Operator op ∷ operand_word b ∷ []
 
--- a kind and its numbers
+-- the words of an argument
+abbrev pub argument_words : Argument → List Word
+argument_words (argument.Number n) = word.Number n ∷ []
+argument_words (argument.Target to) = target_word to ∷ []
+argument_words (argument.Operand a) = operand_word a ∷ []
+argument_words (argument.Expression value) = expr_words value
+
+-- the words of arguments
+abbrev pub arguments_words : List Argument → List Word
+arguments_words arguments = flat_map argument_words arguments
+
+-- a kind and its arguments
 abbrev pub use_words : Use → List Word
-use_words (use_line.Split base id) = word.Kind kind.Split ∷ word.Number base ∷ word.Number id ∷ []
-use_words (use_line.Grid base side id) = word.Kind kind.Grid ∷ word.Number base ∷ word.Number side ∷ word.Number id ∷ []
-use_words (use_line.Tree base depth id value) = word.Kind kind.Tree ∷ word.Number base ∷ word.Number depth ∷ word.Number id ∷ word.Number value ∷ []
-use_words (use_line.Name base slots slot) = word.Kind kind.Name ∷ word.Number base ∷ word.Number slots ∷ word.Number slot ∷ []
-use_words (use_line.Names base slots slot) = word.Kind kind.Names ∷ word.Number base ∷ word.Number slots ∷ word.Number slot ∷ []
+use_words kind = word.Kind (use_parts kind).0 ∷ arguments_words (use_parts kind).1
 
--- a property and its numbers
+-- a property and its arguments
 abbrev pub clause_words : Clause → List Word
-clause_words clause.Distinct = word.Property property.Distinct ∷ []
-clause_words (clause.AtMost name count) = word.Property property.AtMost ∷ word.Number name ∷ word.Number count ∷ []
-clause_words (clause.Within low high) = word.Property property.Within ∷ word.Number low ∷ word.Number high ∷ []
-clause_words clause.Adaptive = word.Property property.Adaptive ∷ []
-clause_words clause.Triangle = word.Property property.Triangle ∷ []
-clause_words clause.SelfSeen = word.Property property.SelfSeen ∷ []
-clause_words clause.Ended = word.Property property.Ended ∷ []
-clause_words clause.NoFault = word.Property property.NoFault ∷ []
+clause_words clause = word.Property (clause_parts clause).0 ∷ arguments_words (clause_parts clause).1
 
--- the words of a line after its first one
+-- what a line has after its first word
 abbrev pub later_words : Line → List Word
-later_words (line.Registers n) = word.Number n ∷ []
-later_words line.Process = []
-later_words line.End = []
-later_words (line.Set to value) = target_word to ∷ expr_words value
-later_words (line.Read to from) = target_word to ∷ operand_word from ∷ []
-later_words (line.Write to value) = operand_word to ∷ expr_words value
-later_words (line.Scan cell first count) = word.Number cell ∷ word.Number first ∷ word.Number count ∷ []
-later_words (line.If test) = expr_words test
-later_words line.Else = []
-later_words line.Fi = []
-later_words (line.Repeat count) = expr_words count
-later_words line.Done = []
-later_words (line.Emit value) = expr_words value
-later_words line.Halt = []
 later_words (line.Use kind) = use_words kind
 later_words (line.Check (Some clause)) = clause_words clause
-later_words (line.Check None) = []
-
--- the word that a line begins with
-abbrev pub first_word : Line → Keyword
-first_word (line.Registers n) = keyword.Registers
-first_word line.Process = keyword.Process
-first_word line.End = keyword.End
-first_word (line.Set to value) = keyword.Set
-first_word (line.Read to from) = keyword.Read
-first_word (line.Write to value) = keyword.Write
-first_word (line.Scan cell first count) = keyword.Scan
-first_word (line.If test) = keyword.If
-first_word line.Else = keyword.Else
-first_word line.Fi = keyword.Fi
-first_word (line.Repeat count) = keyword.Repeat
-first_word line.Done = keyword.Done
-first_word (line.Emit value) = keyword.Emit
-first_word line.Halt = keyword.Halt
-first_word (line.Use kind) = keyword.Use
-first_word (line.Check clause) = keyword.Check
+later_words line = arguments_words (line_parts line).1
 
 -- the words of a line
 abbrev pub line_words : Line → List Word
-line_words line = word.Keyword (first_word line) ∷ later_words line
+line_words line = word.Keyword (line_parts line).0 ∷ later_words line
+
+-- words, each after a space
+abbrev pub spaced : List Word → List ℕ
+spaced words = flat_map (λ word. codes " " ++ word_text word) words
+
+-- the words of arguments, each after a space
+abbrev pub arguments_text : List Argument → List ℕ
+arguments_text arguments = spaced (arguments_words arguments)
 
 -- words parted by one space
 abbrev pub words_text : List Word → List ℕ
@@ -160,10 +140,48 @@ process_lines body = line.Process ∷ (body_lines body ++ (line.End ∷ []))
 abbrev pub check_line : Clause → Line
 check_line clause = line.Check (Some clause)
 
+-- the lines of processes
+abbrev pub processes_lines : List Body → List Line
+processes_lines bodies = flat_map process_lines bodies
+
 -- the `registers` line, the processes in their order, the checks in theirs
 abbrev pub source_lines : Contents → List Line
-source_lines source = line.Registers source.registers ∷ (flat_map process_lines source.processes ++ map check_line source.clauses)
+source_lines source = line.Registers source.registers ∷ (processes_lines source.processes ++ map check_line source.clauses)
 
 -- the text that is written of a source
 abbrev pub source_text : Contents → List ℕ
 source_text source = lines_text (source_lines source)
+
+-- ---- the same of what lies in memory
+
+-- the lines of statements
+abbrev pub stmts_text : List Stmt → List ℕ
+stmts_text stmts = lines_text (block_lines (block_of stmts))
+
+-- those of the second part of an `if`, behind its `else`
+abbrev pub else_text : List Stmt → List ℕ
+else_text second = lines_text (else_lines (block_of second) (block_lines (block_of second)))
+
+-- a text grew by the lines of a statement, whatever comes after it
+abbrev pub GrowsBy : Stmt → List ℕ → List ℕ → Type 0
+GrowsBy stmt old new = (rest : Block) → new ++ lines_text (block_lines rest) ≡ old ++ lines_text (block_lines (with_stmt stmt rest))
+
+-- the lines of what a process runs
+abbrev pub body_text : Process → List ℕ
+body_text process = lines_text (body_lines (body_of process))
+
+-- the lines of a process
+abbrev pub process_text : Process → List ℕ
+process_text process = lines_text (process_lines (body_of process))
+
+-- the lines of processes
+abbrev pub processes_text : List Process → List ℕ
+processes_text processes = lines_text (processes_lines (map body_of processes))
+
+-- the lines of clauses
+abbrev pub checks_text : List Clause → List ℕ
+checks_text clauses = lines_text (map check_line clauses)
+
+-- the text that is written of a source
+abbrev pub text_of : Source → List ℕ
+text_of source = source_text (contents_of source)

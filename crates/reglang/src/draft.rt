@@ -1,9 +1,7 @@
 //! The part of a text that was read so far.
 
-ghost use Rattle.std.specs.Prelude.{Err, MatchResult, Ok, ◌≡◌};
 ghost use Rattle.reglang.specs.Drafts as spec;
-ghost use Rattle.reglang.specs.Drafts.{Answers, ReadingFits, contents_at_end, reading_of, take_line};
-ghost use Rattle.reglang.specs.Sources.{contents_of};
+ghost use Rattle.reglang.specs.Drafts.{Answers, AnswersAtEnd, ReadingFits, reading_of, take_line};
 
 use crate::forms::Line;
 use crate::open_process::OpenProcess;
@@ -44,7 +42,7 @@ impl Draft {
     /// The source that was read, at the end of the text; or the code of the end's fault.
     pub fn finish(self) -> Result<Source, u8>
         requires { ReadingFits (reading_of self) }
-        ensures { MatchResult result (λ source. contents_at_end (reading_of self) ≡ Ok (contents_of source)) (λ code. contents_at_end (reading_of self) ≡ Err code) }
+        ensures { AnswersAtEnd (reading_of self) result }
     {
         match self {
             Draft::Empty => Err(NO_REGISTERS),

@@ -1,15 +1,15 @@
 //! What a line says.
 
-ghost use Rattle.std.specs.Prelude.{◌≡◌, ◌≤◌, ◌++◌, ◌∷◌, ◌&&◌, ◌||◌, List, length, map, take};
+ghost use Rattle.std.specs.Prelude.{◌≡◌, ◌≤◌, ◌&&◌, ◌||◌, length, take};
 ghost use Rattle.std.specs.List.{list_all, list_any};
-ghost use Rattle.reglang.specs.Lines.{words};
-ghost use Rattle.reglang.specs.Words.{word_of};
 ghost use Rattle.reglang.specs.Forms as spec;
+ghost use Rattle.reglang.specs.Forms.{KeepsFirst, words_said};
 
-use crate::clauses::clause_of;
+use crate::arguments::{clause_with, line_with, use_with};
 use crate::lines::{is_printable, split_word};
-use crate::operands::{alone, expr_of, kind_of, number_in, operand_of, target_of, use_of};
+use crate::operands::{arguments, kind_of, property_of};
 use crate::refusals::{NO_FORM, NO_NUMBER, NOT_PRINTABLE, UNKNOWN_WORD};
+use crate::sorts::{kind_sorts, property_sorts, sorts_after};
 use crate::words::{Keyword, Word, word_of};
 use arrayvec::ArrayVec;
 use regmodel::{Clause, Expr, Operand, Target};
@@ -69,7 +69,7 @@ struct LaterWords {
 impl LaterWords {
     /// One more word.
     fn add(&mut self, word: Word)
-        ensures first { (more : List Word) → take 6 (self.new.first.items ++ more) ≡ take 6 (self.old.first.items ++ word ∷ more) }
+        ensures first { KeepsFirst self.old.first.items word self.new.first.items }
         ensures few { length self.new.first.items ≤ 6 }
         ensures known { self.new.known ≡ (self.old.known && spec.is_known word) }
         ensures no_number { self.new.no_number ≡ (self.old.no_number || spec.is_no_number word) }
@@ -82,7 +82,7 @@ impl LaterWords {
 
 /// Appends a word where there is room.
 fn keep(first: &mut ArrayVec<Word, MOST_WORDS>, word: Word)
-    ensures first { (more : List Word) → take 6 (first.new.items ++ more) ≡ take 6 (first.old.items ++ word ∷ more) }
+    ensures first { KeepsFirst first.old.items word first.new.items }
     ensures few { length first.new.items ≤ 6 }
 {
     if first.is_full() {
@@ -105,9 +105,9 @@ pub fn is_known(word: Word) -> bool
 
 /// The words of what follows the first word of a line.
 fn later_words(line: &[u8]) -> LaterWords
-    ensures first { result.first.items ≡ take 6 (map word_of (words line.now)) }
-    ensures known { result.known ≡ list_all spec.is_known (map word_of (words line.now)) }
-    ensures no_number { result.no_number ≡ list_any spec.is_no_number (map word_of (words line.now)) }
+    ensures first { result.first.items ≡ take 6 (words_said line.now) }
+    ensures known { result.known ≡ list_all spec.is_known (words_said line.now) }
+    ensures no_number { result.no_number ≡ list_any spec.is_no_number (words_said line.now) }
 {
     let mut later = LaterWords {
         first: ArrayVec::new(),
@@ -122,56 +122,40 @@ fn later_words(line: &[u8]) -> LaterWords
     later
 }
 
+/// What follows `use`: a kind and its arguments.
+fn use_form(words: &[Word]) -> Option<Line>
+    ensures { result ≡ spec.use_form words.now }
+{
+    let (word, words) = words.split_first()?;
+    let kind = kind_of(*word)?;
+    let list = arguments(kind_sorts(kind), words)?;
+    Some(Line::Use(use_with(kind, list.as_slice())?))
+}
+
+/// What follows `check`: a property and its arguments. None for any other words.
+fn clause_of(words: &[Word]) -> Option<Clause>
+    ensures { result ≡ spec.clause_of words.now }
+{
+    let (word, words) = words.split_first()?;
+    let property = property_of(*word)?;
+    let list = arguments(property_sorts(property), words)?;
+    clause_with(property, list.as_slice())
+}
+
 /// The line that a first word and those after it make.
 fn form_of(key: Keyword, more: &[Word]) -> Option<Line>
     ensures { result ≡ spec.form_of key more.now }
 {
     match key {
-        Keyword::Registers => {
-            let [n] = more else { return None };
-            Some(Line::Registers(number_in(*n)?))
-        }
-        Keyword::Process => alone(Line::Process, more),
-        Keyword::End => alone(Line::End, more),
-        Keyword::Set => {
-            let [to, value @ ..] = more else { return None };
-            Some(Line::Set(target_of(*to)?, expr_of(value)?))
-        }
-        Keyword::Read => {
-            let [to, from] = more else { return None };
-            Some(Line::Read(target_of(*to)?, operand_of(*from)?))
-        }
-        Keyword::Write => {
-            let [to, value @ ..] = more else { return None };
-            Some(Line::Write(operand_of(*to)?, expr_of(value)?))
-        }
-        Keyword::Scan => {
-            let [cell, first, count] = more else {
-                return None
-            };
-            Some(Line::Scan(number_in(*cell)?, number_in(*first)?, number_in(*count)?))
-        }
-        Keyword::If => Some(Line::If(expr_of(more)?)),
-        Keyword::Else => alone(Line::Else, more),
-        Keyword::Fi => alone(Line::Fi, more),
-        Keyword::Repeat => Some(Line::Repeat(expr_of(more)?)),
-        Keyword::Done => alone(Line::Done, more),
-        Keyword::Emit => Some(Line::Emit(expr_of(more)?)),
-        Keyword::Halt => alone(Line::Halt, more),
-        Keyword::Use => {
-            let [kind, numbers @ ..] = more else {
-                return None
-            };
-            Some(Line::Use(use_of(kind_of(*kind)?, numbers)?))
-        }
-        Keyword::Check => None,
+        Keyword::Use => use_form(more),
+        _ => line_with(key, arguments(sorts_after(key), more)?.as_slice()),
     }
 }
 
 /// What a line says whose first word is this, no check. Code 2 where a later word is unknown, 3 where one begins with a digit
 /// and is no number word, 4 where the words have no form of the first one.
 fn keyword_line(key: Keyword, rest: &[u8]) -> Result<Option<Line>, u8>
-    ensures { result ≡ spec.keyword_line key (map word_of (words rest.now)) }
+    ensures { result ≡ spec.keyword_line key (words_said rest.now) }
 {
     let later = later_words(rest);
     if !later.known {

@@ -8,5 +8,5 @@ ghost use Rattle.reglang.specs.Grammar.{Spells};
 /// A text spells at most one source, and where it spells one it has no fault.
 pub fn a_text_spells_at_most_one_source()
     ensures one { (text : List ℕ) (a b : Contents) → Spells text a → Spells text b → a ≡ b }
-    ensures faultless { (text : List ℕ) (source : Contents) → Spells text source → first_fault text ≡ None }
+    ensures faultless { (text : List ℕ) (a : Contents) → Spells text a → first_fault text ≡ None }
 {}

@@ -1,12 +1,12 @@
 //! Lines of a text, and words of a line.
 
-ghost use Rattle.std.specs.Prelude.{◌≡◌, ℕ, ◌==◌, ◌+◌, ◌<◌, ◌≤◌, [], ◌∷◌, length, drop, MatchOption};
+ghost use Rattle.std.specs.Prelude.{◌≡◌, ℕ, ◌==◌, ◌+◌, ◌≤◌, length, drop};
 ghost use Rattle.std.specs.List.{position, prefix_len, before_first, after_first};
-ghost use Rattle.reglang.specs.Lines.{lines, words, is_printable};
+ghost use Rattle.reglang.specs.Lines.{SplitsOff, is_printable, lines, words};
 
 /// The first line of a text without its byte 10, and what follows it. None at the end of the text.
 pub fn split_line(text: &[u8]) -> Option<(&[u8], &[u8])>
-    ensures { MatchOption result (lines text.now ≡ []) (λ r. (lines text.now ≡ r.0.now ∷ lines r.1.now) × (length r.1.now < length text.now)) }
+    ensures { SplitsOff lines text.now result }
 {
     if text.is_empty() {
         return None;
@@ -16,7 +16,7 @@ pub fn split_line(text: &[u8]) -> Option<(&[u8], &[u8])>
 
 /// The first word of a line, and what follows it. None where there are only spaces.
 pub fn split_word(line: &[u8]) -> Option<(&[u8], &[u8])>
-    ensures { MatchOption result (words line.now ≡ []) (λ r. (words line.now ≡ r.0.now ∷ words r.1.now) × (length r.1.now < length line.now)) }
+    ensures { SplitsOff words line.now result }
 {
     let line = after_spaces(line);
     if line.is_empty() {

@@ -1,10 +1,9 @@
 //! A process of a text, up to its end.
 
-ghost use Rattle.std.specs.Prelude.{◌≡◌, ◌<◌, ◌&&◌, [], ◌∷◌, suc, length, nat_lt, count_by, IfErr, IfOk};
-ghost use Rattle.regmodel.specs.Program.{Stop, block_of, with_stmt};
-ghost use Rattle.regmodel.specs.declared.limits.TheConstants.{MOST_OPEN_BLOCKS, MOST_STATEMENTS};
-ghost use Rattle.reglang.specs.Drafts as spec;
-ghost use Rattle.reglang.specs.Drafts.{Answers, Inside, ReadingFits, ◌⊕◌, contents_before, frame_of, frames_of, inside_of, is_turn, reading_of, take_line};
+ghost use Rattle.std.specs.Prelude.{◌≡◌, ◌<◌, [], count_by, IfErr};
+ghost use Rattle.regmodel.specs.Program.{Stop};
+ghost use Rattle.reglang.specs.Drafts.{Answers, Inside, Reads, ReadingFits, add_to, contents_before};
+ghost use Rattle.reglang.specs.Drafts.{entered, inside_of, is_turn, may_enter, open_with, pushed, take_line};
 ghost use Rattle.reglang.specs.declared.forms.Line.TheVariants as line;
 
 use crate::draft::Draft;
@@ -89,7 +88,7 @@ impl OpenProcess {
 
     /// Adds a statement, where its operands are within their limits.
     fn add(mut self, fits: bool, stmt: Stmt) -> Result<Draft, LineRefusal>
-        ensures { Answers (spec.add (contents_before self.before) (frames_of self.blocks.items) (block_of self.block.items) self.statements fits (with_stmt stmt Stop)) result }
+        ensures { Answers (add_to self fits stmt) result }
     {
         if self.statements >= MOST_STATEMENTS || !fits {
             return Err(LineRefusal::Fault(PAST_LIMIT));
@@ -109,7 +108,7 @@ impl OpenProcess {
 
     /// Whether there is room for one more statement, and for one more block.
     fn may_enter(&self) -> bool
-        ensures { result ≡ nat_lt self.now.statements MOST_STATEMENTS && nat_lt (length self.now.blocks.items) MOST_OPEN_BLOCKS }
+        ensures { result ≡ may_enter self.now }
     {
         self.statements < MOST_STATEMENTS && self.blocks.len() < MOST_OPEN_BLOCKS as usize
     }
@@ -266,7 +265,7 @@ fn enter(
     statements: u32,
 ) -> Result<Draft, LineRefusal>
     requires { statements < MOST_STATEMENTS }
-    ensures ok { IfOk result (λ draft. reading_of draft ≡ Inside (contents_before before) (frame_of opened ∷ frames_of blocks.items) Stop (suc statements)) }
+    ensures ok { Reads result (entered before opened blocks.items statements) }
     ensures err { IfErr result (λ refusal. refusal ≡ LineRefusal.Memory) }
 {
     blocks.push(opened)?;
@@ -286,7 +285,7 @@ fn leave(
     stmt: Stmt,
     statements: u32,
 ) -> Result<Draft, LineRefusal>
-    ensures ok { IfOk result (λ draft. reading_of draft ≡ Inside (contents_before before) (frames_of blocks.items) (block_of outer.items ⊕ with_stmt stmt Stop) statements) }
+    ensures ok { Reads result (open_with before blocks.items (pushed outer.items stmt) statements) }
     ensures err { IfErr result (λ refusal. refusal ≡ LineRefusal.Memory) }
 {
     outer.push(stmt)?;

@@ -1,21 +1,16 @@
-//! Parts of lines: what words stand for at their places.
+//! Arguments of lines: what words stand for at their places.
 
-ghost use Rattle.std.specs.Prelude.{◌≡◌};
+ghost use Rattle.std.specs.Prelude.{◌≡◌, ◌≤◌, length, option_map};
 ghost use Rattle.reglang.specs.Forms as spec;
 
-use crate::words::{Kind, Word};
+use crate::arguments::{Argument, Arguments};
+use crate::sorts::{MOST_ARGUMENTS, Sort};
+use crate::words::{Kind, Property, Word};
+use arrayvec::ArrayVec;
 use regmodel::{Expr, Op, Operand, Target};
-use uses::Use;
-
-/// What there is where no words come after.
-pub fn alone<T: Copy>(what: T, more: &[Word]) -> Option<T>
-    ensures { result ≡ spec.alone what more.now }
-{
-    if more.is_empty() { Some(what) } else { None }
-}
 
 /// The number that a word is.
-pub fn number_in(word: Word) -> Option<u32>
+fn number_in(word: Word) -> Option<u32>
     ensures { result ≡ spec.number_in word }
 {
     match word {
@@ -24,8 +19,18 @@ pub fn number_in(word: Word) -> Option<u32>
     }
 }
 
+/// The number that a word is, up to this limit.
+fn number_to(limit: u32, word: Word) -> Option<u32>
+    ensures { result ≡ spec.number_to limit word }
+{
+    match word {
+        Word::Number(n) if n <= limit => Some(n),
+        _ => None,
+    }
+}
+
 /// The target that a word is: a variable or a cell.
-pub fn target_of(word: Word) -> Option<Target>
+fn target_of(word: Word) -> Option<Target>
     ensures { result ≡ spec.target_of word }
 {
     match word {
@@ -37,7 +42,7 @@ pub fn target_of(word: Word) -> Option<Target>
 }
 
 /// The operand that a word is: a number, a variable or a cell.
-pub fn operand_of(word: Word) -> Option<Operand>
+fn operand_of(word: Word) -> Option<Operand>
     ensures { result ≡ spec.operand_of word }
 {
     match word {
@@ -60,7 +65,7 @@ pub fn operator_of(word: Word) -> Option<Op>
 }
 
 /// The expression that words are: an operand, or two with an operator between them.
-pub fn expr_of(words: &[Word]) -> Option<Expr>
+fn expr_of(words: &[Word]) -> Option<Expr>
     ensures { result ≡ spec.expr_of words.now }
 {
     match words {
@@ -80,43 +85,45 @@ pub fn kind_of(word: Word) -> Option<Kind>
     }
 }
 
-/// A kind with its numbers.
-pub fn use_of(kind: Kind, numbers: &[Word]) -> Option<Use>
-    ensures { result ≡ spec.use_of kind numbers.now }
+/// The property that a word names.
+pub fn property_of(word: Word) -> Option<Property>
+    ensures { result ≡ spec.property_of word }
 {
-    match kind {
-        Kind::Split => {
-            let [base, id] = numbers else { return None };
-            Some(Use::Split(number_in(*base)?, number_in(*id)?))
-        }
-        Kind::Grid => {
-            let [base, side, id] = numbers else {
-                return None
-            };
-            Some(Use::Grid(number_in(*base)?, number_in(*side)?, number_in(*id)?))
-        }
-        Kind::Tree => {
-            let [base, depth, id, value] = numbers else {
-                return None
-            };
-            Some(Use::Tree(
-                number_in(*base)?,
-                number_in(*depth)?,
-                number_in(*id)?,
-                number_in(*value)?,
-            ))
-        }
-        Kind::Name => {
-            let [base, slots, slot] = numbers else {
-                return None
-            };
-            Some(Use::Name(number_in(*base)?, number_in(*slots)?, number_in(*slot)?))
-        }
-        Kind::Names => {
-            let [base, slots, slot] = numbers else {
-                return None
-            };
-            Some(Use::Names(number_in(*base)?, number_in(*slots)?, number_in(*slot)?))
-        }
+    match word {
+        Word::Property(property) => Some(property),
+        _ => None,
     }
+}
+
+/// The argument of a sort that one word is; of an expression the one that is this operand alone.
+pub fn argument_of(sort: Sort, word: Word) -> Option<Argument>
+    ensures { result ≡ spec.argument_of sort word }
+{
+    match sort {
+        Sort::Number => Some(Argument::Number(number_in(word)?)),
+        Sort::NumberTo(limit) => Some(Argument::Number(number_to(limit, word)?)),
+        Sort::Target => Some(Argument::Target(target_of(word)?)),
+        Sort::Operand => Some(Argument::Operand(operand_of(word)?)),
+        Sort::Expression => Some(Argument::Expression(Expr::One(operand_of(word)?))),
+    }
+}
+
+/// The arguments of these sorts that words are: one word is one argument, but an expression is all the words that are left.
+/// None for any other words.
+pub fn arguments(sorts: &[Sort], words: &[Word]) -> Option<Arguments>
+    requires { length sorts.now ≤ MOST_ARGUMENTS }
+    ensures { option_map (λ list. list.items) result ≡ spec.arguments sorts.now words.now }
+{
+    let mut list = ArrayVec::new();
+    let mut rest = words;
+    for sort in sorts {
+        if matches!(sort, Sort::Expression) {
+            list.push(Argument::Expression(expr_of(rest)?));
+            return Some(list);
+        }
+        let (word, more) = rest.split_first()?;
+        list.push(argument_of(*sort, *word)?);
+        rest = more;
+    }
+    if rest.is_empty() { Some(list) } else { None }
 }

@@ -24,17 +24,17 @@ pub struct Parts {
 }
 
 impl Parts {
-    ghost use Rattle.std.specs.Prelude.{Err, IfErr, IfOk, MatchResult, Ok, [], ◌∷◌, ◌++◌};
+    ghost use Rattle.std.specs.Prelude.{IfErr};
     ghost use Rattle.reglang.specs.Contents.{body_of};
     ghost use Rattle.reglang.specs.Drafts as spec;
-    ghost use Rattle.reglang.specs.Drafts.{Answers, Between, ReadingFits, contents_before, contents_at_end, reading_of};
-    ghost use Rattle.reglang.specs.Sources.{contents_of};
+    ghost use Rattle.reglang.specs.Drafts.{Answers, AnswersAtEnd, Between, Reads, ReadingFits};
+    ghost use Rattle.reglang.specs.Drafts.{begun, contents_before, with_body};
     ghost use Rattle.reglang.specs.declared.forms.Line.TheVariants as line;
     ghost use Rattle.reglang.specs.declared.source.Process.TheVariants as process;
 
     /// So many registers, and nothing else so far.
     pub fn new(alloc: Global, registers: u32) -> Parts
-        ensures { contents_before result ≡ record { registers = registers; processes = []; clauses = [] } }
+        ensures { contents_before result ≡ begun registers }
     {
         Parts {
             registers,
@@ -88,7 +88,7 @@ impl Parts {
     /// Adds a process that is read to its end.
     pub fn add_process(mut self, process: Process) -> Result<Draft, LineRefusal>
         requires { is_over self.registers process ≡ true }
-        ensures ok { IfOk result (λ draft. reading_of draft ≡ Between (record (contents_before self) { processes = (contents_before self).processes ++ body_of process ∷ [] })) }
+        ensures ok { Reads result (Between (with_body (contents_before self) (body_of process))) }
         ensures err { IfErr result (λ refusal. refusal ≡ LineRefusal.Memory) }
     {
         self.processes.push(process)?;
@@ -98,7 +98,7 @@ impl Parts {
     /// The source of these parts.
     pub fn finish(self) -> Result<Source, u8>
         requires { ReadingFits (Between (contents_before self)) }
-        ensures { MatchResult result (λ source. contents_at_end (Between (contents_before self)) ≡ Ok (contents_of source)) (λ code. contents_at_end (Between (contents_before self)) ≡ Err code) }
+        ensures { AnswersAtEnd (Between (contents_before self)) result }
     {
         let Parts {
             registers,

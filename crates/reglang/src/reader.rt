@@ -1,12 +1,10 @@
 //! The reader of texts.
 
-ghost use Rattle.std.specs.Prelude.{◌≡◌, ◌≢◌, ◌<◌, ◌≤◌, IfErr, IfOk, IfSome, false, length, max, Some};
-ghost use Rattle.reglang.specs.Contents.{Contents};
+ghost use Rattle.std.specs.Prelude.{◌<◌, ◌≤◌, IfErr, IfOk};
 ghost use Rattle.reglang.specs.Drafts.{Answers, IsFaultOf, ReadingFits, reading_of, take_if_said};
-ghost use Rattle.reglang.specs.Faults.{are_faultless, at_start, first_fault};
+ghost use Rattle.reglang.specs.Faults.{HasNoneBefore, IsFirst, IsUnspelled, TellsEnd, TellsMemory, last_line};
 ghost use Rattle.reglang.specs.Forms as forms;
 ghost use Rattle.reglang.specs.Grammar.{Spells};
-ghost use Rattle.reglang.specs.Lines.{lines};
 ghost use Rattle.reglang.specs.Sources.{contents_of};
 
 use crate::draft::Draft;
@@ -42,11 +40,11 @@ pub struct Rejection {
 /// answered only where a request for memory was refused, with the line then being read, and no line before it has a fault.
 pub fn read_source(alloc: Global, text: &[u8]) -> Result<Source, ReadFault>
     ensures spelled { IfOk result (λ source. Spells text.now (contents_of source)) }
-    ensures first_fault { IfErr result (λ fault. fault.code ≢ 9 → first_fault text.now ≡ Some fault) }
-    ensures not_spelled { IfErr result (λ fault. fault.code ≢ 9 → (source : Contents) → Spells text.now source → ⊥) }
-    ensures no_fault_before { IfErr result (λ fault. IfSome (first_fault text.now) (λ first. fault.line ≤ first.line)) }
+    ensures first_fault { IfErr result (IsFirst text.now) }
+    ensures not_spelled { IfErr result (IsUnspelled text.now) }
+    ensures no_fault_before { IfErr result (HasNoneBefore text.now) }
     ensures first_line { IfErr result (λ fault. 0 < fault.line) }
-    ensures last_line { IfErr result (λ fault. fault.line ≤ max 1 (length (lines text.now))) }
+    ensures last_line { IfErr result (λ fault. fault.line ≤ last_line text.now) }
 {
     match read_text(alloc, text) {
         Ok(source) => Ok(source),
@@ -58,13 +56,13 @@ pub fn read_source(alloc: Global, text: &[u8]) -> Result<Source, ReadFault>
 /// at fault where no line is; it never is where memory was refused.
 pub fn read_text(alloc: Global, text: &[u8]) -> Result<Source, Rejection>
     ensures spelled { IfOk result (λ source. Spells text.now (contents_of source)) }
-    ensures first_fault { IfErr result (λ rejection. rejection.fault.code ≢ 9 → first_fault text.now ≡ Some rejection.fault) }
-    ensures not_spelled { IfErr result (λ rejection. rejection.fault.code ≢ 9 → (source : Contents) → Spells text.now source → ⊥) }
-    ensures no_fault_before { IfErr result (λ rejection. IfSome (first_fault text.now) (λ first. rejection.fault.line ≤ first.line)) }
+    ensures first_fault { IfErr result (λ rejection. IsFirst text.now rejection.fault) }
+    ensures not_spelled { IfErr result (λ rejection. IsUnspelled text.now rejection.fault) }
+    ensures no_fault_before { IfErr result (λ rejection. HasNoneBefore text.now rejection.fault) }
     ensures first_line { IfErr result (λ rejection. 0 < rejection.fault.line) }
-    ensures last_line { IfErr result (λ rejection. rejection.fault.line ≤ max 1 (length (lines text.now))) }
-    ensures of_end { IfErr result (λ rejection. rejection.fault.code ≢ 9 → rejection.is_of_end ≡ are_faultless at_start (lines text.now)) }
-    ensures of_memory { IfErr result (λ rejection. rejection.fault.code ≡ 9 → rejection.is_of_end ≡ false) }
+    ensures last_line { IfErr result (λ rejection. rejection.fault.line ≤ last_line text.now) }
+    ensures of_end { IfErr result (TellsEnd text.now) }
+    ensures of_memory { IfErr result TellsMemory }
 {
     let mut draft = Draft::Empty;
     let mut rest = text;

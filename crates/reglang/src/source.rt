@@ -26,7 +26,7 @@ impl Process {
     /// What it runs: a copy of its own program, or its expansion. An error where a request for memory was refused.
     fn prog(&self, alloc: Global, registers: u32) -> Result<Prog, OutOfMemory>
         requires { is_over registers self.now ≡ true }
-        ensures { IfOk result (λ prog. program_of prog ≡ program_over registers (body_of self.now)) }
+        ensures { IfOk result (λ p. program_of p ≡ program_over registers (body_of self.now)) }
     {
         match self {
             Process::Text(prog) => {
@@ -60,9 +60,10 @@ impl Source {
     ghost use Rattle.std.specs.Prelude.{Some, IfOk, slice_get};
     ghost use Rattle.regmodel.specs.OfProg.{program_of};
     ghost use Rattle.regmodel.specs.Limits.{IsWithin};
-    ghost use Rattle.std.specs.Prelude.{IfSome, MatchOption, map};
-    ghost use Rattle.reglang.specs.Contents.{Kind, IsText, IsSourceWithin, body_of};
-    ghost use Rattle.reglang.specs.Sources.{contents_of, registers_of, source_programs};
+    ghost use Rattle.std.specs.Prelude.{map};
+    ghost use Rattle.reglang.specs.Contents.{IsSourceWithin, body_of};
+    ghost use Rattle.reglang.specs.Sources.{IsUseOf, body_at, contents_of, contents_with, registers_of};
+    ghost use Rattle.reglang.specs.Sources.{source_programs};
 
     /// The source of these processes and clauses.
     pub(crate) fn new(registers: u32, processes: Vec<Process>, clauses: Clauses) -> Source
@@ -73,7 +74,7 @@ impl Source {
         requires few_clauses { length clauses ≤ MOST_CHECKS }
         requires clauses_fit { All (λ clause. clause_fits clause ≡ true) clauses }
         requires fit { All (λ p. is_over registers p ≡ true) processes.items }
-        ensures { contents_of result ≡ record { registers = registers; processes = map body_of processes.items; clauses = clauses } }
+        ensures { contents_of result ≡ contents_with registers processes.items clauses }
     {
         Source {
             registers,
@@ -119,7 +120,7 @@ impl Source {
     /// The use line of process p, counted from 0. None where it has statements of its own.
     pub fn use_of(&self, p: usize) -> Option<&Use>
         requires { p < length (source_programs self.now) }
-        ensures { MatchOption result (IfSome (slice_get (contents_of self.now).processes p) IsText) (λ kind. slice_get (contents_of self.now).processes p ≡ Some (Kind kind.now)) }
+        ensures { IsUseOf (body_at self.now p) result }
     {
         match &self.processes[p] {
             Process::Use(kind) => Some(kind),
@@ -131,7 +132,7 @@ impl Source {
     /// An error where a request for memory was refused.
     pub fn prog(&self, alloc: Global, p: usize) -> Result<Prog, OutOfMemory>
         requires { p < length (source_programs self.now) }
-        ensures { IfOk result (λ prog. slice_get (source_programs self.now) p ≡ Some (program_of prog)) }
+        ensures { IfOk result (λ q. slice_get (source_programs self.now) p ≡ Some (program_of q)) }
     {
         self.processes[p].prog(alloc, self.registers())
     }

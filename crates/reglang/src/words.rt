@@ -1,6 +1,6 @@
 //! Words, by what they may stand for.
 
-ghost use Rattle.std.specs.Prelude.{◌≡◌, IsTrue, Some, None, MatchOption, map};
+ghost use Rattle.std.specs.Prelude.{◌≡◌, IsTrue, map, option_copied};
 ghost use Rattle.std.specs.List.{list_all};
 ghost use Rattle.std.specs.Str.Parse.{digits_value};
 ghost use Rattle.reglang.specs.Words as spec;
@@ -195,7 +195,7 @@ fn variable_of(word: &[u8]) -> Option<u8>
 
 /// What stands between brackets. None where they are not the ends of the word.
 fn in_brackets(word: &[u8]) -> Option<&[u8]>
-    ensures { MatchOption result (spec.in_brackets word.now ≡ None) (λ index. spec.in_brackets word.now ≡ Some index.now) }
+    ensures { option_copied result ≡ spec.in_brackets word.now }
 {
     let (first, rest) = word.split_first()?;
     let (last, index) = rest.split_last()?;

@@ -1,12 +1,10 @@
 //! The writer of texts.
 
-ghost use Rattle.std.specs.Prelude.{◌≡◌, ◌++◌, OnOk, OnErr, map};
-ghost use Rattle.std.specs.List.{flat_map};
-ghost use Rattle.regmodel.specs.Program.{Block, block_of, with_stmt};
-ghost use Rattle.reglang.specs.Contents.{body_of};
+ghost use Rattle.std.specs.Prelude.{◌≡◌, ◌++◌, OnOk, OnErr};
 ghost use Rattle.reglang.specs.Grammar.{Spells};
 ghost use Rattle.reglang.specs.Sources.{contents_of};
-ghost use Rattle.reglang.specs.Writing.{block_lines, body_lines, check_line, else_lines, lines_text, process_lines, source_text};
+ghost use Rattle.reglang.specs.Writing.{GrowsBy, body_text, checks_text, else_text};
+ghost use Rattle.reglang.specs.Writing.{process_text, processes_text, stmts_text, text_of};
 
 mod lines;
 mod words;
@@ -20,8 +18,8 @@ use regmodel::{Clause, OutOfMemory, Stmt};
 /// parted by one space, `else` only before a second part that is not empty, each line ended by a byte 10. `read_source` reads
 /// the source from it again. After an error, a request for memory that was refused, `out` is as before.
 pub fn write_source(source: &Source, out: &mut Vec<u8>) -> Result<(), OutOfMemory>
-    ensures text { OnOk result (out.new.items ≡ out.old.items ++ source_text (contents_of source.now)) }
-    ensures spells { OnOk result (Spells (source_text (contents_of source.now)) (contents_of source.now)) }
+    ensures text { OnOk result (out.new.items ≡ out.old.items ++ text_of source.now) }
+    ensures spells { OnOk result (Spells (text_of source.now) (contents_of source.now)) }
     ensures err { OnErr result (out.new.items ≡ out.old.items) }
 {
     let mut text = Vec::new(*out.allocator());
@@ -34,7 +32,7 @@ pub fn write_source(source: &Source, out: &mut Vec<u8>) -> Result<(), OutOfMemor
 
 /// Appends the lines of processes.
 fn push_processes(text: &mut Vec<u8>, processes: &[Process]) -> Result<(), OutOfMemory>
-    ensures { OnOk result (text.new.items ≡ text.old.items ++ lines_text (flat_map process_lines (map body_of processes.now))) }
+    ensures { OnOk result (text.new.items ≡ text.old.items ++ processes_text processes.now) }
 {
     for process in processes {
         push_process(text, process)?;
@@ -44,7 +42,7 @@ fn push_processes(text: &mut Vec<u8>, processes: &[Process]) -> Result<(), OutOf
 
 /// Appends the lines of a process.
 fn push_process(text: &mut Vec<u8>, process: &Process) -> Result<(), OutOfMemory>
-    ensures { OnOk result (text.new.items ≡ text.old.items ++ lines_text (process_lines (body_of process.now))) }
+    ensures { OnOk result (text.new.items ≡ text.old.items ++ process_text process.now) }
 {
     push_line(text, Line::Process)?;
     push_body(text, process)?;
@@ -53,7 +51,7 @@ fn push_process(text: &mut Vec<u8>, process: &Process) -> Result<(), OutOfMemory
 
 /// Appends the lines of what a process runs.
 fn push_body(text: &mut Vec<u8>, process: &Process) -> Result<(), OutOfMemory>
-    ensures { OnOk result (text.new.items ≡ text.old.items ++ lines_text (body_lines (body_of process.now))) }
+    ensures { OnOk result (text.new.items ≡ text.old.items ++ body_text process.now) }
 {
     match process {
         Process::Text(prog) => push_block(text, prog.body()),
@@ -64,7 +62,7 @@ fn push_body(text: &mut Vec<u8>, process: &Process) -> Result<(), OutOfMemory>
 /// Appends the lines of a block.
 #[cycle(writing)]
 fn push_block(text: &mut Vec<u8>, block: &[Stmt]) -> Result<(), OutOfMemory>
-    ensures { OnOk result (text.new.items ≡ text.old.items ++ lines_text (block_lines (block_of block.now))) }
+    ensures { OnOk result (text.new.items ≡ text.old.items ++ stmts_text block.now) }
 {
     for stmt in block {
         push_stmt(text, stmt)?;
@@ -75,7 +73,7 @@ fn push_block(text: &mut Vec<u8>, block: &[Stmt]) -> Result<(), OutOfMemory>
 /// Appends the lines of a statement.
 #[cycle(writing)]
 fn push_stmt(text: &mut Vec<u8>, stmt: &Stmt) -> Result<(), OutOfMemory>
-    ensures { OnOk result ((rest : Block) → text.new.items ++ lines_text (block_lines rest) ≡ text.old.items ++ lines_text (block_lines (with_stmt stmt.now rest))) }
+    ensures { OnOk result (GrowsBy stmt.now text.old.items text.new.items) }
 {
     match stmt {
         Stmt::Assign(to, value) => push_line(text, Line::Set(*to, *value)),
@@ -101,7 +99,7 @@ fn push_stmt(text: &mut Vec<u8>, stmt: &Stmt) -> Result<(), OutOfMemory>
 /// Appends an `else` and the lines of the second part of an `if`, or nothing where that part is empty.
 #[cycle(writing)]
 fn push_second(text: &mut Vec<u8>, second: &[Stmt]) -> Result<(), OutOfMemory>
-    ensures { OnOk result (text.new.items ≡ text.old.items ++ lines_text (else_lines (block_of second.now) (block_lines (block_of second.now)))) }
+    ensures { OnOk result (text.new.items ≡ text.old.items ++ else_text second.now) }
 {
     if second.is_empty() {
         return Ok(());
@@ -112,7 +110,7 @@ fn push_second(text: &mut Vec<u8>, second: &[Stmt]) -> Result<(), OutOfMemory>
 
 /// Appends the lines of clauses.
 fn push_checks(text: &mut Vec<u8>, clauses: &[Clause]) -> Result<(), OutOfMemory>
-    ensures { OnOk result (text.new.items ≡ text.old.items ++ lines_text (map check_line clauses.now)) }
+    ensures { OnOk result (text.new.items ≡ text.old.items ++ checks_text clauses.now) }
 {
     for clause in clauses {
         push_line(text, Line::Check(Some(*clause)))?;

@@ -2,6 +2,7 @@
 
 ghost use Rattle.std.specs.Prelude.{◌≡◌, ◌++◌, OnOk, decimal};
 ghost use Rattle.reglang.specs.Writing as spec;
+ghost use Rattle.reglang.specs.Writing.{between};
 
 use crate::spellings::Spelled;
 use crate::words::Word;
@@ -19,7 +20,7 @@ fn push_number(text: &mut Vec<u8>, n: u32) -> Result<(), OutOfMemory>
 
 /// Appends a number between two pieces of text.
 fn push_between(text: &mut Vec<u8>, before: &[u8], n: u32, after: &[u8]) -> Result<(), OutOfMemory>
-    ensures { OnOk result (text.new.items ≡ text.old.items ++ (before.now ++ (decimal n ++ after.now))) }
+    ensures { OnOk result (text.new.items ≡ text.old.items ++ between before.now n after.now) }
 {
     text.extend_from_slice(before)?;
     push_number(text, n)?;
