@@ -1,14 +1,13 @@
 //! How many pieces were taken and how many are known, told on a writer while workers run.
 
 ghost use Rattle.std.specs.Prelude.{◌≡◌, ◌+◌, ◌-◌, ◌^◌, min};
-ghost use Rattle.texts.specs.Appending.{Puts, Writes, write_fault_of};
-ghost use Rattle.cli.specs.Progress.{noun_text, pieces_text, progress_line, progress_text};
+ghost use Rattle.cli.specs.Progress.{progress_text};
 
 use explorer::Gate;
 use regmodel::Prefix;
 use std::io::Write;
 use std::sync::{Mutex, Wait};
-use texts::{Block, WriteFault, put_digits};
+use texts::{Block, Text, WriteFault, write};
 
 /// How many pieces were taken, and how many are said to be known. Both stop at the greatest u64.
 #[derive(Drop)]
@@ -46,7 +45,7 @@ impl<E: Write> Telling<'_, E> {
     /// One piece more was taken. What the writer does not take of the line is left out.
     fn take(&mut self) {
         self.counts.take();
-        let _ = write_progress(&self.counts, self.err);
+        let _ = write(&self.counts, self.err);
     }
 }
 
@@ -85,61 +84,24 @@ impl<H: Wait + Sync, E: Write + Send> Gate for Progress<'_, H, E> {
     }
 }
 
-/// Writes the line of these counts, where the number of taken pieces is a power of two.
-fn write_progress<E: Write>(counts: &Counts, err: &mut E) -> Result<(), WriteFault>
-    ensures { Writes (E.contents err.old) (E.contents err.new)
-        (progress_text counts.now.taken counts.now.known) (write_fault_of result) }
-{
-    let mut block = Block::new();
-    put_progress(err, &mut block, counts)?;
-    block.flush(err)
-}
+/// The line of these counts, where the number of taken pieces is a power of two.
+impl Text for Counts {
+    ghost text = { λ counts. progress_text counts.taken counts.known };
 
-/// Puts the line of these counts, where the number of taken pieces is a power of two.
-fn put_progress<E: Write>(err: &mut E, block: &mut Block, counts: &Counts) -> Result<(), WriteFault>
-    ensures { Puts (E.contents err.old) block.old (E.contents err.new) block.new
-        (progress_text counts.now.taken counts.now.known) (write_fault_of result) }
-{
-    if !counts.taken.is_power_of_two() {
-        return Ok(());
-    }
-    put_line(err, block, counts.taken, counts.taken.max(counts.known))
-}
-
-/// Puts the line that so many pieces were taken, and so many are known.
-fn put_line<E: Write>(
-    err: &mut E,
-    block: &mut Block,
-    taken: u64,
-    known: u64,
-) -> Result<(), WriteFault>
-    ensures { Puts (E.contents err.old) block.old (E.contents err.new) block.new
-        (progress_line taken known) (write_fault_of result) }
-{
-    block.put(err, b"regtry: ")?;
-    put_pieces(err, block, taken)?;
-    block.put(err, b" taken of ")?;
-    put_digits(err, block, known)?;
-    block.put(err, b" known so far\n")
-}
-
-/// Puts so many pieces.
-fn put_pieces<E: Write>(err: &mut E, block: &mut Block, count: u64) -> Result<(), WriteFault>
-    ensures { Puts (E.contents err.old) block.old (E.contents err.new) block.new (pieces_text count)
-        (write_fault_of result) }
-{
-    put_digits(err, block, count)?;
-    put_noun(err, block, count)
-}
-
-/// Puts the noun behind so many.
-fn put_noun<E: Write>(err: &mut E, block: &mut Block, count: u64) -> Result<(), WriteFault>
-    ensures { Puts (E.contents err.old) block.old (E.contents err.new) block.new (noun_text count)
-        (write_fault_of result) }
-{
-    if count == 1 {
-        block.put(err, b" piece")
-    } else {
-        block.put(err, b" pieces")
+    fn put<W: Write>(&self, out: &mut W, block: &mut Block) -> Result<(), WriteFault> {
+        let taken = self.taken;
+        if !taken.is_power_of_two() {
+            return Ok(());
+        }
+        let known = taken.max(self.known);
+        let noun = if taken == 1 { " piece" } else { " pieces" };
+        (
+            "regtry: ",
+            (taken, noun),
+            " taken of ",
+            known,
+            " known so far\n",
+        )
+            .put(out, block)
     }
 }

@@ -2,7 +2,7 @@
 use Rattle.std.proofs.Common.{◌≡◌, ℕ, zero, suc, ◌+◌, ◌-◌, ◌<◌, Bool, List, ◌++◌, Option, Some, None, add-one, add-suc, ap, sym, ◌∙◌, subst, append_assoc, arith}
 use Rattle.std.proofs.lemmas.List.{append-nil}
 use Rattle.texts.specs.Appending.{Puts}
-use Rattle.texts.proofs.Texts.{after_text, fault_before}
+use Rattle.texts.proofs.Appending.{after_text, fault_before}
 use Rattle.drawing.specs.DrawingText.{drawing_text, gap_before, gap_past, joined, table_text}
 use Rattle.drawing.specs.Layout.{columns_shown, widths}
 use Rattle.drawing.specs.Pictures.{Picture}
@@ -33,10 +33,6 @@ fault-in f n count {old = old} {new = new} {kept = kept} {left = left} {code = c
     let all : count ≡ n + 1 + rest = omega arith in
     ap (joined f) all ∙ (joined-split f (n + 1) rest ∙ ap (λ text. text ++ joined (λ i. f (n + 1 + i)) rest) (joined-more f n)) in
     subst (λ (text : List ℕ). Puts old kept new left text (Some code)) (sym parts) (fault_before (after_text before here) (joined (λ i. f (n + 1 + i)) rest))
-
--- what comes of the second of two texts, which is known by another name
-pub after-same : (x y z : List ℕ) {old mid new : Option (List ℕ)} {kept between left : List ℕ} {fault : Option ℕ} → y ≡ z → Puts old kept mid between x None → Puts mid between new left y fault → Puts old kept new left (x ++ z) fault
-after-same x y z {old = old} {new = new} {kept = kept} {left = left} {fault = fault} same before here = subst (λ (text : List ℕ). Puts old kept new left (x ++ text) fault) same (after_text before here)
 
 -- the table of its own widths is the drawing
 pub table-drawn : (all : Bool) (picture : Picture) (wide : List ℕ) (columns : ℕ) → wide ≡ widths picture → columns ≡ columns_shown all picture wide → table_text picture wide columns ≡ drawing_text all picture

@@ -1,21 +1,7 @@
--- A cell's text behind the spaces that are due.
-use Rattle.std.proofs.Common.{◌≡◌, ℕ, ◌+◌, ◌≤◌, ◌==◌, Bool, true, false, List, ◌++◌, length, Option, Some, None, if◌then◌else◌, ap, sym, ◌∙◌, subst, arith}
+-- The spaces that are due, and texts whose loop has ended.
+use Rattle.std.proofs.Common.{◌≡◌, ℕ, ◌+◌, ◌≤◌, ◌==◌, Bool, true, false, List, length, Option, if◌then◌else◌, subst, arith}
 use Rattle.texts.specs.Appending.{Puts}
-use Rattle.texts.proofs.Texts.{after_text, fault_before}
-use Rattle.drawing.specs.DrawingText.{gap_past, joined, placed, spaces}
-
-placed-some : (gap : ℕ) (text bytes : List ℕ) (empty : Bool) → bytes ≡ text → empty ≡ (length bytes == 0) → empty ≡ false → placed gap text ≡ spaces gap ++ bytes
-placed-some gap text bytes empty same told none = let some : (length text == 0) ≡ false = ap (λ t. length t == 0) (sym same) ∙ (sym told ∙ none) in rw some (ap (λ t. spaces gap ++ t) (sym same))
-
--- at a fault in the spaces
-pub placed-fault : (gap : ℕ) (text bytes : List ℕ) (empty : Bool) {old new : Option (List ℕ)} {kept left : List ℕ} {code : ℕ} → bytes ≡ text → empty ≡ (length bytes == 0) → empty ≡ false → Puts old kept new left (spaces gap) (Some code) → Puts old kept new left (placed gap text) (Some code)
-placed-fault gap text bytes empty {old = old} {new = new} {kept = kept} {left = left} {code = code} same told none before =
-    subst (λ (t : List ℕ). Puts old kept new left t (Some code)) (sym (placed-some gap text bytes empty same told none)) (fault_before before bytes)
-
--- the text behind its spaces
-pub placed-text : (gap : ℕ) (text bytes : List ℕ) (empty : Bool) {old mid new : Option (List ℕ)} {kept between left : List ℕ} {fault : Option ℕ} → bytes ≡ text → empty ≡ (length bytes == 0) → empty ≡ false → Puts old kept mid between (spaces gap) None → Puts mid between new left bytes fault → Puts old kept new left (placed gap text) fault
-placed-text gap text bytes empty {old = old} {new = new} {kept = kept} {left = left} {fault = fault} same told none before here =
-    subst (λ (t : List ℕ). Puts old kept new left t fault) (sym (placed-some gap text bytes empty same told none)) (after_text before here)
+use Rattle.drawing.specs.DrawingText.{gap_past, joined}
 
 either-low : (empty : Bool) (a b limit : ℕ) → a ≤ limit → b ≤ limit → (if empty then a else b) ≤ limit
 either-low true a b limit h k = h

@@ -40,10 +40,18 @@ abbrev pub left_out_text : ℕ → ℕ → List ℕ
 left_out_text first registers =
     if nat_lt first registers then codes "left out: r" ++ decimal first ++ to_last_text first registers ++ codes "; regtry show --all draws all\n" else []
 
--- the text of a drawing in columns of these widths, the first so many of them
+-- a line of a drawing in columns of these widths, the first so many of them
+abbrev pub table_line : Picture → List ℕ → ℕ → ℕ → List ℕ
+table_line picture wide columns line = line_text (λ column. get_or wide column 0) (cell_text picture line) columns
+
+-- its lines
+abbrev pub table_lines : Picture → List ℕ → ℕ → List ℕ
+table_lines picture wide columns = joined (table_line picture wide columns) (line_count picture)
+
+-- its text: the lines, and which registers are left out
 abbrev pub table_text : Picture → List ℕ → ℕ → List ℕ
 table_text picture wide columns =
-    joined (λ line. line_text (λ column. get_or wide column 0) (cell_text picture line) columns) (line_count picture)
+    table_lines picture wide columns
     ++ left_out_text (columns - 1 - length picture.ends) (length picture.start)
 
 -- the text of a drawing, with all registers or with those that fit

@@ -73,7 +73,9 @@ pub(crate) fn columns_shown(drawing: &Drawing, widths: &[u8], all: bool) -> usiz
 fn columns_within(widths: &[u8], places: usize, fixed: usize) -> usize
     requires few { length widths.now ≤ MOST_COLUMNS }
     requires short { places ≤ WIDE }
-    ensures value { result ≡ layout.columns_within (λ column. get_or widths.now column 0) places fixed (length widths.now) }
+    ensures value { result
+        ≡ layout.columns_within (λ column. get_or widths.now column 0) places fixed
+        (length widths.now) }
     ensures few { result ≤ length widths.now }
 {
     let mut columns = widths.len();

@@ -4,10 +4,12 @@
 mod cells;
 mod drawings;
 mod following;
+mod gaps;
 mod layout;
 mod registers;
+mod tables;
 mod writing;
 
 pub use drawings::{Deed, Drawing, Held, Row};
 pub use following::draw;
-pub use writing::write_drawing;
+pub use writing::{Drawn, write_drawing};

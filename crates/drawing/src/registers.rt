@@ -13,7 +13,9 @@ use arrayvec::ArrayVec;
 pub(crate) fn held_since(before: &[u32], now: &[u32]) -> ArrayVec<Held, 64>
     requires each { length before.now ≡ length now.now }
     requires few { length now.now ≤ 64 }
-    ensures { (programs : List Program) → (v w : Schedule) → (n : ℕ) → before.now ≡ values_after programs v n → now.now ≡ values_after programs w n → result.items ≡ all_held programs n v w }
+    ensures { (programs : List Program) → (v w : Schedule) → (n : ℕ)
+        → before.now ≡ values_after programs v n → now.now ≡ values_after programs w n
+        → result.items ≡ all_held programs n v w }
 {
     let mut held = ArrayVec::new();
     for (r, value) in now.iter().enumerate() {

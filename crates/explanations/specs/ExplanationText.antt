@@ -35,5 +35,5 @@ line_explained path rejection line =
     heading path rejection line ++ printable_text line ++ codes "\n" ++ change_text rejection.fault.code (culprit_of rejection line) ++ codes "\n"
 
 -- what is wrong with a text that is refused
-abbrev pub explanation_text : List ℕ → List ℕ → Rejection → List ℕ
-explanation_text path text rejection = line_explained path rejection (shown (line_at rejection.fault.line text))
+abbrev pub explained : List ℕ → List ℕ → Rejection → List ℕ
+explained path text rejection = line_explained path rejection (shown (line_at rejection.fault.line text))

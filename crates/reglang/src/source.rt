@@ -86,7 +86,8 @@ impl Source {
     /// How many registers there are, 1 to 64.
     pub fn registers(&self) -> u32
         ensures value { result ≡ registers_of self.now }
-        ensures programs { All (λ p. IsWithin p × (p.registers ≡ result)) (source_programs self.now) }
+        ensures programs { All (λ p. IsWithin p × (p.registers ≡ result))
+            (source_programs self.now) }
         ensures some { 0 < length (source_programs self.now) }
         ensures few { length (source_programs self.now) ≤ MOST_PROCESSES }
     {

@@ -1,14 +1,18 @@
-//! Texts, put piece by piece into blocks for a writer.
+//! Texts: what can be written as one, its parts, and blocks in which it goes to a writer.
 #![tactic(auto)]
 
 mod blocks;
 mod faults;
 mod numbers;
 mod outcomes;
+mod parts;
+mod rows;
 mod schedules;
+mod texts;
 
 pub use blocks::Block;
-pub use faults::WriteFault;
-pub use numbers::{put_digits, put_number, put_numbers};
-pub use outcomes::{put_outcome, put_outcome_line};
-pub use schedules::put_schedule;
+pub use faults::{ANSWERED_ERROR, TOOK_NO_BYTE, WriteFault};
+pub use numbers::NumberLine;
+pub use outcomes::OutcomeLine;
+pub use rows::{Joined, Led};
+pub use texts::{Text, write};

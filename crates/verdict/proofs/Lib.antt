@@ -1,2 +1,1 @@
 mod Breaking
-mod Written

@@ -53,7 +53,8 @@ pub fn verdict_on(
 ) -> Verdict
     requires machines { map program machines.items ≡ source_programs source.now }
     requires spelled { Spells text.now (contents_of source.now) }
-    requires found { IsPlainReport (source_programs source.now) settings.length settings.crashes (meets_all (contents_of source.now).clauses) report }
+    requires found { IsPlainReport (source_programs source.now) settings.length settings.crashes
+        (meets_all (contents_of source.now).clauses) report }
     ensures report { result.report ≡ report }
     ensures breach { IsBreachFor text.now (contents_of source.now) report.least result.breach }
 {
@@ -73,7 +74,9 @@ fn breach_for(
     requires machines { map program machines.items ≡ source_programs source.now }
     requires few { crashes ≤ MOST_CRASHES }
     requires spelled { Spells text.now (contents_of source.now) }
-    requires refused { (w : Schedule) (ends : List ProcEnd) → report.now.least ≡ Some (w, ends) → IsRefusedWith (source_programs source.now) crashes (meets_all (contents_of source.now).clauses) w ends }
+    requires refused { (w : Schedule) (ends : List ProcEnd) → report.now.least ≡ Some (w, ends)
+        → IsRefusedWith (source_programs source.now) crashes
+        (meets_all (contents_of source.now).clauses) w ends }
     ensures { IsBreachFor text.now (contents_of source.now) report.now.least result }
 {
     let Some((schedule, outcome)) = report.least() else {
@@ -96,7 +99,8 @@ fn breach_of(
     requires machines { map program machines.items ≡ source_programs source.now }
     requires few { crashes ≤ MOST_CRASHES }
     requires spelled { Spells text.now (contents_of source.now) }
-    requires refused { IsRefusedWith (source_programs source.now) crashes (meets_all (contents_of source.now).clauses) schedule.now outcome.now }
+    requires refused { IsRefusedWith (source_programs source.now) crashes
+        (meets_all (contents_of source.now).clauses) schedule.now outcome.now }
     ensures { IsBreachOf text.now (contents_of source.now) schedule.now outcome.now result }
 {
     Breach {
@@ -131,7 +135,8 @@ fn drawing_of(
     requires machines { map program machines.items ≡ source_programs source.now }
     requires few { crashes ≤ MOST_CRASHES }
     requires schedule { IsSchedule (source_programs source.now) crashes schedule.now }
-    ensures { IsPictureOf (source_programs source.now) (registers_of source.now) schedule.now result }
+    ensures { IsPictureOf (source_programs source.now) (registers_of source.now) schedule.now
+        result }
 {
     let mut world = World::new(machines, source.registers(), crashes);
     match draw(&mut world, schedule) {

@@ -2,6 +2,7 @@
 #![tactic(auto)]
 
 mod breaches;
+mod counts;
 mod indents;
 mod reaches;
 mod telling;

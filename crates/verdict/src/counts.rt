@@ -1,0 +1,63 @@
+//! Numbers of things, in words.
+
+ghost use Rattle.verdict.specs.VerdictText as spec;
+
+use std::io::Write;
+use texts::{Block, Text, WriteFault};
+
+/// A number of things: a noun, and its ending, which is left out for one thing.
+#[derive(Clone, Copy)]
+pub struct Counted<'a> {
+    /// The number.
+    pub number: u64,
+    /// The noun.
+    pub noun: &'a str,
+    /// The ending.
+    pub ending: &'a str,
+}
+
+impl Text for Counted<'_> {
+    ghost text = { λ c. spec.counted c.number c.noun.now c.ending.now };
+
+    fn put<W: Write>(&self, out: &mut W, block: &mut Block) -> Result<(), WriteFault> {
+        let ending = if self.number == 1 { "" } else { self.ending };
+        (self.number, " ", self.noun, ending).put(out, block)
+    }
+}
+
+/// A number of letters.
+#[derive(Clone, Copy)]
+pub struct Letters(pub u64);
+
+impl Text for Letters {
+    ghost text = { λ l. spec.letters_text l.0 };
+
+    fn put<W: Write>(&self, out: &mut W, block: &mut Block) -> Result<(), WriteFault> {
+        let letters = Counted {
+            number: self.0,
+            noun: "letter",
+            ending: "s",
+        };
+        letters.put(out, block)
+    }
+}
+
+/// How many processes may crash.
+#[derive(Clone, Copy)]
+pub struct Crashes(pub u64);
+
+impl Text for Crashes {
+    ghost text = { λ c. spec.crashes_text c.0 };
+
+    fn put<W: Write>(&self, out: &mut W, block: &mut Block) -> Result<(), WriteFault> {
+        if self.0 == 0 {
+            return "no crashes".put(out, block);
+        }
+        let crashes = Counted {
+            number: self.0,
+            noun: "crash",
+            ending: "es",
+        };
+        crashes.put(out, block)
+    }
+}
