@@ -36,7 +36,9 @@ fn report_of(
     settings: Settings,
     judge: &Without,
 ) -> Result<Report, anyhow::Error>
-    ensures { IfOk result (λ report. IsPlainReport (source_programs source.now) settings.length settings.crashes (⟦<Without as Judge>⟧.accepts judge.now) report) }
+    ensures { IfOk result
+        (λ report. IsPlainReport (source_programs source.now) settings.length settings.crashes
+        (⟦<Without as Judge>⟧.accepts judge.now) report) }
 {
     let mut machines: Vec<Box<dyn Machine + Send>> = Vec::new(alloc);
     for p in 0..source.processes() {

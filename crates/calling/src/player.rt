@@ -54,7 +54,8 @@ impl Machine for Player {
 /// The machine of process p of a source.
 pub fn player_of(alloc: Global, source: &Source, p: usize) -> Result<Player, OutOfMemory>
     requires { p < length (source_programs source.now) }
-    ensures { IfOk result (λ m. slice_get (source_programs source.now) p ≡ Some (⟦<Player as Machine>⟧.program m)) }
+    ensures { IfOk result
+        (λ m. slice_get (source_programs source.now) p ≡ Some (⟦<Player as Machine>⟧.program m)) }
 {
     let prog = source.prog(alloc, p)?;
     match Looker::of(&prog) {

@@ -38,7 +38,8 @@ impl Interp {
     /// is dropped then. No later call takes memory.
     pub fn make(alloc: Global, prog: Prog) -> Result<Interp, OutOfMemory>
         ensures same { IfOk result (λ m. ⟦<Interp as Machine>⟧.program m ≡ program_of prog) }
-        ensures starts { IfOk result (λ m. IsAtStart (program_of prog) (⟦<Interp as Machine>⟧.rest m)) }
+        ensures starts { IfOk result
+            (λ m. IsAtStart (program_of prog) (⟦<Interp as Machine>⟧.rest m)) }
     {
         let blank = Kept {
             reply: Reply::none(),
