@@ -1,2 +1,3 @@
 mod BoundedReads
 mod VerdictsFound
+mod Numbers

@@ -1,7 +1,11 @@
 -- What the words of the command line ask for.
-use Rattle.std.specs.Prelude.{◌≡◌, ℕ, ◌+◌, Bool, false, List}
+use Rattle.std.specs.Prelude.{◌≡◌, ℕ, ◌+◌, ◌<◌, ◌^◌, Bool, true, false, not, List, Option, Some, None, codes}
+use Rattle.std.specs.Str.Parse.{IsNumeral, digits_value, without_leading_plus}
+use Rattle.regmodel.specs.Settings.{Bounds}
+use Rattle.regmodel.specs.declared.limits.TheConstants.{MOST_LETTERS}
 use Rattle.regmodel.specs.ScheduleText.{schedule_text}
 use Rattle.cli.specs.declared.orders.Task.{Task}
+use Rattle.cli.specs.declared.orders.TheConstants.{CUT, ROOM}
 use Rattle.cli.specs.declared.orders.Task.TheVariants.{Check, Explore, Least, Replay, Show}
 
 -- to replay the schedule of this text
@@ -20,13 +24,55 @@ IsShowOf text all (Least settings native) = ⊥
 IsShowOf text all (Replay schedule) = ⊥
 IsShowOf text all (Show schedule with_all) = (schedule_text schedule ≡ text) × (with_all ≡ all)
 
--- to explore, for a report or for the least failing schedule alone
-abbrev pub IsExploration : Task → Type 0
-IsExploration (Check settings native) = ⊥
-IsExploration (Explore settings native) = Unit {0}
-IsExploration (Least settings native) = Unit {0}
-IsExploration (Replay schedule) = ⊥
-IsExploration (Show schedule all) = ⊥
+-- the text is digits, maybe behind a plus, and the number that they write has 32 bits
+abbrev pub IsNumberText : List ℕ → Type 0
+IsNumberText text = IsNumeral 10 (without_leading_plus text) × (digits_value 10 (without_leading_plus text) < 2 ^ 32)
+
+-- the number that a text writes, where it writes one; else another one
+pub record IsNumberIn (text : List ℕ) (other n : ℕ) : Type 0 where
+  pub number : IsNumberText text → n ≡ digits_value 10 (without_leading_plus text)
+  pub none : (IsNumberText text → ⊥) → n ≡ other
+
+-- the number that the text of an option writes, or another one where there is no such option
+abbrev pub IsNumberTold : Option (List ℕ) → ℕ → ℕ → Type 0
+IsNumberTold None other n = n ≡ other
+IsNumberTold (Some text) other n = IsNumberIn text other n
+
+-- whether a flag is given, as clap says it in text
+pub record IsFlagTold (text : Option (List ℕ)) (given : Bool) : Type 0 where
+  pub none : text ≡ None → given ≡ false
+  pub yes : text ≡ Some (codes "true") → given ≡ true
+  pub no : text ≡ Some (codes "false") → given ≡ false
+
+-- the settings of an exploration are those of its words; `told` gives the text of each
+pub record AreSettingsTold (told : List ℕ → Option (List ℕ)) (settings : Bounds) : Type 0 where
+  pub length : IsNumberTold (told (codes "length")) 0 settings.length
+  pub crashes : IsNumberTold (told (codes "crashes")) 0 settings.crashes
+  pub workers : IsNumberTold (told (codes "workers")) 0 settings.workers
+  pub cut : IsNumberTold (told (codes "cut")) 0 settings.cut
+  pub room : IsNumberTold (told (codes "room")) 0 settings.room
+
+-- the bounds of a check are those of its words: without them the greatest length, no crash, and as many workers as there are processors
+pub record AreBoundsTold (told : List ℕ → Option (List ℕ)) (processors : ℕ) (settings : Bounds) : Type 0 where
+  pub length : IsNumberTold (told (codes "length")) MOST_LETTERS settings.length
+  pub crashes : IsNumberTold (told (codes "crashes")) 0 settings.crashes
+  pub workers : IsNumberTold (told (codes "workers")) processors settings.workers
+  pub cut : settings.cut ≡ CUT
+  pub room : settings.room ≡ ROOM
+
+-- use lines run as native machines, unless the words ask for interpreters
+abbrev pub IsNativeTold : (List ℕ → Option (List ℕ)) → Bool → Type 0
+IsNativeTold told native = (text : Bool) × IsFlagTold (told (codes "text")) text × (native ≡ not text)
+
+-- to explore as the words tell, for a report or for the least failing schedule alone
+abbrev pub IsExploration : (List ℕ → Option (List ℕ)) → Task → Type 0
+IsExploration told (Check settings native) = ⊥
+IsExploration told (Explore settings native) =
+    AreSettingsTold told settings × IsNativeTold told native × IsFlagTold (told (codes "least")) false
+IsExploration told (Least settings native) =
+    AreSettingsTold told settings × IsNativeTold told native × IsFlagTold (told (codes "least")) true
+IsExploration told (Replay schedule) = ⊥
+IsExploration told (Show schedule all) = ⊥
 
 -- whether use lines run as native machines
 abbrev pub is_native : Task → Bool
@@ -36,13 +82,13 @@ is_native (Least settings native) = native
 is_native (Replay schedule) = false
 is_native (Show schedule all) = false
 
--- to check, and say in words what fails
-abbrev pub IsCheck : Task → Type 0
-IsCheck (Check settings native) = Unit {0}
-IsCheck (Explore settings native) = ⊥
-IsCheck (Least settings native) = ⊥
-IsCheck (Replay schedule) = ⊥
-IsCheck (Show schedule all) = ⊥
+-- to check as the words tell, and say in words what fails
+abbrev pub IsCheck : (List ℕ → Option (List ℕ)) → ℕ → Task → Type 0
+IsCheck told processors (Check settings native) = AreBoundsTold told processors settings × IsNativeTold told native
+IsCheck told processors (Explore settings native) = ⊥
+IsCheck told processors (Least settings native) = ⊥
+IsCheck told processors (Replay schedule) = ⊥
+IsCheck told processors (Show schedule all) = ⊥
 
 -- how many lists of machines it takes: one for each worker, and one more where a schedule that fails is to be drawn
 abbrev pub lists_of : Task → ℕ

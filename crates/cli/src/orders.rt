@@ -1,10 +1,11 @@
 //! What the words of the command line ask for.
 
-ghost use Rattle.std.specs.Prelude.{◌≡◌, ◌≢◌, IfErr, IfOk, List};
+ghost use Rattle.std.specs.Prelude.{◌≡◌, ◌≢◌, IfErr, IfOk, List, not};
+ghost use Rattle.clap.specs.Words.{found_of, one_text};
 ghost use Rattle.regmodel.specs.declared.letters.Letter.{Letter};
 ghost use Rattle.regmodel.specs.Prefixes.{FitsPrefix};
 ghost use Rattle.regmodel.specs.ScheduleText.{schedule_text};
-ghost use Rattle.cli.specs.Orders.{IsCheck, IsExploration, IsReplayOf, IsShowOf};
+ghost use Rattle.cli.specs.Orders.{IsCheck, IsExploration, IsFlagTold, IsNativeTold, IsNumberTold, IsReplayOf, IsShowOf};
 ghost use Rattle.cli.specs.Statuses.{status_of};
 
 use crate::refusals::{Refusal, refuse};
@@ -158,7 +159,7 @@ fn order_of<'a, E: Write>(
 
 /// How far the words of `check` ask to check.
 fn check_of(words: &ArgMatches<'_>, processors: u32) -> Result<Task, Refusal>
-    ensures ok { IfOk result IsCheck }
+    ensures ok { IfOk result (IsCheck (one_text (found_of words.now)) processors) }
     ensures err { IfErr result (λ refusal. status_of refusal ≡ 2) }
 {
     let settings = Settings::new(
@@ -168,7 +169,7 @@ fn check_of(words: &ArgMatches<'_>, processors: u32) -> Result<Task, Refusal>
         CUT,
         ROOM,
     );
-    let native = !words.get_flag("text");
+    let native = is_native(words);
     match settings {
         Ok(settings) => Ok(Task::Check { settings, native }),
         Err(fault) => Err(Refusal::Setting(fault.code)),
@@ -177,7 +178,7 @@ fn check_of(words: &ArgMatches<'_>, processors: u32) -> Result<Task, Refusal>
 
 /// How far the words of `explore` ask to explore.
 fn exploration_of(words: &ArgMatches<'_>) -> Result<Task, Refusal>
-    ensures ok { IfOk result IsExploration }
+    ensures ok { IfOk result (IsExploration (one_text (found_of words.now))) }
     ensures err { IfErr result (λ refusal. status_of refusal ≡ 2) }
 {
     let settings = Settings::new(
@@ -187,9 +188,9 @@ fn exploration_of(words: &ArgMatches<'_>) -> Result<Task, Refusal>
         number_of(words, "cut"),
         number_of(words, "room"),
     );
-    let native = !words.get_flag("text");
+    let native = is_native(words);
     match settings {
-        Ok(settings) if words.get_flag("least") => Ok(Task::Least { settings, native }),
+        Ok(settings) if has_flag(words, "least") => Ok(Task::Least { settings, native }),
         Ok(settings) => Ok(Task::Explore { settings, native }),
         Err(fault) => Err(Refusal::Setting(fault.code)),
     }
@@ -234,12 +235,30 @@ fn schedule_of(text: &str) -> Result<Prefix, Refusal>
     }
 }
 
+/// Whether use lines run as native machines, by the words.
+fn is_native(words: &ArgMatches<'_>) -> bool
+    ensures { IsNativeTold (one_text (found_of words.now)) result }
+{
+    !has_flag(words, "text")
+}
+
+/// Whether a flag is given.
+fn has_flag(words: &ArgMatches<'_>, name: &str) -> bool
+    ensures { IsFlagTold (one_text (found_of words.now) name.now) result }
+{
+    words.get_flag(name)
+}
+
 /// The number of a required option.
-fn number_of(matches: &ArgMatches<'_>, name: &str) -> u32 {
-    number_or(matches, name, 0)
+fn number_of(words: &ArgMatches<'_>, name: &str) -> u32
+    ensures { IsNumberTold (one_text (found_of words.now) name.now) 0 result }
+{
+    number_or(words, name, 0)
 }
 
 /// The number of an option, or another one where it is not given.
-fn number_or(matches: &ArgMatches<'_>, name: &str, other: u32) -> u32 {
-    matches.get_one::<u32>(name).unwrap_or(other)
+fn number_or(words: &ArgMatches<'_>, name: &str, other: u32) -> u32
+    ensures { IsNumberTold (one_text (found_of words.now) name.now) other result }
+{
+    words.get_one::<u32>(name).unwrap_or(other)
 }
