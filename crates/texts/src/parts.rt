@@ -28,7 +28,12 @@ impl Text for &str {
     ghost text = { λ s. s.now };
 
     fn put<W: Write>(&self, out: &mut W, block: &mut Block) -> Result<(), WriteFault> {
-        block.put(out, self.as_bytes())
+        let bytes = self.as_bytes();
+        if let [byte] = bytes {
+            // One byte, as between two words, is not copied as many are.
+            return block.put_byte(out, *byte);
+        }
+        block.put(out, bytes)
     }
 }
 
