@@ -24,17 +24,13 @@ impl Reply {
         }
     }
 
-    /// The reply of these numbers.
-    pub fn of(values: &[u32]) -> Reply
+    /// Holds these numbers from now on, and no others.
+    pub fn set(&mut self, values: &[u32])
         requires { length values.now ≤ MOST_SCANNED }
-        ensures { values_in result ≡ values.now }
+        ensures { values_in self.new ≡ values.now }
     {
-        let mut places = [0; MOST_SCANNED];
-        places[..values.len()].copy_from_slice(values);
-        Reply {
-            places,
-            count: values.len(),
-        }
+        self.places[..values.len()].copy_from_slice(values);
+        self.count = values.len();
     }
 
     /// Its numbers.
