@@ -1,1 +1,2 @@
+mod BlocksBehind
 mod CheckLines

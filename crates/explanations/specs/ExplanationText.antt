@@ -1,12 +1,17 @@
 -- What is wrong with a source that is refused, in words.
-use Rattle.std.specs.Prelude.{ℕ, if◌then◌else◌, List, [], ◌++◌, Option, Some, None, codes, decimal, is_some}
+use Rattle.std.specs.Prelude.{ℕ, ◌+◌, ◌-◌, ◌==◌, not, if◌then◌else◌, List, [], ◌++◌, Option, Some, None, codes, decimal, is_some, slice_index}
+use Rattle.std.specs.List.{position}
+use Rattle.explanations.specs.Advice.{advice_text}
 use Rattle.explanations.specs.Checks.{line_at}
-use Rattle.explanations.specs.Wording.{change_text, wrong_text}
+use Rattle.explanations.specs.OpenBlocks.{innermost, open_after}
+use Rattle.explanations.specs.Wording.{wrong_text}
+use Rattle.explanations.specs.declared.open_blocks.Opened.{Opened}
 use Rattle.explanations.specs.Misfits.{word_at_fault}
 use Rattle.explanations.specs.declared.wording.Culprit.{Culprit}
 use Rattle.explanations.specs.declared.wording.Culprit.TheVariants.{End, Line, Word}
+use Rattle.reglang.specs.declared.refusals.TheConstants.{NOT_PRINTABLE}
 use Rattle.reglang.specs.declared.reader.Rejection.{Rejection}
-use Rattle.explanations.specs.Shown.{printable_text, shown}
+use Rattle.explanations.specs.Shown.{is_shown, printable_text, shown}
 
 -- what is at fault: the end of the text where it is told to be, else a word of the line where there is one, else the line
 abbrev pub culprit_of : Rejection → List ℕ → Culprit
@@ -17,11 +22,22 @@ abbrev pub maybe_word_text : Option (List ℕ) → List ℕ
 maybe_word_text (Some word) = codes ": " ++ word
 maybe_word_text None = []
 
--- the word of the line that is at fault, where the end of the text is not
-abbrev pub word_text : Rejection → List ℕ → List ℕ
-word_text rejection line = if rejection.is_of_end then [] else maybe_word_text (word_at_fault rejection.fault.code line)
+-- the byte of a line at this place, where there is one; columns are counted from 1
+abbrev pub maybe_byte_text : List ℕ → Option ℕ → List ℕ
+maybe_byte_text line (Some place) = codes ": byte " ++ decimal (slice_index line place) ++ codes " in column " ++ decimal (place + 1)
+maybe_byte_text line None = []
 
--- what is wrong, and the word at fault
+-- the first byte of a line that is not printable ASCII
+abbrev pub byte_text : List ℕ → List ℕ
+byte_text line = maybe_byte_text line (position (λ b. not (is_shown b)) line)
+
+-- the word or byte of the line that is at fault, where the end of the text is not
+abbrev pub word_text : Rejection → List ℕ → List ℕ
+word_text rejection line =
+    if rejection.is_of_end then [] else
+    (if rejection.fault.code == NOT_PRINTABLE then byte_text line else maybe_word_text (word_at_fault rejection.fault.code line))
+
+-- what is wrong, and the word or byte at fault
 abbrev pub fault_text : Rejection → List ℕ → List ℕ
 fault_text rejection line = wrong_text rejection.fault.code (culprit_of rejection line) ++ word_text rejection line
 
@@ -29,11 +45,15 @@ fault_text rejection line = wrong_text rejection.fault.code (culprit_of rejectio
 abbrev pub heading : List ℕ → Rejection → List ℕ → List ℕ
 heading path rejection line = path ++ codes ":" ++ decimal rejection.fault.line ++ codes ": " ++ fault_text rejection line ++ codes "\n"
 
--- what is wrong with the text in the file of this path, at this line, the line, and what to change
-abbrev pub line_explained : List ℕ → Rejection → List ℕ → List ℕ
-line_explained path rejection line =
-    heading path rejection line ++ printable_text line ++ codes "\n" ++ change_text rejection.fault.code (culprit_of rejection line) ++ codes "\n"
+-- what is wrong with the text in the file of this path, at this line, the line, and what to change where this block is open
+abbrev pub line_explained : List ℕ → Rejection → List ℕ → Option Opened → List ℕ
+line_explained path rejection line opened =
+    heading path rejection line ++ printable_text line ++ codes "\n" ++ advice_text rejection.fault.code (culprit_of rejection line) line opened ++ codes "\n"
+
+-- how many lines stand before the fault: all where the end of the text is at fault
+abbrev pub lines_before : Rejection → ℕ
+lines_before rejection = if rejection.is_of_end then rejection.fault.line else rejection.fault.line - 1
 
 -- what is wrong with a text that is refused
 abbrev pub explained : List ℕ → List ℕ → Rejection → List ℕ
-explained path text rejection = line_explained path rejection (shown (line_at rejection.fault.line text))
+explained path text rejection = line_explained path rejection (shown (line_at rejection.fault.line text)) (innermost (open_after (lines_before rejection) text))

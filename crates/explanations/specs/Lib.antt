@@ -1,6 +1,11 @@
+pub mod Advice
 pub mod CheckExamples
 pub mod Checks
 pub mod ExplanationText
+pub mod Hints
+pub mod LineForms
 pub mod Misfits
+pub mod OpenBlocks
+pub mod PassedLimits
 pub mod Shown
 pub mod Wording

@@ -1,6 +1,7 @@
 -- Which word of a refused line is at fault.
-use Rattle.std.specs.Prelude.{ℕ, ◌==◌, ◌||◌, Bool, true, false, not, if◌then◌else◌, List, [], ◌∷◌, Option, Some, None, is_some, option_map}
-use Rattle.reglang.specs.declared.refusals.TheConstants.{NO_CLAUSE, NO_FORM, NO_NUMBER, UNKNOWN_WORD}
+use Rattle.std.specs.Prelude.{ℕ, ◌==◌, ◌||◌, Bool, true, false, not, if◌then◌else◌, List, [], ◌∷◌, Option, Some, None, is_some, nat_lt, option_map}
+use Rattle.regmodel.specs.declared.limits.TheConstants.{GREATEST_VALUE}
+use Rattle.reglang.specs.declared.refusals.TheConstants.{NO_CLAUSE, NO_FORM, NO_NUMBER, PAST_LIMIT, UNKNOWN_WORD}
 use Rattle.reglang.specs.Forms.{argument_of, is_known, is_no_number, kind_of, operator_of, property_of}
 use Rattle.reglang.specs.Lines.{words}
 use Rattle.reglang.specs.Sorts.{kind_sorts, property_sorts, sorts_after}
@@ -27,6 +28,11 @@ is_of sort word = is_some (argument_of sort word)
 -- whether it is an operator
 abbrev pub is_operator : Word → Bool
 is_operator word = is_some (operator_of word)
+
+-- whether it is a number past the greatest one
+abbrev pub is_past : Word → Bool
+is_past (word.Number n) = nat_lt GREATEST_VALUE n
+is_past _ = false
 
 -- what the words of these sorts must be, place by place; an expression in its longest form is an operand, an operator and an operand
 abbrev pub places : List Sort → List (Word → Bool)
@@ -71,14 +77,15 @@ misfit_after (word.Keyword keyword.Check) more = check_misfit more
 misfit_after (word.Keyword key) more = misfit_of (sorts_after key) more
 misfit_after _ more = None
 
--- the word at fault, by the code: the first unknown one, the first that is no number although it begins with a digit, or the first that has
--- no place in its line
+-- the word at fault, by the code: the first unknown one, the first that is no number although it begins with a digit, the first that has
+-- no place in its line, or the first number that is past the greatest one
 abbrev pub at_fault : ℕ → List (List ℕ) → Option (List ℕ)
 at_fault code [] = None
 at_fault code (first ∷ more) =
     if code == UNKNOWN_WORD then (if is_keyword (word_of first) then first_that is_unknown more else Some first) else
     (if code == NO_NUMBER then first_that is_no_number more else
-    (if code == NO_FORM || code == NO_CLAUSE then misfit_after (word_of first) more else None))
+    (if code == PAST_LIMIT then first_that is_past more else
+    (if code == NO_FORM || code == NO_CLAUSE then misfit_after (word_of first) more else None)))
 
 -- the word of a line that is at fault, where its fault has this code and is one of its words
 abbrev pub word_at_fault : ℕ → List ℕ → Option (List ℕ)

@@ -1,5 +1,5 @@
 -- Lines of a source, as they are shown.
-use Rattle.std.specs.Prelude.{ℕ, ◌&&◌, if◌then◌else◌, List, [], ◌∷◌, Option, Some, None, nat_le}
+use Rattle.std.specs.Prelude.{ℕ, ◌&&◌, Bool, if◌then◌else◌, List, [], ◌∷◌, Option, Some, None, nat_le}
 use Rattle.std.specs.List.{flat_map}
 
 -- a line; no bytes where there is none
@@ -7,9 +7,13 @@ abbrev pub shown : Option (List ℕ) → List ℕ
 shown (Some line) = line
 shown None = []
 
--- a byte of printable ASCII; a question mark for any other
+-- whether a byte is printable ASCII
+abbrev pub is_shown : ℕ → Bool
+is_shown b = nat_le 32 b && nat_le b 126
+
+-- such a byte; a question mark for any other
 abbrev pub printable : ℕ → ℕ
-printable b = if nat_le 32 b && nat_le b 126 then b else 63
+printable b = if is_shown b then b else 63
 
 -- bytes, each as a printable one
 abbrev pub printable_text : List ℕ → List ℕ

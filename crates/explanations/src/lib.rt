@@ -1,14 +1,17 @@
 //! What is wrong with a source that is refused, in words for a person; and its lines, by their numbers.
 #![tactic(auto)]
 
+mod advice;
 mod checks;
+mod hints;
+mod line_forms;
 mod lines;
 mod misfits;
+mod open_blocks;
+mod passed_limits;
 mod wording;
 mod writing;
 
 pub use checks::check_line;
-pub use lines::{line_at, shown_line};
-pub use misfits::word_at_fault;
-pub use wording::{Culprit, what_is_wrong, what_to_change};
+pub use lines::shown_line;
 pub use writing::write_explanation;

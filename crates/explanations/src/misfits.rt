@@ -7,15 +7,17 @@ ghost use Rattle.reglang.specs.declared.sorts.Sort.TheVariants as sort;
 ghost use Rattle.explanations.specs.Misfits as spec;
 
 use reglang::{
-    Keyword, NO_CLAUSE, NO_FORM, NO_NUMBER, Sort, UNKNOWN_WORD, Word, argument_of, is_known,
-    kind_of, kind_sorts, operator_of, property_of, property_sorts, sorts_after, split_word,
-    word_of,
+    Keyword, NO_CLAUSE, NO_FORM, NO_NUMBER, PAST_LIMIT, Sort, UNKNOWN_WORD, Word, argument_of,
+    is_known, kind_of, kind_sorts, operator_of, property_of, property_sorts, sorts_after,
+    split_word, word_of,
 };
+use regmodel::limits::GREATEST_VALUE;
 
 /// The word of a line that is at fault, where the fault of the line has this code: for code 2 the first unknown one, for code 3 the first
-/// that begins with a digit and is no number word, for codes 4 and 8 the first that has no place in a line with its first word. None for
-/// another code, and where the line wants another word at its end.
-pub fn word_at_fault(line: &[u8], code: u8) -> Option<&[u8]>
+/// that begins with a digit and is no number word, for codes 4 and 8 the first that has no place in a line with its first word, and for code 6
+/// the first number that is past the greatest one. None for another code, where the line wants another word at its end, and where another
+/// limit is passed.
+pub(crate) fn word_at_fault(line: &[u8], code: u8) -> Option<&[u8]>
     ensures { option_copied result ≡ spec.word_at_fault code line.now }
 {
     let (first, rest) = split_word(line)?;
@@ -28,6 +30,9 @@ pub fn word_at_fault(line: &[u8], code: u8) -> Option<&[u8]>
     if code == NO_NUMBER {
         return first_no_number(rest);
     }
+    if code == PAST_LIMIT {
+        return first_past(rest);
+    }
     if code == NO_FORM || code == NO_CLAUSE {
         return misfit_after(word_of(first), rest);
     }
@@ -35,7 +40,7 @@ pub fn word_at_fault(line: &[u8], code: u8) -> Option<&[u8]>
 }
 
 /// The first word that may not stand after a first word.
-fn first_unknown(line: &[u8]) -> Option<&[u8]>
+pub(crate) fn first_unknown(line: &[u8]) -> Option<&[u8]>
     ensures { option_copied result ≡ spec.first_that spec.is_unknown (words line.now) }
 {
     let mut rest = line;
@@ -60,6 +65,30 @@ fn first_no_number(line: &[u8]) -> Option<&[u8]>
         rest = after;
     }
     None
+}
+
+/// The first number that is past the greatest one.
+fn first_past(line: &[u8]) -> Option<&[u8]>
+    ensures { option_copied result ≡ spec.first_that spec.is_past (words line.now) }
+{
+    let mut rest = line;
+    while let Some((word, after)) = split_word(rest) {
+        if is_past(word_of(word)) {
+            return Some(word);
+        }
+        rest = after;
+    }
+    None
+}
+
+/// Whether a word is a number past the greatest one.
+fn is_past(word: Word) -> bool
+    ensures { result ≡ spec.is_past word }
+{
+    match word {
+        Word::Number(n) => n > GREATEST_VALUE,
+        _ => false,
+    }
 }
 
 /// The first word after a first one that has no place there.

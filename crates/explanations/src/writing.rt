@@ -1,15 +1,18 @@
 //! What is wrong with a source that is refused, in words for a person. No call takes memory.
 
-ghost use Rattle.std.specs.Prelude.{◌≡◌};
+ghost use Rattle.std.specs.Prelude.{◌≡◌, ◌<◌, IfSome, length, not};
+ghost use Rattle.std.specs.List.{position};
 ghost use Rattle.texts.specs.Appending.{Wrote};
 ghost use Rattle.explanations.specs.ExplanationText as spec;
 ghost use Rattle.explanations.specs.ExplanationText.{explained, line_explained, word_text};
-ghost use Rattle.explanations.specs.Shown.{printable, printable_text};
+ghost use Rattle.explanations.specs.Shown.{is_shown, printable, printable_text};
 
+use crate::advice::Advice;
 use crate::lines::shown_line;
 use crate::misfits::word_at_fault;
-use crate::wording::{Culprit, what_is_wrong, what_to_change};
-use reglang::Rejection;
+use crate::open_blocks::{Opened, open_block};
+use crate::wording::{Culprit, what_is_wrong};
+use reglang::{NOT_PRINTABLE, Rejection};
 use std::io::Write;
 use texts::{Block, Text, WriteFault, write};
 
@@ -25,41 +28,61 @@ pub fn write_explanation<W: Write>(
     ensures { Wrote W.contents out.old out.new (explained path.now text.now rejection.now) result }
 {
     let line = shown_line(text, rejection.fault.line);
+    let opened = open_block(text, lines_before(rejection));
     let explanation = Explanation {
         path,
         rejection,
         line,
+        opened,
     };
     write(&explanation, out)
 }
 
-/// What is wrong with a text, the line where it is, and what to change.
+/// How many lines stand before the fault: all where the end of the text is at fault.
+fn lines_before(rejection: &Rejection) -> u64
+    ensures { result ≡ spec.lines_before rejection.now }
+{
+    let line = rejection.fault.line;
+    if rejection.is_of_end {
+        line
+    } else {
+        line.saturating_sub(1)
+    }
+}
+
+/// What is wrong with a text, the line where it is, the block that is open there, and what to change.
 #[derive(Clone, Copy)]
 struct Explanation<'a> {
     path: &'a [u8],
     rejection: &'a Rejection,
     line: &'a [u8],
+    opened: Option<Opened>,
 }
 
 impl Text for Explanation<'_> {
-    ghost text = { λ e. line_explained e.path.now e.rejection.now e.line.now };
+    ghost text = { λ e. line_explained e.path.now e.rejection.now e.line.now e.opened };
 
     fn put<W: Write>(&self, out: &mut W, block: &mut Block) -> Result<(), WriteFault> {
         let fault = self.rejection.fault;
         let culprit = culprit_of(self.rejection, self.line);
         let wrong = what_is_wrong(fault.code, culprit);
-        let change = what_to_change(fault.code, culprit);
+        let advice = Advice {
+            code: fault.code,
+            culprit,
+            line: self.line,
+            opened: self.opened,
+        };
         let word = WordAtFault {
             rejection: self.rejection,
             line: self.line,
         };
         let place = (self.path, ":", fault.line, ": ");
         let heading = (place, (wrong, word), "\n");
-        (heading, Shown(self.line), "\n", change, "\n").put(out, block)
+        (heading, Shown(self.line), "\n", advice, "\n").put(out, block)
     }
 }
 
-/// The word of a line that is at fault, where there is one and the end of the text is not at fault.
+/// The word or byte of a line that is at fault, where there is one and the end of the text is not at fault.
 #[derive(Clone, Copy)]
 struct WordAtFault<'a> {
     rejection: &'a Rejection,
@@ -73,11 +96,38 @@ impl Text for WordAtFault<'_> {
         if self.rejection.is_of_end {
             return Ok(());
         }
+        if self.rejection.fault.code == NOT_PRINTABLE {
+            return ByteAtFault(self.line).put(out, block);
+        }
         match word_at_fault(self.line, self.rejection.fault.code) {
             Some(word) => (": ", word).put(out, block),
             None => Ok(()),
         }
     }
+}
+
+/// The first byte of a line that is not printable ASCII, and its column, counted from 1.
+#[derive(Clone, Copy)]
+struct ByteAtFault<'a>(&'a [u8]);
+
+impl Text for ByteAtFault<'_> {
+    ghost text = { λ b. spec.byte_text b.0.now };
+
+    fn put<W: Write>(&self, out: &mut W, block: &mut Block) -> Result<(), WriteFault> {
+        let Some(place) = first_unshown(self.0) else {
+            return Ok(());
+        };
+        let column = place as u64 + 1;
+        (": byte ", self.0[place], " in column ", column).put(out, block)
+    }
+}
+
+/// The place of the first byte of a line that is not printable ASCII.
+fn first_unshown(line: &[u8]) -> Option<usize>
+    ensures place { result ≡ position (λ b. not (is_shown b)) line.now }
+    ensures within { IfSome result (λ place. place < length line.now) }
+{
+    line.iter().position(|b| !is_shown(*b))
 }
 
 /// What is at fault: the end of the text where it is told to be, else a word of the line where there is one, else the line.
@@ -108,13 +158,16 @@ impl Text for Shown<'_> {
     }
 }
 
+/// Whether a byte is printable ASCII.
+fn is_shown(byte: u8) -> bool
+    ensures { result ≡ is_shown byte }
+{
+    (b' '..=b'~').contains(&byte)
+}
+
 /// A byte of printable ASCII; a question mark for any other.
 fn printable(byte: u8) -> u8
     ensures { result ≡ printable byte }
 {
-    if (b' '..=b'~').contains(&byte) {
-        byte
-    } else {
-        b'?'
-    }
+    if is_shown(byte) { byte } else { b'?' }
 }

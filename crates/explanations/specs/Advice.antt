@@ -1,0 +1,87 @@
+-- What to change in a refused line.
+use Rattle.std.specs.Prelude.{ℕ, ◌==◌, ◌&&◌, ◌||◌, Bool, true, false, if◌then◌else◌, List, [], ◌∷◌, ◌++◌, Option, Some, None, codes, decimal}
+use Rattle.explanations.specs.Hints.{hint_of}
+use Rattle.explanations.specs.LineForms.{first_of, form_of}
+use Rattle.explanations.specs.PassedLimits.{limit_of}
+use Rattle.explanations.specs.Wording.{change_text, is_end, is_line}
+use Rattle.explanations.specs.declared.open_blocks.Block.{Block}
+use Rattle.explanations.specs.declared.open_blocks.Block.TheVariants as block
+use Rattle.explanations.specs.declared.open_blocks.Opened.{Opened}
+use Rattle.explanations.specs.declared.wording.Culprit.{Culprit}
+use Rattle.reglang.specs.Lines.{words}
+use Rattle.reglang.specs.declared.refusals.TheConstants.{MISPLACED, NO_CLAUSE, NO_FORM, PAST_LIMIT, UNKNOWN_WORD}
+use Rattle.reglang.specs.declared.words.Keyword.TheVariants as keyword
+use Rattle.reglang.specs.declared.words.Word.{Word}
+use Rattle.reglang.specs.declared.words.Word.TheVariants as word
+
+-- the word that opens a block
+abbrev pub opener : Block → List ℕ
+opener block.Process = codes "process"
+opener block.If = codes "if"
+opener block.Repeat = codes "repeat"
+
+-- the word that closes it
+abbrev pub closer : Block → List ℕ
+closer block.Process = codes "end"
+closer block.If = codes "fi"
+closer block.Repeat = codes "done"
+
+-- that a block is open
+abbrev pub open_text : Opened → List ℕ
+open_text opened = codes "the " ++ opener opened.block ++ codes " of line " ++ decimal opened.line ++ codes " is open here, and " ++ closer opened.block ++ codes " closes it"
+
+-- whether a line with this first word opens or closes a process or block, or is a check
+abbrev pub is_outer : Word → Bool
+is_outer (word.Keyword keyword.Process) = true
+is_outer (word.Keyword keyword.Check) = true
+is_outer (word.Keyword keyword.End) = true
+is_outer (word.Keyword keyword.Else) = true
+is_outer (word.Keyword keyword.Fi) = true
+is_outer (word.Keyword keyword.Done) = true
+is_outer _ = false
+
+-- whether a line with this first word tells the number of registers
+abbrev pub is_registers : Word → Bool
+is_registers (word.Keyword keyword.Registers) = true
+is_registers _ = false
+
+-- what to change where a line with this first word is misplaced, if not the block that is open
+abbrev pub place_words : Word → Option Opened → List ℕ
+place_words first None = codes "write the line between process and end"
+place_words first (Some opened) = if is_outer first then [] else codes "a use line stands alone between process and end"
+
+-- the same also of the line that stands once, and of the end of the text
+abbrev pub move_words : Culprit → Word → Option Opened → List ℕ
+move_words culprit first opened =
+    if is_end culprit then [] else
+    (if is_registers first then codes "write the registers line once, before all others" else place_words first opened)
+
+-- what to change where a limit is passed
+abbrev pub stay_words : Culprit → List (List ℕ) → List ℕ
+stay_words culprit line = if is_line culprit then limit_of line else change_text PAST_LIMIT culprit
+
+-- with what the advice begins
+abbrev pub advice_lead : ℕ → List ℕ
+advice_lead code = if code == NO_FORM || code == NO_CLAUSE then codes "give the line its form: " else []
+
+-- what to change in a line whose fault has this code, where this is at fault and this block is open
+abbrev pub advice_words : ℕ → Culprit → List (List ℕ) → Option Opened → List ℕ
+advice_words code culprit line opened =
+    if code == UNKNOWN_WORD then hint_of line else
+    (if code == NO_FORM || code == NO_CLAUSE then form_of line else
+    (if code == MISPLACED then move_words culprit (first_of line) opened else
+    (if code == PAST_LIMIT then stay_words culprit line else change_text code culprit)))
+
+-- the block to close, where a line that opens or closes one is misplaced, or the end of the text
+abbrev pub block_to_close : ℕ → Culprit → Word → Option Opened → Option Opened
+block_to_close code culprit first opened =
+    if code == MISPLACED && (is_end culprit || is_outer first) then opened else None
+
+-- a block, where there is one
+abbrev pub maybe_open_text : Option Opened → List ℕ
+maybe_open_text = elim [ Some opened ↦ open_text opened | None ↦ [] ]
+
+-- what to change
+abbrev pub advice_text : ℕ → Culprit → List ℕ → Option Opened → List ℕ
+advice_text code culprit line opened =
+    advice_lead code ++ advice_words code culprit (words line) opened ++ maybe_open_text (block_to_close code culprit (first_of (words line)) opened)

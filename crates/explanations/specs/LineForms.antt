@@ -1,0 +1,77 @@
+-- The form of a line, in words.
+use Rattle.std.specs.Prelude.{ℕ, List, [], ◌∷◌, Option, Some, None, codes}
+use Rattle.reglang.specs.Forms.{kind_of, property_of}
+use Rattle.reglang.specs.Words.{word_of}
+use Rattle.reglang.specs.declared.words.Keyword.{Keyword}
+use Rattle.reglang.specs.declared.words.Keyword.TheVariants as keyword
+use Rattle.reglang.specs.declared.words.Kind.{Kind}
+use Rattle.reglang.specs.declared.words.Kind.TheVariants as kind
+use Rattle.reglang.specs.declared.words.Property.{Property}
+use Rattle.reglang.specs.declared.words.Property.TheVariants as property
+use Rattle.reglang.specs.declared.words.Word.{Word}
+use Rattle.reglang.specs.declared.words.Word.TheVariants as word
+
+-- the form of a line with this first word
+abbrev pub keyword_form : Keyword → List ℕ
+keyword_form keyword.Registers = codes "registers NUMBER"
+keyword_form keyword.Process = codes "process, and nothing behind it"
+keyword_form keyword.End = codes "end, and nothing behind it"
+keyword_form keyword.Set = codes "set TARGET EXPR; TARGET is a variable or a cell, EXPR is an operand, or two with + - * = or < between them, and an operand is a number, a variable or a cell"
+keyword_form keyword.Read = codes "read TARGET OPERAND; TARGET is the variable or cell that takes the value, and OPERAND the register, as a number, a variable or a cell"
+keyword_form keyword.Write = codes "write OPERAND EXPR; OPERAND is the register, as a number, a variable or a cell, and EXPR is such an operand, or two with + - * = or < between them"
+keyword_form keyword.Scan = codes "scan CELL REG COUNT with three numbers: the first cell, the first register, and how many"
+keyword_form keyword.If = codes "if EXPR; EXPR is an operand, or two with + - * = or < between them, and an operand is a number, a variable or a cell"
+keyword_form keyword.Else = codes "else, and nothing behind it"
+keyword_form keyword.Fi = codes "fi, and nothing behind it"
+keyword_form keyword.Repeat = codes "repeat EXPR; EXPR is an operand, or two with + - * = or < between them, and an operand is a number, a variable or a cell"
+keyword_form keyword.Done = codes "done, and nothing behind it"
+keyword_form keyword.Emit = codes "emit EXPR; EXPR is an operand, or two with + - * = or < between them, and an operand is a number, a variable or a cell"
+keyword_form keyword.Halt = codes "halt, and nothing behind it"
+keyword_form keyword.Use = codes "use KIND NUMBERS; the kinds are split, grid, tree, name and names"
+keyword_form keyword.Check = codes "check CLAUSE; the clauses are distinct, atmost V C, within LO HI, adaptive, triangle, selfseen, ended and nofault"
+
+-- the form of a use of this kind
+abbrev pub kind_form : Kind → List ℕ
+kind_form kind.Split = codes "use split BASE ID with two numbers"
+kind_form kind.Grid = codes "use grid BASE SIDE ID with three numbers"
+kind_form kind.Tree = codes "use tree BASE DEPTH ID VALUE with four numbers"
+kind_form kind.Name = codes "use name BASE SLOTS SLOT with three numbers"
+kind_form kind.Names = codes "use names BASE SLOTS SLOT with three numbers"
+
+-- the form of a check of this property
+abbrev pub property_form : Property → List ℕ
+property_form property.Distinct = codes "check distinct, and nothing behind it"
+property_form property.AtMost = codes "check atmost V C; V is 0 to 1000000000, and C is 0 to 8"
+property_form property.Within = codes "check within LO HI; LO and HI are 0 to 1000000000"
+property_form property.Adaptive = codes "check adaptive, and nothing behind it"
+property_form property.Triangle = codes "check triangle, and nothing behind it"
+property_form property.SelfSeen = codes "check selfseen, and nothing behind it"
+property_form property.Ended = codes "check ended, and nothing behind it"
+property_form property.NoFault = codes "check nofault, and nothing behind it"
+
+-- the form of a use, by the kind where there is one
+abbrev pub use_form : Option Kind → List ℕ
+use_form (Some kind) = kind_form kind
+use_form None = keyword_form keyword.Use
+
+-- the form of a check, by the property where there is one
+abbrev pub check_form : Option Property → List ℕ
+check_form (Some property) = property_form property
+check_form None = keyword_form keyword.Check
+
+-- the first of some words; no word that is known where there is none
+abbrev pub first_of : List (List ℕ) → Word
+first_of [] = word.Other
+first_of (bytes ∷ more) = word_of bytes
+
+-- the form of a line with a first word, and these behind it
+abbrev pub form_after : Word → List (List ℕ) → List ℕ
+form_after (word.Keyword keyword.Use) more = use_form (kind_of (first_of more))
+form_after (word.Keyword keyword.Check) more = check_form (property_of (first_of more))
+form_after (word.Keyword key) more = keyword_form key
+form_after _ more = []
+
+-- the form of a line with these words
+abbrev pub form_of : List (List ℕ) → List ℕ
+form_of [] = []
+form_of (first ∷ more) = form_after (word_of first) more

@@ -1,0 +1,41 @@
+-- The blocks that are open where a line stands.
+use Rattle.std.specs.Prelude.{ℕ, zero, suc, ◌-◌, if◌then◌else◌, List, [], ◌∷◌, ◌++◌, Option, Some, None, Result, Ok, length, nat_lt, slice_get, take}
+use Rattle.explanations.specs.declared.open_blocks.Block.{Block}
+use Rattle.explanations.specs.declared.open_blocks.Block.TheVariants as block
+use Rattle.explanations.specs.declared.open_blocks.Opened.{Opened}
+use Rattle.explanations.specs.declared.open_blocks.TheConstants.{MOST_OPEN}
+use Rattle.reglang.specs.Lines.{lines}
+use Rattle.reglang.specs.Forms.{read_line}
+use Rattle.reglang.specs.declared.forms.Line.{Line}
+use Rattle.reglang.specs.declared.forms.Line.TheVariants as line
+
+-- one more block inside those that are open; a text that is read has no more than so many
+abbrev pub with_one : List Opened → Opened → List Opened
+with_one blocks one = if nat_lt (length blocks) MOST_OPEN then blocks ++ one ∷ [] else blocks
+
+-- without the innermost one
+abbrev pub without_one : List Opened → List Opened
+without_one blocks = take (length blocks - 1) blocks
+
+-- what is open behind a line with this number that says this, the innermost block last
+abbrev pub open_past : ℕ → Result (Option Line) ℕ → List Opened → List Opened
+open_past number (Ok (Some line.Process)) blocks = with_one blocks (record { block = block.Process; line = number })
+open_past number (Ok (Some (line.If test))) blocks = with_one blocks (record { block = block.If; line = number })
+open_past number (Ok (Some (line.Repeat count))) blocks = with_one blocks (record { block = block.Repeat; line = number })
+open_past number (Ok (Some line.End)) blocks = without_one blocks
+open_past number (Ok (Some line.Fi)) blocks = without_one blocks
+open_past number (Ok (Some line.Done)) blocks = without_one blocks
+open_past number _ blocks = blocks
+
+-- what is open behind these lines, which come after so many others
+abbrev pub open_behind : ℕ → List (List ℕ) → List Opened → List Opened
+open_behind before [] blocks = blocks
+open_behind before (line ∷ lines) blocks = open_behind (suc before) lines (open_past (suc before) (read_line line) blocks)
+
+-- what is open behind the first so many lines of a text
+abbrev pub open_after : ℕ → List ℕ → List Opened
+open_after count text = open_behind 0 (take count (lines text)) []
+
+-- the innermost of these, which is the last
+abbrev pub innermost : List Opened → Option Opened
+innermost blocks = slice_get blocks (length blocks - 1)

@@ -1,0 +1,174 @@
+//! What to change in a refused line.
+
+ghost use Rattle.std.specs.Prelude.{◌≡◌};
+ghost use Rattle.explanations.specs.Advice as spec;
+ghost use Rattle.reglang.specs.Lines.{words};
+
+use crate::hints::hint_of;
+use crate::line_forms::{first_of, form_of};
+use crate::open_blocks::{Block as Inside, Opened};
+use crate::passed_limits::limit_of;
+use crate::wording::{Culprit, what_to_change};
+use reglang::{Keyword, MISPLACED, NO_CLAUSE, NO_FORM, PAST_LIMIT, UNKNOWN_WORD, Word};
+use std::io::Write;
+use texts::{Block, Text, WriteFault};
+
+/// The word that opens a block.
+fn opener(block: Inside) -> &'static str
+    ensures { result.now ≡ spec.opener block }
+{
+    match block {
+        Inside::Process => "process",
+        Inside::If => "if",
+        Inside::Repeat => "repeat",
+    }
+}
+
+/// The word that closes it.
+fn closer(block: Inside) -> &'static str
+    ensures { result.now ≡ spec.closer block }
+{
+    match block {
+        Inside::Process => "end",
+        Inside::If => "fi",
+        Inside::Repeat => "done",
+    }
+}
+
+/// That a block is open.
+impl Text for Opened {
+    ghost text = { spec.open_text };
+
+    fn put<W: Write>(&self, out: &mut W, block: &mut Block) -> Result<(), WriteFault> {
+        let which = ("the ", opener(self.block), " of line ", self.line);
+        (
+            which,
+            " is open here, and ",
+            closer(self.block),
+            " closes it",
+        )
+            .put(out, block)
+    }
+}
+
+/// Whether a line with this first word opens or closes a process or block, or is a check.
+fn is_outer(first: Word) -> bool
+    ensures { result ≡ spec.is_outer first }
+{
+    matches!(
+        first,
+        Word::Keyword(
+            Keyword::Process
+                | Keyword::Check
+                | Keyword::End
+                | Keyword::Else
+                | Keyword::Fi
+                | Keyword::Done
+        )
+    )
+}
+
+/// Whether a line with this first word tells the number of registers.
+fn is_registers(first: Word) -> bool
+    ensures { result ≡ spec.is_registers first }
+{
+    matches!(first, Word::Keyword(Keyword::Registers))
+}
+
+/// What to change where a line with this first word is misplaced, or the end of the text, if not the block that is open.
+fn move_words(culprit: Culprit, first: Word, opened: Option<Opened>) -> &'static str
+    ensures { result.now ≡ spec.move_words culprit first opened }
+{
+    if culprit.is_end() {
+        return "";
+    }
+    if is_registers(first) {
+        return "write the registers line once, before all others";
+    }
+    match opened {
+        None => "write the line between process and end",
+        Some(_) if is_outer(first) => "",
+        Some(_) => "a use line stands alone between process and end",
+    }
+}
+
+/// What to change where a limit is passed.
+fn stay_words(culprit: Culprit, line: &[u8]) -> &'static str
+    ensures { result.now ≡ spec.stay_words culprit (words line.now) }
+{
+    if culprit.is_line() {
+        return limit_of(line);
+    }
+    what_to_change(PAST_LIMIT, culprit)
+}
+
+/// What to change in a line whose fault has this code, where this is at fault and this block is open.
+#[derive(Clone, Copy)]
+pub(crate) struct Advice<'a> {
+    pub(crate) code: u8,
+    pub(crate) culprit: Culprit,
+    pub(crate) line: &'a [u8],
+    pub(crate) opened: Option<Opened>,
+}
+
+impl Advice<'_> {
+    ghost use Rattle.std.specs.Prelude.{◌≡◌};
+    ghost use Rattle.explanations.specs.Advice as spec;
+    ghost use Rattle.explanations.specs.LineForms as forms;
+    ghost use Rattle.reglang.specs.Lines.{words};
+
+    /// With what it begins.
+    fn lead(&self) -> &'static str
+        ensures { result.now ≡ spec.advice_lead self.now.code }
+    {
+        if self.code == NO_FORM || self.code == NO_CLAUSE {
+            return "give the line its form: ";
+        }
+        ""
+    }
+
+    /// What to change, if not the block that is open.
+    fn words(&self) -> &'static str
+        ensures { result.now
+            ≡ spec.advice_words self.now.code self.now.culprit (words self.now.line.now)
+            self.now.opened }
+    {
+        let line = self.line;
+        if self.code == UNKNOWN_WORD {
+            return hint_of(line);
+        }
+        if self.code == NO_FORM || self.code == NO_CLAUSE {
+            return form_of(line);
+        }
+        if self.code == MISPLACED {
+            return move_words(self.culprit, first_of(line), self.opened);
+        }
+        if self.code == PAST_LIMIT {
+            return stay_words(self.culprit, line);
+        }
+        what_to_change(self.code, self.culprit)
+    }
+
+    /// The block to close, where a line that opens or closes one is misplaced, or the end of the text.
+    fn block_to_close(&self) -> Option<Opened>
+        ensures { result
+            ≡ spec.block_to_close self.now.code self.now.culprit
+            (forms.first_of (words self.now.line.now)) self.now.opened }
+    {
+        if self.code != MISPLACED {
+            return None;
+        }
+        if self.culprit.is_end() || is_outer(first_of(self.line)) {
+            return self.opened;
+        }
+        None
+    }
+}
+
+impl Text for Advice<'_> {
+    ghost text = { λ a. spec.advice_text a.code a.culprit a.line.now a.opened };
+
+    fn put<W: Write>(&self, out: &mut W, block: &mut Block) -> Result<(), WriteFault> {
+        (self.lead(), self.words(), self.block_to_close()).put(out, block)
+    }
+}

@@ -1,0 +1,77 @@
+//! The blocks that are open where a line stands.
+
+ghost use Rattle.std.specs.Prelude.{◌≡◌, ◌≤◌, length};
+ghost use Rattle.explanations.specs.OpenBlocks as spec;
+ghost use Rattle.reglang.specs.Forms.{read_line};
+
+use arrayvec::ArrayVec;
+use reglang::{Line, read_line, split_line};
+
+/// How many blocks are open at a time in a text that is read, with the process.
+pub(crate) const MOST_OPEN: usize = 17;
+
+/// What a line opens.
+#[derive(Clone, Copy, PartialEq, Eq, Debug, Default)]
+pub(crate) enum Block {
+    #[default]
+    Process,
+    If,
+    Repeat,
+}
+
+/// A block that is open.
+#[derive(Clone, Copy, PartialEq, Eq, Debug, Default)]
+pub(crate) struct Opened {
+    /// What it is.
+    pub(crate) block: Block,
+    /// The number of the line that opened it, counted from 1.
+    pub(crate) line: u64,
+}
+
+/// The blocks that are open, the innermost one last.
+type Open = ArrayVec<Opened, MOST_OPEN>;
+
+/// Opens one more block.
+fn open_one(blocks: &mut Open, block: Block, line: u64)
+    ensures { blocks.new.items ≡ spec.with_one blocks.old.items (record { block = block; line = line }) }
+{
+    let _ = blocks.try_push(Opened { block, line });
+}
+
+/// Closes the innermost block.
+fn close_one(blocks: &mut Open)
+    ensures { blocks.new.items ≡ spec.without_one blocks.old.items }
+{
+    let _ = blocks.pop();
+}
+
+/// Goes on past the line with this number.
+fn go_past(blocks: &mut Open, number: u64, line: &[u8])
+    ensures { blocks.new.items ≡ spec.open_past number (read_line line.now) blocks.old.items }
+{
+    match read_line(line) {
+        Ok(Some(Line::Process)) => open_one(blocks, Block::Process, number),
+        Ok(Some(Line::If(_))) => open_one(blocks, Block::If, number),
+        Ok(Some(Line::Repeat(_))) => open_one(blocks, Block::Repeat, number),
+        Ok(Some(Line::End | Line::Fi | Line::Done)) => close_one(blocks),
+        _ => {}
+    }
+}
+
+/// The innermost block that is open behind the first so many lines of a text, where one is.
+pub(crate) fn open_block(text: &[u8], count: u64) -> Option<Opened>
+    ensures { result ≡ spec.innermost (spec.open_after count text.now) }
+{
+    let mut blocks = Open::new();
+    let mut number = 0;
+    let mut rest = text;
+    while let Some((line, after)) = split_line(rest) {
+        if number == count {
+            break;
+        }
+        number += 1;
+        go_past(&mut blocks, number, line);
+        rest = after;
+    }
+    blocks.last().copied()
+}
