@@ -1,7 +1,12 @@
 -- Where checks stand in a text, and the words at fault of lines.
 use Rattle.std.specs.Prelude.{◌≡◌, [], ◌∷◌, Some, None, refl, codes}
 use Rattle.explanations.specs.Checks.{line_at, check_lines}
+use Rattle.explanations.specs.Hints.{hint_of}
+use Rattle.explanations.specs.LineForms.{form_of}
 use Rattle.explanations.specs.Misfits.{word_at_fault}
+use Rattle.explanations.specs.OpenBlocks.{innermost, open_after}
+use Rattle.explanations.specs.declared.open_blocks.Block.TheVariants as block
+use Rattle.reglang.specs.Lines.{words}
 
 -- the second of three lines, which is the first check
 pub second_line : line_at 2 (codes "registers 1\n check ended\ncheck nofault") ≡ Some (codes " check ended")
@@ -53,3 +58,21 @@ names_first = refl
 
 pub names_of_a_variable : word_at_fault 4 (codes "use names 0 2 v1") ≡ Some (codes "v1")
 names_of_a_variable = refl
+
+-- the first number past the greatest one
+pub past_greatest : word_at_fault 6 (codes "set v0 1000000001") ≡ Some (codes "1000000001")
+past_greatest = refl
+
+-- what to write for a word of another language, for the name of a register, and for an unknown kind
+pub turned_round : hint_of (words (codes "if v0 > 1")) ≡ codes "write B < A for A > B"
+turned_round = refl
+
+pub named_register : hint_of (words (codes "read v0 r0")) ≡ codes "name a register by its number alone"
+named_register = refl
+
+pub unknown_kind : hint_of (words (codes "use spilt 0 1")) ≡ form_of (words (codes "use"))
+unknown_kind = refl
+
+-- inside an if that is closed again
+pub inside_repeat : innermost (open_after 5 (codes "registers 1\nprocess\nrepeat 2\nif v0\nfi\nend\n")) ≡ Some (record { block = block.Repeat; line = 3 })
+inside_repeat = refl

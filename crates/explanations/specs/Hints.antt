@@ -2,8 +2,10 @@
 use Rattle.std.specs.Prelude.{ℕ, ◌==◌, ◌||◌, Bool, true, false, if◌then◌else◌, List, [], ◌∷◌, ◌++◌, Option, Some, None, codes}
 use Rattle.std.specs.List.{list_any}
 use Rattle.std.specs.Str.{bytes_eq}
+use Rattle.explanations.specs.LineForms.{first_of, form_of}
 use Rattle.explanations.specs.Misfits.{first_that, is_keyword, is_unknown}
 use Rattle.reglang.specs.Words.{word_of}
+use Rattle.reglang.specs.declared.words.Keyword.TheVariants as keyword
 use Rattle.reglang.specs.declared.words.Word.{Word}
 use Rattle.reglang.specs.declared.words.Word.TheVariants as word
 
@@ -61,7 +63,16 @@ abbrev pub maybe_hint : Option (List ℕ) → List ℕ
 maybe_hint (Some word) = later_hint word
 maybe_hint None = []
 
--- of the unknown word of a line with these words
+-- of the unknown word of a line with these words, which is no use
+abbrev pub hint_in : List (List ℕ) → List ℕ
+hint_in [] = []
+hint_in (first ∷ more) = if is_keyword (word_of first) then maybe_hint (first_that is_unknown more) else first_hint first
+
+-- whether a line with this first word is a use
+abbrev pub is_use : Word → Bool
+is_use (word.Keyword keyword.Use) = true
+is_use _ = false
+
+-- of the unknown word of a line with these words; for a use its form
 abbrev pub hint_of : List (List ℕ) → List ℕ
-hint_of [] = []
-hint_of (first ∷ more) = if is_keyword (word_of first) then maybe_hint (first_that is_unknown more) else first_hint first
+hint_of line = if is_use (first_of line) then form_of line else hint_in line

@@ -5,8 +5,9 @@ ghost use Rattle.std.specs.List.{list_any};
 ghost use Rattle.explanations.specs.Hints as spec;
 ghost use Rattle.reglang.specs.Lines.{words};
 
+use crate::line_forms::{first_of, form_of};
 use crate::misfits::first_unknown;
-use reglang::{Word, split_word, word_of};
+use reglang::{Keyword, Word, split_word, word_of};
 
 /// Whether a byte stands in an operator.
 fn is_operator_byte(byte: u8) -> bool
@@ -89,9 +90,16 @@ fn first_hint(word: &[u8]) -> &'static str
     }
 }
 
-/// What to write in place of the unknown word of a line.
-pub(crate) fn hint_of(line: &[u8]) -> &'static str
-    ensures { result.now ≡ spec.hint_of (words line.now) }
+/// Whether a line with this first word is a use.
+fn is_use(first: Word) -> bool
+    ensures { result ≡ spec.is_use first }
+{
+    matches!(first, Word::Keyword(Keyword::Use))
+}
+
+/// What to write in place of the unknown word of a line that is no use.
+fn hint_in(line: &[u8]) -> &'static str
+    ensures { result.now ≡ spec.hint_in (words line.now) }
 {
     let Some((first, rest)) = split_word(line) else {
         return "";
@@ -103,4 +111,14 @@ pub(crate) fn hint_of(line: &[u8]) -> &'static str
         Some(word) => later_hint(word),
         None => "",
     }
+}
+
+/// What to write in place of the unknown word of a line; for a use its form.
+pub(crate) fn hint_of(line: &[u8]) -> &'static str
+    ensures { result.now ≡ spec.hint_of (words line.now) }
+{
+    if is_use(first_of(line)) {
+        return form_of(line);
+    }
+    hint_in(line)
 }
