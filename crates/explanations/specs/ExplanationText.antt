@@ -4,6 +4,7 @@ use Rattle.std.specs.List.{position}
 use Rattle.explanations.specs.Advice.{advice_text}
 use Rattle.explanations.specs.Checks.{line_at}
 use Rattle.explanations.specs.OpenBlocks.{innermost, open_after}
+use Rattle.explanations.specs.Origins.{line_told, path_told}
 use Rattle.explanations.specs.Wording.{wrong_text}
 use Rattle.explanations.specs.declared.open_blocks.Opened.{Opened}
 use Rattle.explanations.specs.Misfits.{word_at_fault}
@@ -41,19 +42,26 @@ word_text rejection line =
 abbrev pub fault_text : Rejection → List ℕ → List ℕ
 fault_text rejection line = wrong_text rejection.fault.code (culprit_of rejection line) ++ word_text rejection line
 
--- where the line stands, and what is wrong
-abbrev pub heading : List ℕ → Rejection → List ℕ → List ℕ
-heading path rejection line = path ++ codes ":" ++ decimal rejection.fault.line ++ codes ": " ++ fault_text rejection line ++ codes "\n"
+-- where the line comes from, and what is wrong
+abbrev pub heading : List ℕ → ℕ → Rejection → List ℕ → List ℕ
+heading path number rejection line = path ++ codes ":" ++ decimal number ++ codes ": " ++ fault_text rejection line ++ codes "\n"
 
--- what is wrong with the text in the file of this path, at this line, the line, and what to change where this block is open
-abbrev pub line_explained : List ℕ → Rejection → List ℕ → Option Opened → List ℕ
-line_explained path rejection line opened =
-    heading path rejection line ++ printable_text line ++ codes "\n" ++ advice_text rejection.fault.code (culprit_of rejection line) line opened ++ codes "\n"
+-- what is wrong with the text at this line, which is the one with this number in this file, the line, and what to change where this block
+-- is open
+abbrev pub line_explained : List ℕ → ℕ → Rejection → List ℕ → Option Opened → List ℕ
+line_explained path number rejection line opened =
+    heading path number rejection line ++ printable_text line ++ codes "\n" ++ advice_text rejection.fault.code (culprit_of rejection line) line opened ++ codes "\n"
 
 -- how many lines stand before the fault: all where the end of the text is at fault
 abbrev pub lines_before : Rejection → ℕ
 lines_before rejection = if rejection.is_of_end then rejection.fault.line else rejection.fault.line - 1
 
--- what is wrong with a text that is refused
+-- a block of a text, with the number that is told of its line
+abbrev pub block_told : List ℕ → Option Opened → Option Opened
+block_told text (Some opened) = Some (record { block = opened.block; line = line_told text opened.line })
+block_told text None = None
+
+-- what is wrong with a text that is refused, in the file of this path
 abbrev pub explained : List ℕ → List ℕ → Rejection → List ℕ
-explained path text rejection = line_explained path rejection (shown (line_at rejection.fault.line text)) (innermost (open_after (lines_before rejection) text))
+explained path text rejection =
+    line_explained (path_told path text rejection.fault.line) (line_told text rejection.fault.line) rejection (shown (line_at rejection.fault.line text)) (block_told text (innermost (open_after (lines_before rejection) text)))

@@ -6,6 +6,7 @@ pub mod Hints
 pub mod LineForms
 pub mod Misfits
 pub mod OpenBlocks
+pub mod Origins
 pub mod PassedLimits
 pub mod Shown
 pub mod Wording

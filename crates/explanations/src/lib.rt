@@ -8,10 +8,12 @@ mod line_forms;
 mod lines;
 mod misfits;
 mod open_blocks;
+mod origins;
 mod passed_limits;
 mod wording;
 mod writing;
 
 pub use checks::check_line;
 pub use lines::shown_line;
+pub use origins::{Origin, origin_of};
 pub use writing::write_explanation;

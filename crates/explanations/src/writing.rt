@@ -11,14 +11,16 @@ use crate::advice::Advice;
 use crate::lines::shown_line;
 use crate::misfits::word_at_fault;
 use crate::open_blocks::{Opened, open_block};
+use crate::origins::{Origin, origin_of};
 use crate::wording::{Culprit, what_is_wrong};
 use reglang::{NOT_PRINTABLE, Rejection};
 use std::io::Write;
 use texts::{Block, Text, WriteFault, write};
 
 /// Writes what is wrong with the text in the file of this path, which was refused so: the number of the line and what is wrong, with the word
-/// at fault where there is one, the line itself, a question mark for each byte that is not printable ASCII, and what to change. After a fault
-/// of the writer it has taken a beginning of that.
+/// or byte at fault where there is one, the line itself, a question mark for each byte that is not printable ASCII, and what to change. Where
+/// a line `#line N "FILE"` tells where the next ones come from, those numbers are told, and that file. After a fault of the writer it has
+/// taken a beginning of that.
 pub fn write_explanation<W: Write>(
     path: &[u8],
     text: &[u8],
@@ -28,9 +30,9 @@ pub fn write_explanation<W: Write>(
     ensures { Wrote W.contents out.old out.new (explained path.now text.now rejection.now) result }
 {
     let line = shown_line(text, rejection.fault.line);
-    let opened = open_block(text, lines_before(rejection));
+    let opened = block_told(text, open_block(text, lines_before(rejection)));
     let explanation = Explanation {
-        path,
+        origin: origin_of(path, text, rejection.fault.line),
         rejection,
         line,
         opened,
@@ -50,17 +52,30 @@ fn lines_before(rejection: &Rejection) -> u64
     }
 }
 
-/// What is wrong with a text, the line where it is, the block that is open there, and what to change.
+/// A block of a text, with the number that is told of its line.
+fn block_told(text: &[u8], opened: Option<Opened>) -> Option<Opened>
+    ensures { result ≡ spec.block_told text.now opened }
+{
+    match opened {
+        Some(opened) => Some(Opened {
+            block: opened.block,
+            line: origin_of(&[], text, opened.line).line,
+        }),
+        None => None,
+    }
+}
+
+/// What is wrong with a text, where its line comes from, the line, the block that is open there, and what to change.
 #[derive(Clone, Copy)]
 struct Explanation<'a> {
-    path: &'a [u8],
+    origin: Origin<'a>,
     rejection: &'a Rejection,
     line: &'a [u8],
     opened: Option<Opened>,
 }
 
 impl Text for Explanation<'_> {
-    ghost text = { λ e. line_explained e.path.now e.rejection.now e.line.now e.opened };
+    ghost text = { λ e. line_explained e.origin.path.now e.origin.line e.rejection.now e.line.now e.opened };
 
     fn put<W: Write>(&self, out: &mut W, block: &mut Block) -> Result<(), WriteFault> {
         let fault = self.rejection.fault;
@@ -76,7 +91,7 @@ impl Text for Explanation<'_> {
             rejection: self.rejection,
             line: self.line,
         };
-        let place = (self.path, ":", fault.line, ": ");
+        let place = (self.origin.path, ":", self.origin.line, ": ");
         let heading = (place, (wrong, word), "\n");
         (heading, Shown(self.line), "\n", advice, "\n").put(out, block)
     }
