@@ -1,11 +1,13 @@
 //! What an exploration found, and its text.
 #![tactic(auto)]
 
+mod checked;
 mod explorations;
 mod least;
 mod reports;
 mod writing;
 
+pub use checked::Checked;
 pub use explorations::Exploration;
 pub use least::Least;
 pub use reports::Report;

@@ -1,5 +1,5 @@
 -- What a schedule that fails breaks.
-use Rattle.std.specs.Prelude.{◌≡◌, ℕ, not, List, Option, Some, None, slice_get}
+use Rattle.std.specs.Prelude.{◌≡◌, ℕ, not, List, Some, slice_get}
 use Rattle.std.specs.List.{position}
 use Rattle.regmodel.specs.declared.clauses.Clause.{Clause}
 use Rattle.regmodel.specs.declared.outcomes.ProcEnd.{ProcEnd}
@@ -24,9 +24,3 @@ pub record IsBreachOf (text : List ℕ) (source : Contents) (w : Schedule) (ends
   pub schedule : breach.schedule ≡ w
   pub line_is : IsBrokenLine text source.clauses ends breach.line
   pub drawing : IsPictureOf (programs_in source) source.registers w breach.drawing
-
--- what the least failing schedule breaks, where one fails
-abbrev pub IsBreachFor : List ℕ → Contents → Option (Schedule × List ProcEnd) → Option Breach → Type 0
-IsBreachFor text source None None = Unit {0}
-IsBreachFor text source (Some (w, ends)) (Some breach) = IsBreachOf text source w ends breach
-IsBreachFor text source _ _ = ⊥

@@ -1,3 +1,4 @@
 pub mod Breaches
 pub mod Indents
 pub mod VerdictText
+pub mod Verdicts

@@ -1,5 +1,5 @@
 -- Whether a source holds, in words.
-use Rattle.std.specs.Prelude.{ℕ, ◌==◌, Bool, false, if◌then◌else◌, List, [], ◌++◌, length, Some, None, codes, decimal}
+use Rattle.std.specs.Prelude.{ℕ, ◌==◌, Bool, false, if◌then◌else◌, List, [], ◌++◌, length, codes, decimal}
 use Rattle.std.specs.List.{list_any}
 use Rattle.regmodel.specs.declared.limits.TheConstants.{MOST_LETTERS}
 use Rattle.regmodel.specs.Judging.{is_running}
@@ -12,6 +12,7 @@ use Rattle.explanations.specs.Shown.{shown}
 use Rattle.verdict.specs.Indents.{without_indent}
 use Rattle.verdict.specs.declared.breaches.Breach.{Breach}
 use Rattle.verdict.specs.declared.breaches.Verdict.{Verdict}
+use Rattle.verdict.specs.declared.breaches.Verdict.TheVariants.{Fails, Holds}
 use Rattle.verdict.specs.declared.reaches.Reach.{Reach}
 
 -- the ending of a noun, but for one thing
@@ -90,4 +91,5 @@ holding_text path reach =
 
 -- what is told of a source in the file of this path
 abbrev pub verdict_text : List ℕ → List ℕ → Verdict → List ℕ
-verdict_text path text verdict = elim verdict.breach [ Some breach ↦ breach_text path text breach | None ↦ holding_text path (reach_of verdict.report) ]
+verdict_text path text (Fails breach) = breach_text path text breach
+verdict_text path text (Holds exploration) = holding_text path (reach_of exploration)

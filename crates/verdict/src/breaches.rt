@@ -1,17 +1,17 @@
 //! What a schedule that fails breaks.
 
-ghost use Rattle.std.specs.Prelude.{◌≡◌, ◌≤◌, List, Some, false, map};
+ghost use Rattle.std.specs.Prelude.{◌≡◌, ◌≤◌, IfSome, false, is_some, map, true};
 ghost use Rattle.regmodel.specs.Judging.{meets_all};
-ghost use Rattle.regmodel.specs.Letters.{Schedule};
-ghost use Rattle.report.specs.PlainReport.{IsPlainReport};
+ghost use Rattle.report.specs.PlainCheck.{IsPlainCheck};
+ghost use Rattle.report.specs.PlainReport.{IsPlainLeast};
 ghost use Rattle.regmodel.specs.Schedules.{IsSchedule};
 ghost use Rattle.regmodel.specs.Summary.{IsRefusedWith};
-ghost use Rattle.regmodel.specs.declared.outcomes.ProcEnd.{ProcEnd};
 ghost use Rattle.regmodel.specs.declared.limits.TheConstants.{MOST_CRASHES};
 ghost use Rattle.reglang.specs.Grammar.{Spells};
 ghost use Rattle.reglang.specs.Sources.{contents_of, registers_of, source_programs};
 ghost use Rattle.drawing.specs.Pictures.{IsPictureOf};
-ghost use Rattle.verdict.specs.Breaches.{IsBreachFor, IsBreachOf, IsBrokenLine};
+ghost use Rattle.verdict.specs.Breaches.{IsBreachOf, IsBrokenLine};
+ghost use Rattle.verdict.specs.Verdicts.{IsVerdictFor};
 
 use drawing::{Drawing, draw};
 use explanations::check_line;
@@ -19,7 +19,7 @@ use machine::Machine;
 use reglang::Source;
 use regmodel::laws::the_first_refused_is_a_schedule;
 use regmodel::{Outcome, Prefix, Settings};
-use report::Exploration;
+use report::{Checked, Exploration, Least};
 use world::World;
 
 /// What a schedule that fails breaks.
@@ -33,57 +33,81 @@ pub struct Breach {
     pub drawing: Drawing,
 }
 
-/// What was found of a source, and what its least failing schedule breaks, where one fails.
+/// Whether a source holds.
 #[derive(Drop)]
-pub struct Verdict {
-    /// What was found.
-    pub report: Exploration,
-    /// What the least failing schedule breaks.
-    pub breach: Option<Breach>,
+pub enum Verdict {
+    /// A schedule fails: what the least one breaks.
+    Fails(Breach),
+    /// None fails: what was found.
+    Holds(Exploration),
 }
 
-/// What is found of the source that a text spells, and what the least failing schedule breaks, where one fails. The machines, one a process,
+impl Verdict {
+    ghost use Rattle.std.specs.Prelude.{◌≡◌};
+    ghost use Rattle.verdict.specs.Verdicts.{is_failing};
+
+    /// Whether a schedule fails.
+    pub fn fails(&self) -> bool
+        ensures { result ≡ is_failing self.now }
+    {
+        match self {
+            Verdict::Fails(_) => true,
+            Verdict::Holds(_) => false,
+        }
+    }
+}
+
+/// Whether the source holds that a text spells, and what its least failing schedule breaks, where one fails. The machines, one a process,
 /// lead to its drawing. Takes no memory.
 pub fn verdict_on(
     text: &[u8],
     source: &Source,
     machines: Vec<Box<dyn Machine + Send>>,
     settings: Settings,
-    report: Exploration,
+    checked: Checked,
 ) -> Verdict
     requires machines { map program machines.items ≡ source_programs source.now }
     requires spelled { Spells text.now (contents_of source.now) }
-    requires found { IsPlainReport (source_programs source.now) settings.length settings.crashes
-        (meets_all (contents_of source.now).clauses) report }
-    ensures report { result.report ≡ report }
-    ensures breach { IsBreachFor text.now (contents_of source.now) report.least result.breach }
+    requires checked { IsPlainCheck (source_programs source.now) settings.length settings.crashes
+        (meets_all (contents_of source.now).clauses) checked }
+    ensures { IsVerdictFor text.now (contents_of source.now) checked result }
 {
-    the_first_refused_is_a_schedule();
-    let breach = breach_for(text, source, machines, settings.crashes(), &report);
-    Verdict { report, breach }
+    match checked {
+        Checked::Fails(least) => {
+            Verdict::Fails(breach_for(text, source, machines, settings, &least))
+        }
+        Checked::Holds(exploration) => Verdict::Holds(exploration),
+    }
 }
 
-/// What the least failing schedule of a report breaks, where one fails.
+/// What the least failing schedule breaks, where one fails.
 fn breach_for(
     text: &[u8],
     source: &Source,
     machines: Vec<Box<dyn Machine + Send>>,
-    crashes: u32,
-    report: &Exploration,
-) -> Option<Breach>
+    settings: Settings,
+    least: &Least,
+) -> Breach
     requires machines { map program machines.items ≡ source_programs source.now }
-    requires few { crashes ≤ MOST_CRASHES }
     requires spelled { Spells text.now (contents_of source.now) }
-    requires refused { (w : Schedule) (ends : List ProcEnd) → report.now.least ≡ Some (w, ends)
-        → IsRefusedWith (source_programs source.now) crashes
-        (meets_all (contents_of source.now).clauses) w ends }
-    ensures { IsBreachFor text.now (contents_of source.now) report.now.least result }
+    requires least { IsPlainLeast (source_programs source.now) settings.length settings.crashes
+        (meets_all (contents_of source.now).clauses) least.now }
+    requires fails { is_some least.now.least ≡ true }
+    ensures { IfSome least.now.least
+        (λ l. IsBreachOf text.now (contents_of source.now) l.0 l.1 result) }
 {
-    let Some((schedule, outcome)) = report.least() else {
-        return None;
+    the_first_refused_is_a_schedule();
+    let Some((schedule, outcome)) = least.least() else {
+        unreachable!()
     };
-    let breach = breach_of(text, source, machines, crashes, schedule, outcome);
-    Some(breach)
+    breach_of(
+        text,
+        source,
+        machines,
+        settings.crashes(),
+        schedule,
+        outcome,
+    )
 }
 
 /// What a schedule of a source breaks that fails: the first check that its outcome breaks has the line, and the machines, one a process,

@@ -25,10 +25,10 @@ pub fn write_verdict<W: Write>(
 ) -> Result<(), WriteFault>
     ensures { Wrote W.contents out.old out.new (verdict_text path.now text.now verdict.now) result }
 {
-    match &verdict.breach {
-        Some(breach) => write(&Failing { path, text, breach }, out),
-        None => {
-            let reach = reach_of(&verdict.report);
+    match verdict {
+        Verdict::Fails(breach) => write(&Failing { path, text, breach }, out),
+        Verdict::Holds(exploration) => {
+            let reach = reach_of(exploration);
             write(&Holding { path, reach }, out)
         }
     }

@@ -1,7 +1,12 @@
-use Rattle.reglang.specs.Sources.{contents_of}
-use Rattle.cli.proofs.VerdictsFound.{verdict_is}
+use Rattle.cli.proofs.VerdictsFound.{plain_check, verdict_is}
 use Rattle.cli.proofs.runs.verdict_of.Goals as goal
 
-pub returns-clause-verdict : goal.returns-clause-verdict
-returns-clause-verdict g c =
-    verdict_is c.args.settings c.args.text.now (contents_of c.args.source.now) c.in_ok-report.report c.verdict_on.result c.verdict_on.ensures.report c.requires.spelled c.in_ok-report.ensures.report c.in_ok-report.ensures.tried c.verdict_on.ensures.breach
+pub verdict_on-requires-clause-checked : goal.verdict_on-requires-clause-checked
+verdict_on-requires-clause-checked g c =
+    let checked = rw c.clauses-judge.ensures.value at c.in-Ok.ensures.checked in
+    plain_check c.args.settings c.args.source.now c.in-Ok.checked checked
+
+pub returns-in-Ok-clause-verdict : goal.returns-in-Ok-clause-verdict
+returns-in-Ok-clause-verdict g c =
+    let checked = rw c.clauses-judge.ensures.value at c.in-Ok.ensures.checked in
+    verdict_is c.args.settings c.args.source.now c.args.text.now c.in-Ok.checked c.verdict_on.result c.requires.spelled checked c.verdict_on.ensures
