@@ -1,3 +1,5 @@
 pub mod Breaches
 pub mod Indents
 pub mod VerdictText
+pub mod WayText
+pub mod Ways
