@@ -1,18 +1,23 @@
 -- What the words of the command line ask for.
-use Rattle.std.specs.Prelude.{◌≡◌, ℕ, ◌+◌, ◌<◌, ◌^◌, Bool, true, false, not, List, Option, Some, None, codes}
+use Rattle.std.specs.Prelude.{◌≡◌, ℕ, ◌+◌, ◌<◌, ◌^◌, Bool, true, false, not, List, [], map, Option, Some, None, codes}
+use Rattle.std.specs.Option.{option_map}
 use Rattle.std.specs.Str.Parse.{IsNumeral, digits_value, without_leading_plus}
+use Rattle.clap.specs.Words.{matched_of, raw_values}
+use Rattle.clap.specs.declared.parser.matches.Found.{Found}
+use Rattle.patterns.specs.PatternText.{pattern_text}
 use Rattle.regmodel.specs.Settings.{Bounds}
 use Rattle.regmodel.specs.declared.limits.TheConstants.{MOST_LETTERS}
 use Rattle.regmodel.specs.ScheduleText.{schedule_text}
 use Rattle.cli.specs.declared.orders.Task.{Task}
 use Rattle.cli.specs.declared.orders.TheConstants.{CUT, ROOM}
-use Rattle.cli.specs.declared.orders.Task.TheVariants.{Check, Explore, Least, Replay, Show}
+use Rattle.cli.specs.declared.orders.Task.TheVariants.{Check, Explore, Least, Find, Replay, Show}
 
 -- to replay the schedule of this text
 abbrev pub IsReplayOf : List ℕ → Task → Type 0
 IsReplayOf text (Check settings native) = ⊥
 IsReplayOf text (Explore settings native) = ⊥
 IsReplayOf text (Least settings native) = ⊥
+IsReplayOf text (Find settings native patterns) = ⊥
 IsReplayOf text (Replay schedule) = schedule_text schedule ≡ text
 IsReplayOf text (Show schedule all) = ⊥
 
@@ -21,6 +26,7 @@ abbrev pub IsShowOf : List ℕ → Bool → Task → Type 0
 IsShowOf text all (Check settings native) = ⊥
 IsShowOf text all (Explore settings native) = ⊥
 IsShowOf text all (Least settings native) = ⊥
+IsShowOf text all (Find settings native patterns) = ⊥
 IsShowOf text all (Replay schedule) = ⊥
 IsShowOf text all (Show schedule with_all) = (schedule_text schedule ≡ text) × (with_all ≡ all)
 
@@ -52,7 +58,7 @@ pub record AreSettingsTold (told : List ℕ → Option (List ℕ)) (settings : B
   pub cut : IsNumberTold (told (codes "cut")) 0 settings.cut
   pub room : IsNumberTold (told (codes "room")) 0 settings.room
 
--- the bounds of a check are those of its words: without them the greatest length, no crash, and as many workers as there are processors
+-- the bounds of a check or a search are those of its words: without them the greatest length, no crash, and as many workers as there are processors
 pub record AreBoundsTold (told : List ℕ → Option (List ℕ)) (processors : ℕ) (settings : Bounds) : Type 0 where
   pub length : IsNumberTold (told (codes "length")) MOST_LETTERS settings.length
   pub crashes : IsNumberTold (told (codes "crashes")) 0 settings.crashes
@@ -71,6 +77,7 @@ IsExploration told (Explore settings native) =
     AreSettingsTold told settings × IsNativeTold told native × IsFlagTold (told (codes "least")) false
 IsExploration told (Least settings native) =
     AreSettingsTold told settings × IsNativeTold told native × IsFlagTold (told (codes "least")) true
+IsExploration told (Find settings native patterns) = ⊥
 IsExploration told (Replay schedule) = ⊥
 IsExploration told (Show schedule all) = ⊥
 
@@ -79,6 +86,7 @@ abbrev pub is_native : Task → Bool
 is_native (Check settings native) = native
 is_native (Explore settings native) = native
 is_native (Least settings native) = native
+is_native (Find settings native patterns) = native
 is_native (Replay schedule) = false
 is_native (Show schedule all) = false
 
@@ -87,13 +95,29 @@ abbrev pub IsCheck : (List ℕ → Option (List ℕ)) → ℕ → Task → Type 
 IsCheck told processors (Check settings native) = AreBoundsTold told processors settings × IsNativeTold told native
 IsCheck told processors (Explore settings native) = ⊥
 IsCheck told processors (Least settings native) = ⊥
+IsCheck told processors (Find settings native patterns) = ⊥
 IsCheck told processors (Replay schedule) = ⊥
 IsCheck told processors (Show schedule all) = ⊥
 
--- how many lists of machines it takes: one for each worker, and one more where a schedule that fails is to be drawn
+-- the texts that stand where patterns do, by what clap found
+abbrev pub texts_told : Found → List (List ℕ)
+texts_told found = elim (option_map raw_values (matched_of found (codes "PATTERN"))) [ Some texts ↦ texts | None ↦ [] ]
+
+-- to look as far as the words tell for outcomes that match one of the patterns of these texts
+abbrev pub IsFind : (List ℕ → Option (List ℕ)) → ℕ → List (List ℕ) → Task → Type 0
+IsFind told processors texts (Check settings native) = ⊥
+IsFind told processors texts (Explore settings native) = ⊥
+IsFind told processors texts (Least settings native) = ⊥
+IsFind told processors texts (Find settings native patterns) =
+    AreBoundsTold told processors settings × IsNativeTold told native × (map pattern_text patterns.items ≡ texts)
+IsFind told processors texts (Replay schedule) = ⊥
+IsFind told processors texts (Show schedule all) = ⊥
+
+-- how many lists of machines it takes: one for each worker, and one more where a schedule that is found is to be drawn
 abbrev pub lists_of : Task → ℕ
 lists_of (Check settings native) = settings.workers + 1
 lists_of (Explore settings native) = settings.workers
 lists_of (Least settings native) = settings.workers
+lists_of (Find settings native patterns) = settings.workers + 1
 lists_of (Replay schedule) = 1
 lists_of (Show schedule all) = 1

@@ -5,10 +5,12 @@ mod answers;
 mod findings;
 mod machines;
 mod orders;
+mod patterns_told;
 mod performing;
 mod progress;
 mod refusals;
 mod runs;
+mod searches;
 mod standings;
 mod wording;
 

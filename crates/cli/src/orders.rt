@@ -1,17 +1,19 @@
 //! What the words of the command line ask for.
 
-ghost use Rattle.std.specs.Prelude.{◌≡◌, ◌≢◌, IfErr, IfOk, List, not};
+ghost use Rattle.std.specs.Prelude.{◌≡◌, ◌≢◌, IfErr, IfOk, List, map, not};
 ghost use Rattle.clap.specs.Words.{found_of, one_text};
 ghost use Rattle.regmodel.specs.declared.letters.Letter.{Letter};
 ghost use Rattle.regmodel.specs.Prefixes.{FitsPrefix};
 ghost use Rattle.regmodel.specs.ScheduleText.{schedule_text};
-ghost use Rattle.cli.specs.Orders.{IsCheck, IsExploration, IsFlagTold, IsNativeTold, IsNumberTold, IsReplayOf, IsShowOf};
+ghost use Rattle.cli.specs.Orders.{AreBoundsTold, IsCheck, IsExploration, IsFind, IsFlagTold, IsNativeTold, IsNumberTold, IsReplayOf, IsShowOf, texts_told};
 ghost use Rattle.cli.specs.Statuses.{status_of};
 
+use crate::patterns_told::patterns_of;
 use crate::refusals::{Refusal, refuse};
 use crate::wording::refuse_in_words;
 use clap::ArgMatches;
 use command_words::matches_of;
+use patterns::Patterns;
 use regmodel::limits::MOST_LETTERS;
 use regmodel::{Prefix, Settings, read_schedule};
 use std::alloc::Global;
@@ -28,21 +30,41 @@ const ROOM: u32 = 64;
 #[derive(Debug, Drop)]
 pub enum Task {
     /// Check it this far, and say in words what fails.
-    Check { settings: Settings, native: bool },
+    Check {
+        settings: Settings,
+        native: bool,
+    },
     /// Explore it this far, with native machines for use lines or with interpreters alone.
-    Explore { settings: Settings, native: bool },
+    Explore {
+        settings: Settings,
+        native: bool,
+    },
     /// Look for its least failing schedule alone, as far and with the same machines.
-    Least { settings: Settings, native: bool },
+    Least {
+        settings: Settings,
+        native: bool,
+    },
+    /// Look this far for the least schedule whose outcome matches one of these patterns.
+    Find {
+        settings: Settings,
+        native: bool,
+        patterns: Patterns,
+    },
     /// Replay this schedule.
-    Replay { schedule: Prefix },
+    Replay {
+        schedule: Prefix,
+    },
     /// Draw this schedule, with all registers or with those that fit into a line.
-    Show { schedule: Prefix, all: bool },
+    Show {
+        schedule: Prefix,
+        all: bool,
+    },
 }
 
 impl Task {
     ghost use Rattle.cli.specs.Orders.{is_native, lists_of};
 
-    /// How many lists of machines it takes: one for each worker; a check takes one more, to draw what fails.
+    /// How many lists of machines it takes: one for each worker; a check and a search take one more, to draw what is found.
     pub fn lists(&self) -> u32
         ensures { result ≡ lists_of self.now }
     {
@@ -50,6 +72,7 @@ impl Task {
             Task::Check { settings, .. } => settings.workers() + 1,
             Task::Explore { settings, .. } => settings.workers(),
             Task::Least { settings, .. } => settings.workers(),
+            Task::Find { settings, .. } => settings.workers() + 1,
             Task::Replay { .. } | Task::Show { .. } => 1,
         }
     }
@@ -62,13 +85,17 @@ impl Task {
             Task::Check { native, .. } => *native,
             Task::Explore { native, .. } => *native,
             Task::Least { native, .. } => *native,
+            Task::Find { native, .. } => *native,
             Task::Replay { .. } | Task::Show { .. } => false,
         }
     }
 
     /// Whether its refusals are told in words.
     pub fn is_in_words(&self) -> bool {
-        matches!(self, Task::Check { .. } | Task::Show { .. })
+        matches!(
+            self,
+            Task::Check { .. } | Task::Find { .. } | Task::Show { .. }
+        )
     }
 }
 
@@ -104,7 +131,7 @@ impl<'a> Order<'a> {
 }
 
 /// Reads the words of the command line, the program's name first. Where they are refused, also where they ask for help or the
-/// version, a setting is past its limit, or the schedule is no text of one, it prints why, and the error is the status. A check has as
+/// version, a setting is past its limit, or a schedule or a pattern is no text of one, it prints why, and the error is the status. A check or a search has as
 /// many workers as there are processors where the words do not say how many.
 pub fn command<'a, S: AsStr, E: Write>(
     alloc: Global,
@@ -137,6 +164,7 @@ fn order_of<'a, E: Write>(
     let path = words.get_str("FILE").unwrap_or("");
     let task = match name {
         "check" => check_of(words, processors),
+        "find" => find_of(words, processors),
         "replay" => replay_of(words.get_str("SCHEDULE").unwrap_or("")),
         "show" => show_of(
             words.get_str("SCHEDULE").unwrap_or(""),
@@ -150,7 +178,7 @@ fn order_of<'a, E: Write>(
             task,
             progress: words.get_flag("progress"),
         }),
-        Err(refusal) if name == "check" || name == "show" => {
+        Err(refusal) if name == "check" || name == "find" || name == "show" => {
             Err(refuse_in_words(path, refusal, err))
         }
         Err(refusal) => Err(refuse(refusal, err)),
@@ -162,6 +190,39 @@ fn check_of(words: &ArgMatches<'_>, processors: u32) -> Result<Task, Refusal>
     ensures ok { IfOk result (IsCheck (one_text (found_of words.now)) processors) }
     ensures err { IfErr result (λ refusal. status_of refusal ≡ 2) }
 {
+    let settings = bounds_of(words, processors)?;
+    let native = is_native(words);
+    Ok(Task::Check { settings, native })
+}
+
+/// How far the words of `find` ask to look, and for which outcomes.
+fn find_of(words: &ArgMatches<'_>, processors: u32) -> Result<Task, Refusal>
+    ensures ok { IfOk result
+        (IsFind (one_text (found_of words.now)) processors (texts_told (found_of words.now))) }
+    ensures err { IfErr result (λ refusal. status_of refusal ≡ 2) }
+{
+    let settings = bounds_of(words, processors)?;
+    let native = is_native(words);
+    let patterns = patterns_of(pattern_words(words))?;
+    Ok(Task::Find {
+        settings,
+        native,
+        patterns,
+    })
+}
+
+/// The words that are patterns.
+fn pattern_words<'a>(words: &'a ArgMatches<'_>) -> &'a [&'a str]
+    ensures { map (λ text. text.now) result.now ≡ texts_told (found_of words.now) }
+{
+    words.get_strs("PATTERN").unwrap_or(&[])
+}
+
+/// How far the words of a check or a search ask to go.
+fn bounds_of(words: &ArgMatches<'_>, processors: u32) -> Result<Settings, Refusal>
+    ensures ok { IfOk result (AreBoundsTold (one_text (found_of words.now)) processors) }
+    ensures err { IfErr result (λ refusal. status_of refusal ≡ 2) }
+{
     let settings = Settings::new(
         number_or(words, "length", MOST_LETTERS),
         number_or(words, "crashes", 0),
@@ -169,9 +230,8 @@ fn check_of(words: &ArgMatches<'_>, processors: u32) -> Result<Task, Refusal>
         CUT,
         ROOM,
     );
-    let native = is_native(words);
     match settings {
-        Ok(settings) => Ok(Task::Check { settings, native }),
+        Ok(settings) => Ok(settings),
         Err(fault) => Err(Refusal::Setting(fault.code)),
     }
 }

@@ -21,6 +21,15 @@ pub enum Refusal {
     /// A word that is the text of no schedule.
     #[error("schedule")]
     Schedule,
+    /// A word that is the text of no pattern: its place among the patterns, and that of its first standing at fault, both from 0.
+    #[error("pattern {0} standing {1}")]
+    Pattern(usize, usize),
+    /// More than 8 patterns.
+    #[error("patterns")]
+    Patterns,
+    /// A pattern that has not as many standings as the source has processes, by its place among the patterns from 0.
+    #[error("pattern {0}")]
+    Misfit(usize),
     /// A file that cannot be read.
     #[error("file")]
     File,
@@ -53,6 +62,9 @@ impl Refusal {
             Refusal::Words
             | Refusal::Setting(_)
             | Refusal::Schedule
+            | Refusal::Pattern(_, _)
+            | Refusal::Patterns
+            | Refusal::Misfit(_)
             | Refusal::File
             | Refusal::LongFile
             | Refusal::Source(_)

@@ -8,6 +8,10 @@ use explanations::write_explanation;
 use std::io;
 use std::io::Write;
 
+/// How a standing of a pattern is written.
+const STANDINGS: &str =
+    "write 1 to 8 of them, parted by '; ', each * or done * or a standing of a report, as done 1 20, fault 1, crashed or running, with idle behind it where the process took no step";
+
 /// Where a source is refused, writes what is wrong with the text in the file of this path, as far as that can be written.
 pub fn explain<E: Write>(path: &str, text: &[u8], refusal: &Refusal, err: &mut E) {
     if let Refusal::Source(rejection) = refusal {
@@ -31,6 +35,18 @@ fn write_words<E: Write>(path: &str, refusal: &Refusal, err: &mut E) -> io::Resu
         Refusal::Schedule => writeln!(
             err,
             "this is no schedule: write at most 64 letters parted by one space, each R or C and the number of a process, 0 to 7, or . for none"
+        ),
+        Refusal::Pattern(place, standing) => writeln!(
+            err,
+            "pattern {}, standing {}: this is no way in which a process can stand: {STANDINGS}",
+            place.saturating_add(1),
+            standing.saturating_add(1)
+        ),
+        Refusal::Patterns => writeln!(err, "there are more than 8 patterns"),
+        Refusal::Misfit(place) => writeln!(
+            err,
+            "{path}: pattern {} has not as many standings as the source has processes: write one for each process, parted by '; ', as 'done 1; *'",
+            place.saturating_add(1)
         ),
         Refusal::File => writeln!(err, "{path}: the file cannot be read"),
         Refusal::LongFile => writeln!(err, "{path}: the file is longer than 1048576 bytes"),

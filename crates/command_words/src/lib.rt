@@ -37,7 +37,7 @@ const SETTINGS: [(&str, &str, &str); 5] = [
     ),
 ];
 
-/// The settings of a check: the name of each, what its number is called, and what the help says of it.
+/// The settings of a check and of a search: the name of each, what its number is called, and what the help says of it.
 const BOUNDS: [(&str, &str, &str); 3] = [
     (
         "length",
@@ -58,8 +58,8 @@ const BOUNDS: [(&str, &str, &str); 3] = [
 
 /// What the help says of the statuses.
 const STATUSES: &str = "Statuses:
-  0  check, explore: no schedule fails; replay, show: done
-  1  check, explore: a schedule fails
+  0  check, explore: no schedule fails; find: no schedule leads there; replay, show: done
+  1  check, explore: a schedule fails; find: a schedule leads there
   2  the words, a setting, the schedule, the file or the source is refused
   3  memory ran out, or the result could not be made or written";
 
@@ -91,6 +91,29 @@ Statuses:
   0  no schedule fails
   1  a schedule fails
   2  the words, a setting, the file or the source is refused: a refused source is explained
+  3  memory ran out, or the result could not be made or written";
+
+/// What the help says of a search.
+const PATTERNS: &str =
+    "A pattern is one word: it says how each process may stand, processes from 0, parted by '; ', in one of these ways:
+  done 1 20      done with just these numbers; done alone: with none
+  done *         done with any numbers
+  fault 2        at fault with this code: 1 to 4
+  crashed        it has crashed
+  running        it still wants an access
+  crashed idle   as one of these, and it took no step: without idle it took one (but for done * and *)
+  *              in any way
+Up to 8 patterns may be given: an outcome has to match one of them.
+
+It prints the least schedule that leads to such an outcome, as a drawing (see regtry show --help), and the command that
+replays it; or that no schedule leads there.
+
+Example: regtry find FILE 'done 1; done 1' shows how both processes can be done with 1.
+
+Statuses:
+  0  no schedule leads there
+  1  a schedule leads there
+  2  the words, a setting, a pattern, the file or the source is refused: a refused source is explained
   3  memory ran out, or the result could not be made or written";
 
 /// What the help says of a drawing.
@@ -131,6 +154,7 @@ fn program<'a>(alloc: Global) -> Result<Command<'a>, AllocError> {
         .disable_help_subcommand(true)
         .subcommand(check(alloc)?)?
         .subcommand(explore(alloc)?)?
+        .subcommand(find(alloc)?)?
         .subcommand(replay(alloc)?)?
         .subcommand(show(alloc)?)
 }
@@ -163,6 +187,19 @@ fn explore<'a>(alloc: Global) -> Result<Command<'a>, AllocError> {
         command = command.arg(number(alloc, name, value, help))?;
     }
     command.arg(text(alloc))?.arg(least)?.arg(progress(alloc))
+}
+
+/// The words of `find`.
+fn find<'a>(alloc: Global) -> Result<Command<'a>, AllocError> {
+    let mut command = Command::new(alloc, "find")
+        .about("Finds the least schedule of a source that leads to an outcome, and draws it.")
+        .after_help(PATTERNS)
+        .arg(file(alloc))?
+        .arg(patterns(alloc))?;
+    for (name, value, help) in BOUNDS {
+        command = command.arg(bound(alloc, name, value, help))?;
+    }
+    command.arg(text(alloc))?.arg(progress(alloc))
 }
 
 /// The words of `replay`.
@@ -200,6 +237,14 @@ fn schedule<'a>(alloc: Global) -> Arg<'a> {
     Arg::new(alloc, "SCHEDULE").required(true).help(
         "The schedule, as one word: at most 64 letters parted by one space, as 'R0 R1 C0', or . for none",
     )
+}
+
+/// The required words that are patterns.
+fn patterns<'a>(alloc: Global) -> Arg<'a> {
+    Arg::new(alloc, "PATTERN")
+        .required(true)
+        .num_args(1..)
+        .help("How each process may stand, as one word: 'done 1; *'")
 }
 
 /// The flag that asks for interpreters.

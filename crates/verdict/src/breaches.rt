@@ -150,7 +150,7 @@ fn broken_line(text: &[u8], source: &Source, outcome: &Outcome) -> u64
 }
 
 /// What is drawn of a schedule of a source.
-fn drawing_of(
+pub(crate) fn drawing_of(
     source: &Source,
     machines: Vec<Box<dyn Machine + Send>>,
     crashes: u32,

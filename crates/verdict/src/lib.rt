@@ -4,8 +4,12 @@
 mod breaches;
 mod counts;
 mod indents;
+mod leading;
 mod reaches;
 mod telling;
+mod ways;
 
 pub use breaches::{Breach, Verdict, verdict_on};
+pub use leading::write_discovery;
 pub use telling::write_verdict;
+pub use ways::{Discovery, Way, discovery_on};

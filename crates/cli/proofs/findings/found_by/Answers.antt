@@ -17,6 +17,12 @@ pub returns-in-Least-clause-refused : goal.returns-in-Least-clause-refused
 returns-in-Least-clause-refused g c =
     rw c.in-Least.is (record { source = contents_of c.args.source.now; spelled = c.requires.spelled; fault = c.in-Err-least_of.ensures.code })
 
+pub returns-in-Find-clause-found : goal.returns-in-Find-clause-found
+returns-in-Find-clause-found g c = rw c.in-Find.is (c.searched.ensures.found c.in-Find.native c.args.text.now c.requires.spelled)
+
+pub returns-in-Find-clause-refused : goal.returns-in-Find-clause-refused
+returns-in-Find-clause-refused g c = rw c.in-Find.is (c.searched.ensures.refused c.in-Find.native c.args.text.now c.requires.spelled)
+
 pub returns-in-Replay-clause-refused : goal.returns-in-Replay-clause-refused
 returns-in-Replay-clause-refused g c =
     rw c.in-Replay.is (record { source = contents_of c.args.source.now; spelled = c.requires.spelled; letter = c.in-Err-standing_after.ensures.refused })

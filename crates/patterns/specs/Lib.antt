@@ -1,0 +1,4 @@
+pub mod Cuts
+pub mod Examples
+pub mod Matching
+pub mod PatternText

@@ -1,0 +1,45 @@
+-- Which outcomes match a pattern.
+use Rattle.std.specs.Prelude.{◌==◌, ◌&&◌, Bool, true, false, not, if◌then◌else◌, List, [], ◌∷◌}
+use Rattle.std.specs.List.{list_any}
+use Rattle.std.specs.Str.{bytes_eq}
+use Rattle.regmodel.specs.declared.outcomes.End.{End}
+use Rattle.regmodel.specs.declared.outcomes.End.TheVariants.{Done, Fault, Crashed, Running}
+use Rattle.regmodel.specs.declared.outcomes.ProcEnd.{ProcEnd}
+use Rattle.patterns.specs.declared.standings.Standing.{Standing}
+use Rattle.patterns.specs.declared.standings.Standing.TheVariants as standing
+
+-- whether two processes stand alike: done with the same numbers, at fault with the same code, both crashed or both running
+abbrev pub are_alike : End → End → Bool
+are_alike (Done a) (Done b) = bytes_eq a.items b.items
+are_alike (Fault c) (Fault d) = c == d
+are_alike Crashed Crashed = true
+are_alike Running Running = true
+are_alike _ _ = false
+
+-- whether both took a step or neither
+abbrev pub both_or_neither : Bool → Bool → Bool
+both_or_neither a b = if a then b else not b
+
+-- whether a process is done
+abbrev pub is_done : End → Bool
+is_done (Done numbers) = true
+is_done (Fault code) = false
+is_done Crashed = false
+is_done Running = false
+
+-- whether a process may stand so
+abbrev pub allows : Standing → ProcEnd → Bool
+allows standing.Any end = true
+allows standing.Done end = is_done end.fate
+allows (standing.Just own) end = both_or_neither own.started end.started && are_alike own.fate end.fate
+
+-- whether an outcome has as many processes, and each stands as it may
+abbrev pub matches : List Standing → List ProcEnd → Bool
+matches [] [] = true
+matches [] (end ∷ ends) = false
+matches (standing ∷ standings) [] = false
+matches (standing ∷ standings) (end ∷ ends) = allows standing end && matches standings ends
+
+-- whether an outcome matches none of these patterns
+abbrev pub matches_none : List (List Standing) → List ProcEnd → Bool
+matches_none patterns ends = not (list_any (λ pattern. matches pattern ends) patterns)

@@ -1,0 +1,35 @@
+//! Numbers as words.
+
+ghost use Rattle.std.specs.Prelude.{◌≡◌, ◌≢◌, ◌≤◌, ℕ, IfNone, IfSome, Some, decimal};
+ghost use Rattle.regmodel.specs.declared.limits.TheConstants.{GREATEST_VALUE};
+
+use itoa::Buffer;
+use regmodel::limits::GREATEST_VALUE;
+use std::str;
+
+/// The number 0 to 1000000000 that a word writes in decimal: without a sign, and without a 0 before other digits. None for any other word.
+pub fn number_of(word: &[u8]) -> Option<u32>
+    ensures some { IfSome result (λ n. decimal n ≡ word.now) }
+    ensures small { IfSome result (λ n. n ≤ GREATEST_VALUE) }
+    ensures none { IfNone result ((n : ℕ) → n ≤ GREATEST_VALUE → decimal n ≢ word.now) }
+{
+    let number = number_in(word)?;
+    if number > GREATEST_VALUE {
+        return None;
+    }
+    let mut buffer = Buffer::new();
+    if buffer.format(number).as_bytes() != word {
+        return None;
+    }
+    Some(number)
+}
+
+/// The number that a word is read as, also where it is not written so. None where it is no number of 32 bits.
+fn number_in(word: &[u8]) -> Option<u32>
+    ensures { (n : ℕ) → n ≤ GREATEST_VALUE → decimal n ≡ word.now → result ≡ Some n }
+{
+    match str::from_utf8(word) {
+        Ok(text) => text.parse::<u32>().ok(),
+        Err(_) => None,
+    }
+}

@@ -1,0 +1,68 @@
+//! Patterns of outcomes.
+
+use arrayvec::ArrayVec;
+use regmodel::ProcEnd;
+use std::marker::Model;
+
+/// How a process may stand.
+#[derive(Clone, Default, Debug, Drop)]
+pub enum Standing {
+    /// In any way. It is the default because `ArrayVec` asks for one.
+    #[default]
+    Any,
+    /// Done with any numbers, whether or not it took a step.
+    Done,
+    /// Just so.
+    Just(ProcEnd),
+}
+
+/// How each process may stand, processes from 0. A clause sees the list of their standings.
+#[derive(Clone, Debug, Drop)]
+pub struct Pattern {
+    standings: ArrayVec<Standing, 8>,
+}
+
+/// At most 8 patterns.
+pub type Patterns = ArrayVec<Pattern, 8>;
+
+impl Model for Pattern {
+    ghost use Rattle.std.specs.Prelude.{List};
+    ghost use Rattle.patterns.specs.declared.standings.Standing.{Standing};
+
+    ghost Value = { List Standing };
+
+    ghost view = { λ p. p.standings.items };
+
+    ghost inverse = { λ standings. record { standings = record { items = standings } } };
+}
+
+/// The pattern without processes. `ArrayVec` asks for a default.
+impl Default for Pattern {
+    ghost use Rattle.std.specs.Prelude.{◌≡◌, []};
+
+    ghost is_default = { λ pattern. pattern ≡ [] };
+
+    fn default() -> Pattern {
+        Pattern::new(ArrayVec::new())
+    }
+}
+
+impl Pattern {
+    ghost use Rattle.std.specs.Prelude.{◌≡◌, ◌≤◌, length};
+    ghost use Rattle.regmodel.specs.declared.limits.TheConstants.{MOST_PROCESSES};
+
+    /// The pattern of these standings.
+    pub fn new(standings: ArrayVec<Standing, 8>) -> Pattern
+        ensures { result ≡ standings.items }
+    {
+        Pattern { standings }
+    }
+
+    /// How each process may stand; at most 8.
+    pub fn standings(&self) -> &[Standing]
+        ensures value { result.now ≡ self.now }
+        ensures few { length result.now ≤ MOST_PROCESSES }
+    {
+        self.standings.as_slice()
+    }
+}

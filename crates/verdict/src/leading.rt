@@ -1,0 +1,77 @@
+//! Which schedule leads to outcomes that were looked for, in words. No call takes memory.
+
+ghost use Rattle.texts.specs.Appending.{Wrote};
+ghost use Rattle.verdict.specs.WayText as spec;
+ghost use Rattle.verdict.specs.WayText.{discovery_text};
+
+use crate::counts::{Crashes, Letters};
+use crate::ways::{Discovery, Way};
+use drawing::Drawn;
+use std::io::Write;
+use texts::{Block, Text, WriteFault, write};
+
+/// Writes what was found of the source in the file of this path: the least schedule that leads to an outcome that was looked for, its
+/// drawing and the command that replays it; or that none does, and how far was looked. After a fault the writer has taken a beginning of it.
+pub fn write_discovery<W: Write>(
+    path: &[u8],
+    discovery: &Discovery,
+    out: &mut W,
+) -> Result<(), WriteFault>
+    ensures { Wrote W.contents out.old out.new (discovery_text path.now discovery.now) result }
+{
+    match &discovery.way {
+        Some(way) => write(&Leading { path, way }, out),
+        None => {
+            let length = u64::from(discovery.least.length());
+            let crashes = u64::from(discovery.least.crashes());
+            let nowhere = Nowhere {
+                path,
+                length,
+                crashes,
+            };
+            write(&nowhere, out)
+        }
+    }
+}
+
+/// A schedule that leads there.
+#[derive(Clone, Copy)]
+struct Leading<'a> {
+    path: &'a [u8],
+    way: &'a Way,
+}
+
+impl Text for Leading<'_> {
+    ghost text = { λ l. spec.way_text l.path.now l.way.now };
+
+    fn put<W: Write>(&self, out: &mut W, block: &mut Block) -> Result<(), WriteFault> {
+        let way = self.way;
+        let letters = Letters(way.schedule.letters().len() as u64);
+        let drawing = Drawn {
+            drawing: &way.drawing,
+            all: false,
+        };
+        let leads = (self.path, ": a schedule of ", letters, " leads to ");
+        let replay = ("\nregtry replay ", self.path, " '", &way.schedule, "'\n");
+        (leads, &way.outcome, "\n\n", drawing, replay).put(out, block)
+    }
+}
+
+/// That no schedule leads there, and how far was looked.
+#[derive(Clone, Copy)]
+struct Nowhere<'a> {
+    path: &'a [u8],
+    length: u64,
+    crashes: u64,
+}
+
+impl Text for Nowhere<'_> {
+    ghost text = { λ n. spec.nowhere_text n.path.now n.length n.crashes };
+
+    fn put<W: Write>(&self, out: &mut W, block: &mut Block) -> Result<(), WriteFault> {
+        let length = Letters(self.length);
+        let crashes = Crashes(self.crashes);
+        let bounds = (", up to ", length, " and ", crashes, "\n");
+        (self.path, ": no schedule leads there", bounds).put(out, block)
+    }
+}
