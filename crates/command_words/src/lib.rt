@@ -33,7 +33,7 @@ const SETTINGS: [(&str, &str, &str); 5] = [
     (
         "room",
         "M",
-        "How many pieces each worker may put up for the others: 0 to 65536 (64 serves well)",
+        "How many pieces each worker may put up for the others: 0 to 65536 (64 serves well); each takes up to 700 bytes from the start",
     ),
 ];
 
