@@ -60,8 +60,8 @@ fn keeps_the_limits(rt: HostRuntime) -> Result<(), Fail> {
             Some(ExpandFault { code: 1 })
         };
         let fault = expand(rt.alloc(), &kind, registers).err();
-        assert_eq!(rt; fault, expected);
-        assert_eq!(rt; kind.fits(registers), fits);
+        assert!(rt; fault == expected);
+        assert!(rt; kind.fits(registers) == fits);
     }
     Ok(())
 }
@@ -79,8 +79,8 @@ const SIZES: [(Use, u32, usize); 5] = [
 fn expands(rt: HostRuntime) -> Result<(), Fail> {
     for (kind, registers, size) in SIZES {
         let prog = expand(rt.alloc(), &kind, registers)?;
-        assert_eq!(rt; prog.registers(), registers);
-        assert_eq!(rt; prog.body().len(), size);
+        assert!(rt; prog.registers() == registers);
+        assert!(rt; prog.body().len() == size);
     }
     Ok(())
 }

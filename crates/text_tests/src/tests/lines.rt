@@ -51,8 +51,8 @@ fn a_check_line_is_a_clause_or_refused(rt: HostRuntime) -> Result<(), Fail> {
         let text = between(rt.alloc(), b"registers 1\nprocess\nend\n", line, b"")?;
         let read = read_source(rt.alloc(), text.as_slice());
         match clause {
-            Some(clause) => assert_eq!(rt; read?.clauses().list(), [clause].as_slice()),
-            None => assert_eq!(rt; read.err(), Some(ReadFault { line: 4, code: 8 })),
+            Some(clause) => assert!(rt; read?.clauses().list() == [clause].as_slice()),
+            None => assert!(rt; read.err() == Some(ReadFault { line: 4, code: 8 })),
         }
     }
     Ok(())
@@ -105,7 +105,7 @@ fn the_lines_of_a_process_are_read_as_they_are_written(rt: HostRuntime) -> Resul
         let mut out = Vec::new(rt.alloc());
         write_source(&source, &mut out)?;
         let expected = between(rt.alloc(), b"registers 64\nprocess\n", written, b"end\n")?;
-        assert_eq!(rt; out.as_slice(), expected.as_slice());
+        assert!(rt; out.as_slice() == expected.as_slice());
     }
     Ok(())
 }
@@ -186,7 +186,7 @@ const REFUSED: [(&[u8], u8); 67] = [
 fn other_lines_are_refused_by_their_codes(rt: HostRuntime) -> Result<(), Fail> {
     for (line, code) in REFUSED {
         let fault = read_source(rt.alloc(), process_of(rt.alloc(), line)?.as_slice()).err();
-        assert_eq!(rt; fault, Some(ReadFault { line: 3, code }), "{line:?}");
+        assert!(rt; fault == Some(ReadFault { line: 3, code }), "{line:?}");
     }
     Ok(())
 }

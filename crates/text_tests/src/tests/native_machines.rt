@@ -77,7 +77,7 @@ fn assert_pending<M: Machine>(
     for reply in replies {
         assert!(rt; give(machine, reply), "{replies:?}");
     }
-    assert_eq!(rt; &machine.pending(), expected, "{replies:?}");
+    assert!(rt; &machine.pending() == expected, "{replies:?}");
 }
 
 /// Replies, and what is pending after them.
@@ -90,7 +90,7 @@ fn assert_rows<M: Machine>(rt: &impl Abort, native: &mut M, text: &mut Interp, r
         assert_pending(rt, text, replies, expected);
     }
     native.end();
-    assert_eq!(rt; native.pending(), done(&[]));
+    assert!(rt; native.pending() == done(&[]));
 }
 
 #[test]
@@ -167,13 +167,13 @@ fn names_rows(rt: HostRuntime) -> Result<(), Fail> {
 #[test]
 fn numbers_past_a_limit_are_refused(rt: HostRuntime) -> Result<(), Fail> {
     let refused = Some(MakeFault { code: 1 });
-    assert_eq!(rt; Split::make(0, 0, 2).err(), refused);
-    assert_eq!(rt; Split::make(1, 1, 2).err(), refused);
-    assert_eq!(rt; Grid::make(0, 8, 1, 64).err(), refused);
-    assert_eq!(rt; Tree::make(0, 5, 1, 1, 64).err(), refused);
-    assert_eq!(rt; NameSlots::make(0, 2, 2, 2).err(), refused);
-    assert_eq!(rt; Names::make(0, 2, 2, 2).err(), refused);
-    assert_eq!(rt; Names::make(1, 2, 0, 2).err(), refused);
+    assert!(rt; Split::make(0, 0, 2).err() == refused);
+    assert!(rt; Split::make(1, 1, 2).err() == refused);
+    assert!(rt; Grid::make(0, 8, 1, 64).err() == refused);
+    assert!(rt; Tree::make(0, 5, 1, 1, 64).err() == refused);
+    assert!(rt; NameSlots::make(0, 2, 2, 2).err() == refused);
+    assert!(rt; Names::make(0, 2, 2, 2).err() == refused);
+    assert!(rt; Names::make(1, 2, 0, 2).err() == refused);
     Ok(())
 }
 
@@ -205,7 +205,7 @@ fn beside<M: Machine>(
     let mut written = 0;
     for _ in 0..1000 {
         let pending = native.pending();
-        assert_eq!(rt; text.pending(), pending);
+        assert!(rt; text.pending() == pending);
         let Pending::Wants(access) = pending else {
             return pending;
         };

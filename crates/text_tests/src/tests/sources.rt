@@ -90,7 +90,7 @@ const REFUSED: [(&[u8], u64, u8); 66] = [
 fn names_the_first_fault(rt: HostRuntime) -> Result<(), Fail> {
     for (text, line, code) in REFUSED {
         let fault = read_source(rt.alloc(), text).err();
-        assert_eq!(rt; fault, Some(ReadFault { line, code }));
+        assert!(rt; fault == Some(ReadFault { line, code }));
     }
     Ok(())
 }
@@ -117,8 +117,8 @@ const ENDS: [(&[u8], bool); 14] = [
 fn tells_whether_the_end_is_at_fault(rt: HostRuntime) -> Result<(), Fail> {
     for (text, is_of_end) in ENDS {
         let rejection = read_text(rt.alloc(), text).err().ok_or("taken")?;
-        assert_eq!(rt; rejection.is_of_end, is_of_end);
-        assert_eq!(rt; read_source(rt.alloc(), text).err(), Some(rejection.fault));
+        assert!(rt; rejection.is_of_end == is_of_end);
+        assert!(rt; read_source(rt.alloc(), text).err() == Some(rejection.fault));
     }
     Ok(())
 }
@@ -170,12 +170,12 @@ fn shown(alloc: Global, prog: &Prog) -> Result<Vec<u8>, Fail> {
 fn use_lines_stand_for_their_expansions(rt: HostRuntime) -> Result<(), Fail> {
     for (text, kind) in USES {
         let source = read_source(rt.alloc(), text).ok().ok_or("refused")?;
-        assert_eq!(rt; (source.processes(), source.use_of(0)), (1, Some(&kind)));
+        assert!(rt; (source.processes(), source.use_of(0)) == (1, Some(&kind)));
         let prog = source.prog(rt.alloc(), 0)?;
         let expanded = expand(rt.alloc(), &kind, source.registers())
             .ok()
             .ok_or("no expansion")?;
-        assert_eq!(rt; shown(rt.alloc(), &prog)?, shown(rt.alloc(), &expanded)?);
+        assert!(rt; shown(rt.alloc(), &prog)? == shown(rt.alloc(), &expanded)?);
     }
     Ok(())
 }
@@ -191,7 +191,7 @@ fn the_program_of_names_is_written_out(rt: HostRuntime) -> Result<(), Fail> {
     let expanded = expand(rt.alloc(), &Use::Names(4, 2, 1), 6)
         .ok()
         .ok_or("no expansion")?;
-    assert_eq!(rt; shown(rt.alloc(), &prog)?, shown(rt.alloc(), &expanded)?);
+    assert!(rt; shown(rt.alloc(), &prog)? == shown(rt.alloc(), &expanded)?);
     Ok(())
 }
 
@@ -201,15 +201,15 @@ const EVERY_LINE: &[u8] =
 #[test]
 fn reads_every_line(rt: HostRuntime) -> Result<(), Fail> {
     let source = read_source(rt.alloc(), EVERY_LINE).ok().ok_or("refused")?;
-    assert_eq!(rt; (source.registers(), source.processes()), (64, 2));
+    assert!(rt; (source.registers(), source.processes()) == (64, 2));
     let uses = (source.use_of(0), source.use_of(1));
-    assert_eq!(rt; uses, (None, Some(&Use::Split(62, 1))));
+    assert!(rt; uses == (None, Some(&Use::Split(62, 1))));
     let clauses = [
         Clause::Distinct,
         Clause::AtMost(1000000000, 8),
         Clause::Within(5, 4),
     ];
-    assert_eq!(rt; source.clauses().list(), clauses.as_slice());
+    assert!(rt; source.clauses().list() == clauses.as_slice());
     Ok(())
 }
 
@@ -221,7 +221,7 @@ fn reads_the_parts_of_an_if(rt: HostRuntime) -> Result<(), Fail> {
         return Err(Fail::from("no if"));
     };
     let counts = (prog.body().len(), first.len(), second.len());
-    assert_eq!(rt; counts, (8, 0, 1));
+    assert!(rt; counts == (8, 0, 1));
     assert!(rt; *test == Expr::One(Operand::Var(0)));
     Ok(())
 }
@@ -233,7 +233,7 @@ fn a_source_is_written_or_nothing_where_memory_is_refused(rt: HostRuntime) -> Re
     out.extend_from_slice(b"before")?;
     match write_source(&source, &mut out) {
         Ok(()) => assert!(rt; out.as_slice().starts_with(b"beforeregisters 64\n")),
-        Err(_) => assert_eq!(rt; out.as_slice(), b"before".as_slice()),
+        Err(_) => assert!(rt; out.as_slice() == b"before".as_slice()),
     }
     Ok(())
 }
