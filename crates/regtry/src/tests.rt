@@ -142,7 +142,7 @@ fn assert_fault_told<H: Abort + Threads + Wait + Sync + AllocGlobal, W: Write>(
     let mut err = Vec::new(rt.alloc());
     let status = asked(rt, words, WRITER_AND_READER, out, &mut err);
     let line = b"regtry: write\n".as_slice();
-    assert_eq!(rt; (status, err.as_slice()), (3, line));
+    assert!(rt; (status, err.as_slice()) == (3, line));
 }
 
 #[test]
@@ -150,7 +150,7 @@ fn output_that_is_not_taken_is_a_write_fault(rt: HostRuntime) {
     for words in PRINTING {
         assert_fault_told(&rt, words, &mut Closed);
         let status = asked(&rt, words, WRITER_AND_READER, &mut Closed, &mut Closed);
-        assert_eq!(rt; status, 3);
+        assert!(rt; status == 3);
     }
 }
 
@@ -169,7 +169,7 @@ fn a_writer_that_takes_no_line_of_progress_changes_nothing(rt: HostRuntime) {
         let status = asked(&rt, unasked, SPLITTER, &mut silent, &mut err);
         let mut told = Vec::new(rt.alloc());
         let answer = asked(&rt, words, SPLITTER, &mut told, &mut Closed);
-        assert_eq!(rt; (answer, told.as_slice()), (status, silent.as_slice()));
+        assert!(rt; (answer, told.as_slice()) == (status, silent.as_slice()));
     }
 }
 
@@ -201,10 +201,7 @@ fn each_option_says_its_own_setting(rt: HostRuntime) -> Result<(), Fail> {
         };
         let bounds = (settings.length(), settings.crashes());
         let sharing = (settings.workers(), settings.cut(), settings.room());
-        assert_eq!(rt;
-            (bounds, sharing, *native),
-            ((5, 1), (2, 3, 16), !interpreted)
-        );
+        assert!(rt; (bounds, sharing, *native) == ((5, 1), (2, 3, 16), !interpreted));
     }
     Ok(())
 }
