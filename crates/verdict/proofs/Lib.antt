@@ -1,1 +1,2 @@
 mod Breaking
+mod Causes

@@ -9,10 +9,15 @@ use Rattle.regmodel.specs.ScheduleText.{schedule_text}
 use Rattle.explanations.specs.Checks.{line_at}
 use Rattle.drawing.specs.DrawingText.{drawing_text}
 use Rattle.explanations.specs.Shown.{shown}
+use Rattle.verdict.specs.FaultText.{fault_line, fault_text}
 use Rattle.verdict.specs.Indents.{without_indent}
 use Rattle.verdict.specs.declared.breaches.Breach.{Breach}
+use Rattle.verdict.specs.declared.breaches.Cause.{Cause}
+use Rattle.verdict.specs.declared.breaches.Cause.TheVariants.{Check, Fault}
 use Rattle.verdict.specs.declared.breaches.Verdict.{Verdict}
 use Rattle.verdict.specs.declared.breaches.Verdict.TheVariants.{Fails, Holds}
+use Rattle.verdict.specs.declared.demands.Asked.{Asked}
+use Rattle.verdict.specs.declared.demands.Asked.TheVariants.{Checks, Faults, Nothing}
 use Rattle.verdict.specs.declared.reaches.Reach.{Reach}
 
 -- the ending of a noun, but for one thing
@@ -35,19 +40,28 @@ crashes_text n = if n == 0 then codes "no crashes" else counted n (codes "crash"
 abbrev pub place_text : ℕ → List ℕ
 place_text line = codes " (line " ++ decimal line ++ codes ")\n"
 
--- that a schedule of so many letters fails, and the check line that it breaks, with its number
-abbrev pub failing_text : List ℕ → ℕ → List ℕ → ℕ → List ℕ
-failing_text path letters line number =
-    path ++ codes ": a schedule of " ++ letters_text letters ++ codes " fails: " ++ line ++ place_text number ++ codes "\n"
+-- a check line without its indent, and its number
+abbrev pub check_text : List ℕ → ℕ → List ℕ
+check_text text line = without_indent (shown (line_at line text)) ++ place_text line
+
+-- the check line that is broken, and the process at fault beside it; or that process alone
+abbrev pub cause_text : List ℕ → Cause → List ℕ
+cause_text text (Check line fault) = check_text text line ++ fault_line fault
+cause_text text (Fault fault) = fault_text fault ++ codes "\n"
+
+-- that a schedule of so many letters fails, and why
+abbrev pub failing_text : List ℕ → List ℕ → ℕ → Cause → List ℕ
+failing_text path text letters cause =
+    path ++ codes ": a schedule of " ++ letters_text letters ++ codes " fails: " ++ cause_text text cause ++ codes "\n"
 
 -- the command that replays a schedule
 abbrev pub replay_text : List ℕ → Schedule → List ℕ
 replay_text path w = codes "\nregtry replay " ++ path ++ codes " '" ++ schedule_text w ++ codes "'\n"
 
--- the check that a schedule breaks, without its indent, the schedule as a drawing, and the command that replays it
+-- that a schedule fails and why, the schedule as a drawing, and the command that replays it
 abbrev pub breach_text : List ℕ → List ℕ → Breach → List ℕ
 breach_text path text breach =
-    failing_text path (length breach.schedule) (without_indent (shown (line_at breach.line text))) breach.line ++ drawing_text false breach.drawing ++ replay_text path breach.schedule
+    failing_text path text (length breach.schedule) breach.cause ++ drawing_text false breach.drawing ++ replay_text path breach.schedule
 
 -- whether schedules were cut off: some process still wants an access after as many letters as there may be
 abbrev pub is_cut_off : Findings → Bool
@@ -84,12 +98,18 @@ cut_off_text limit =
 abbrev pub caution_text : Bool → ℕ → List ℕ
 caution_text cut_off limit = if cut_off then cut_off_text limit else []
 
--- that no schedule fails, how much was tried, and whether schedules were cut off
-abbrev pub holding_text : List ℕ → Reach → List ℕ
-holding_text path reach =
-    path ++ codes ": no schedule fails: " ++ tried_text reach.tried reach.outcomes ++ bounds_text reach.length reach.crashes ++ caution_text reach.cut_off reach.length
+-- what was looked for where there is no check line
+abbrev pub asked_text : Asked → List ℕ
+asked_text Checks = []
+asked_text Faults = codes "No check line: only faults were looked for.\n"
+asked_text Nothing = codes "No check line: nothing was looked for.\n"
+
+-- that no schedule fails, how much was tried, what was looked for, and whether schedules were cut off
+abbrev pub holding_text : List ℕ → Reach → Asked → List ℕ
+holding_text path reach asked =
+    path ++ codes ": no schedule fails: " ++ tried_text reach.tried reach.outcomes ++ bounds_text reach.length reach.crashes ++ asked_text asked ++ caution_text reach.cut_off reach.length
 
 -- what is told of a source in the file of this path
 abbrev pub verdict_text : List ℕ → List ℕ → Verdict → List ℕ
 verdict_text path text (Fails breach) = breach_text path text breach
-verdict_text path text (Holds exploration) = holding_text path (reach_of exploration)
+verdict_text path text (Holds held) = holding_text path (reach_of held.exploration) held.asked

@@ -1,11 +1,14 @@
 //! Whether a source holds, in words. No call takes memory.
 
 ghost use Rattle.texts.specs.Appending.{Wrote};
+ghost use Rattle.verdict.specs.FaultText.{fault_line};
 ghost use Rattle.verdict.specs.VerdictText as spec;
 ghost use Rattle.verdict.specs.VerdictText.{verdict_text};
 
-use crate::breaches::{Breach, Verdict};
+use crate::breaches::{Breach, Cause, Verdict};
 use crate::counts::{Counted, Crashes, Letters};
+use crate::demands::Asked;
+use crate::faults::ProcessFault;
 use crate::indents::without_indent;
 use crate::reaches::{Reach, reach_of};
 use drawing::Drawn;
@@ -14,9 +17,9 @@ use regmodel::limits::MOST_LETTERS;
 use std::io::Write;
 use texts::{Block, Text, WriteFault, write};
 
-/// Writes whether the source holds that the text in the file of this path spells: the schedule that fails, the check that it breaks, its
-/// drawing and the command that replays it; or how much was tried, and whether schedules were cut off. After a fault the writer has taken
-/// a beginning of it.
+/// Writes whether the source holds that the text in the file of this path spells: the schedule that fails, the check that it breaks and the
+/// process at fault, its drawing and the command that replays it; or how much was tried, what was looked for where there is no check line,
+/// and whether schedules were cut off. After a fault the writer has taken a beginning of it.
 pub fn write_verdict<W: Write>(
     path: &[u8],
     text: &[u8],
@@ -27,9 +30,10 @@ pub fn write_verdict<W: Write>(
 {
     match verdict {
         Verdict::Fails(breach) => write(&Failing { path, text, breach }, out),
-        Verdict::Holds(exploration) => {
-            let reach = reach_of(exploration);
-            write(&Holding { path, reach }, out)
+        Verdict::Holds(held) => {
+            let reach = reach_of(&held.exploration);
+            let asked = held.asked;
+            write(&Holding { path, reach, asked }, out)
         }
     }
 }
@@ -48,27 +52,80 @@ impl Text for Failing<'_> {
     fn put<W: Write>(&self, out: &mut W, block: &mut Block) -> Result<(), WriteFault> {
         let breach = self.breach;
         let letters = Letters(breach.schedule.letters().len() as u64);
-        let line = without_indent(shown_line(self.text, breach.line));
-        let place = (" (line ", breach.line, ")\n");
+        let cause = Caused {
+            text: self.text,
+            cause: &breach.cause,
+        };
         let drawing = Drawn {
             drawing: &breach.drawing,
             all: false,
         };
         let fails = (self.path, ": a schedule of ", letters, " fails: ");
         let replay = ("\nregtry replay ", self.path, " '", &breach.schedule, "'\n");
-        ((fails, line, place, "\n"), drawing, replay).put(out, block)
+        (fails, cause, "\n", drawing, replay).put(out, block)
     }
 }
 
-/// That no schedule fails, how much was tried, and whether schedules were cut off.
+/// Why a schedule fails.
+#[derive(Clone, Copy)]
+struct Caused<'a> {
+    text: &'a [u8],
+    cause: &'a Cause,
+}
+
+impl Text for Caused<'_> {
+    ghost text = { λ c. spec.cause_text c.text.now c.cause.now };
+
+    fn put<W: Write>(&self, out: &mut W, block: &mut Block) -> Result<(), WriteFault> {
+        match *self.cause {
+            Cause::Check { line, fault } => {
+                let check = without_indent(shown_line(self.text, line));
+                let place = (" (line ", line, ")\n");
+                (check, place, FaultLine(fault)).put(out, block)
+            }
+            Cause::Fault(fault) => (fault, "\n").put(out, block),
+        }
+    }
+}
+
+/// The process at fault beside a check that is broken, where there is one.
+#[derive(Clone, Copy)]
+struct FaultLine(Option<ProcessFault>);
+
+impl Text for FaultLine {
+    ghost text = { λ line. fault_line line.0 };
+
+    fn put<W: Write>(&self, out: &mut W, block: &mut Block) -> Result<(), WriteFault> {
+        match self.0 {
+            Some(fault) => ("At its end ", fault, ".\n").put(out, block),
+            None => Ok(()),
+        }
+    }
+}
+
+/// What was looked for, where there is no check line.
+impl Text for Asked {
+    ghost text = { spec.asked_text };
+
+    fn put<W: Write>(&self, out: &mut W, block: &mut Block) -> Result<(), WriteFault> {
+        match self {
+            Asked::Nothing => "No check line: nothing was looked for.\n".put(out, block),
+            Asked::Faults => "No check line: only faults were looked for.\n".put(out, block),
+            Asked::Checks => Ok(()),
+        }
+    }
+}
+
+/// That no schedule fails, how much was tried, what was looked for, and whether schedules were cut off.
 #[derive(Clone, Copy)]
 struct Holding<'a> {
     path: &'a [u8],
     reach: Reach,
+    asked: Asked,
 }
 
 impl Text for Holding<'_> {
-    ghost text = { λ h. spec.holding_text h.path.now h.reach };
+    ghost text = { λ h. spec.holding_text h.path.now h.reach h.asked };
 
     fn put<W: Write>(&self, out: &mut W, block: &mut Block) -> Result<(), WriteFault> {
         let reach = self.reach;
@@ -95,7 +152,8 @@ impl Text for Holding<'_> {
             Crashes(reach.crashes),
             "\n",
         );
-        (self.path, ": no schedule fails: ", tried, bounds, caution).put(out, block)
+        let fails = (self.path, ": no schedule fails: ");
+        (fails, tried, bounds, self.asked, caution).put(out, block)
     }
 }
 
