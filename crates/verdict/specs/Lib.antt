@@ -3,6 +3,7 @@ pub mod Demands
 pub mod Examples
 pub mod FaultText
 pub mod Faults
+pub mod Gaps
 pub mod Indents
 pub mod VerdictText
 pub mod Verdicts

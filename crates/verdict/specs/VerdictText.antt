@@ -1,6 +1,6 @@
 -- Whether a source holds, in words.
 use Rattle.std.specs.Prelude.{ℕ, ◌==◌, Bool, false, if◌then◌else◌, List, [], ◌++◌, length, codes, decimal}
-use Rattle.std.specs.List.{list_any}
+use Rattle.std.specs.List.{flat_map, list_any}
 use Rattle.regmodel.specs.declared.limits.TheConstants.{MOST_LETTERS}
 use Rattle.regmodel.specs.Judging.{is_running}
 use Rattle.regmodel.specs.Letters.{Schedule}
@@ -18,6 +18,9 @@ use Rattle.verdict.specs.declared.breaches.Verdict.{Verdict}
 use Rattle.verdict.specs.declared.breaches.Verdict.TheVariants.{Fails, Holds}
 use Rattle.verdict.specs.declared.demands.Asked.{Asked}
 use Rattle.verdict.specs.declared.demands.Asked.TheVariants.{Checks, Faults, Nothing}
+use Rattle.verdict.specs.declared.gaps.Gap.{Gap}
+use Rattle.verdict.specs.declared.gaps.Want.{Want}
+use Rattle.verdict.specs.declared.gaps.Want.TheVariants.{Name, Done}
 use Rattle.verdict.specs.declared.reaches.Reach.{Reach}
 
 -- the ending of a noun, but for one thing
@@ -36,17 +39,13 @@ letters_text n = counted n (codes "letter") (codes "s")
 abbrev pub crashes_text : ℕ → List ℕ
 crashes_text n = if n == 0 then codes "no crashes" else counted n (codes "crash") (codes "es")
 
--- where a line stands
-abbrev pub place_text : ℕ → List ℕ
-place_text line = codes " (line " ++ decimal line ++ codes ")\n"
-
 -- a check line without its indent, and its number
 abbrev pub check_text : List ℕ → ℕ → List ℕ
-check_text text line = without_indent (shown (line_at line text)) ++ place_text line
+check_text text line = without_indent (shown (line_at line text)) ++ codes " (line " ++ decimal line ++ codes ")"
 
 -- the check line that is broken, and the process at fault beside it; or that process alone
 abbrev pub cause_text : List ℕ → Cause → List ℕ
-cause_text text (Check line fault) = check_text text line ++ fault_line fault
+cause_text text (Check line fault) = check_text text line ++ codes "\n" ++ fault_line fault
 cause_text text (Fault fault) = fault_text fault ++ codes "\n"
 
 -- that a schedule of so many letters fails, and why
@@ -104,12 +103,30 @@ asked_text Checks = []
 asked_text Faults = codes "No check line: only faults were looked for.\n"
 asked_text Nothing = codes "No check line: nothing was looked for.\n"
 
--- that no schedule fails, how much was tried, what was looked for, and whether schedules were cut off
-abbrev pub holding_text : List ℕ → Reach → Asked → List ℕ
-holding_text path reach asked =
-    path ++ codes ": no schedule fails: " ++ tried_text reach.tried reach.outcomes ++ bounds_text reach.length reach.crashes ++ asked_text asked ++ caution_text reach.cut_off reach.length
+-- what no outcome has of which a check speaks
+abbrev pub want_text : Want → List ℕ
+want_text Name = codes ": no process ever had a name.\n"
+want_text Done = codes ": no process was ever done.\n"
+
+-- a check that no outcome could break, and why
+abbrev pub gap_text : List ℕ → Gap → List ℕ
+gap_text text gap = check_text text gap.line ++ want_text gap.want
+
+-- such checks, one a line
+abbrev pub gaps_text : List ℕ → List Gap → List ℕ
+gaps_text text gaps = flat_map (gap_text text) gaps
+
+-- that no schedule fails, and how much was tried
+abbrev pub holding_text : List ℕ → Reach → List ℕ
+holding_text path reach =
+    path ++ codes ": no schedule fails: " ++ tried_text reach.tried reach.outcomes ++ bounds_text reach.length reach.crashes
+
+-- the same, what was looked for, which checks could not be broken, and whether schedules were cut off
+abbrev pub held_text : List ℕ → List ℕ → Reach → Asked → List Gap → List ℕ
+held_text path text reach asked gaps =
+    holding_text path reach ++ asked_text asked ++ gaps_text text gaps ++ caution_text reach.cut_off reach.length
 
 -- what is told of a source in the file of this path
 abbrev pub verdict_text : List ℕ → List ℕ → Verdict → List ℕ
 verdict_text path text (Fails breach) = breach_text path text breach
-verdict_text path text (Holds held) = holding_text path (reach_of held.exploration) held.asked
+verdict_text path text (Holds held) = held_text path text (reach_of held.exploration) held.asked held.gaps.items

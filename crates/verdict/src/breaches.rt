@@ -16,6 +16,8 @@ ghost use Rattle.verdict.specs.Verdicts.{IsVerdictFor};
 
 use crate::demands::{Asked, asked_of};
 use crate::faults::{ProcessFault, first_fault};
+use crate::gaps::{Gap, gaps_of};
+use arrayvec::ArrayVec;
 use drawing::{Drawing, draw};
 use explanations::check_line;
 use machine::Machine;
@@ -57,6 +59,8 @@ pub struct Held {
     pub exploration: Exploration,
     /// What was looked for.
     pub asked: Asked,
+    /// The checks that no outcome could break.
+    pub gaps: ArrayVec<Gap, 16>,
 }
 
 /// Whether a source holds.
@@ -103,10 +107,14 @@ pub fn verdict_on(
         Checked::Fails(least) => {
             Verdict::Fails(breach_for(text, source, machines, settings, &least))
         }
-        Checked::Holds(exploration) => Verdict::Holds(Held {
-            exploration,
-            asked: asked_of(source.clauses().list(), allows_faults),
-        }),
+        Checked::Holds(exploration) => {
+            let clauses = source.clauses().list();
+            Verdict::Holds(Held {
+                asked: asked_of(clauses, allows_faults),
+                gaps: gaps_of(text, clauses, &exploration),
+                exploration,
+            })
+        }
     }
 }
 

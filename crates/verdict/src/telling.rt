@@ -9,6 +9,7 @@ use crate::breaches::{Breach, Cause, Verdict};
 use crate::counts::{Counted, Crashes, Letters};
 use crate::demands::Asked;
 use crate::faults::ProcessFault;
+use crate::gaps::{Gap, Want};
 use crate::indents::without_indent;
 use crate::reaches::{Reach, reach_of};
 use drawing::Drawn;
@@ -19,7 +20,7 @@ use texts::{Block, Text, WriteFault, write};
 
 /// Writes whether the source holds that the text in the file of this path spells: the schedule that fails, the check that it breaks and the
 /// process at fault, its drawing and the command that replays it; or how much was tried, what was looked for where there is no check line,
-/// and whether schedules were cut off. After a fault the writer has taken a beginning of it.
+/// which checks no outcome could break, and whether schedules were cut off. After a fault the writer has taken a beginning of it.
 pub fn write_verdict<W: Write>(
     path: &[u8],
     text: &[u8],
@@ -32,8 +33,14 @@ pub fn write_verdict<W: Write>(
         Verdict::Fails(breach) => write(&Failing { path, text, breach }, out),
         Verdict::Holds(held) => {
             let reach = reach_of(&held.exploration);
-            let asked = held.asked;
-            write(&Holding { path, reach, asked }, out)
+            let gaps = GapLines {
+                text,
+                gaps: held.gaps.as_slice(),
+            };
+            write(
+                &(Holding { path, reach }, held.asked, gaps, Caution(reach)),
+                out,
+            )
         }
     }
 }
@@ -79,12 +86,30 @@ impl Text for Caused<'_> {
     fn put<W: Write>(&self, out: &mut W, block: &mut Block) -> Result<(), WriteFault> {
         match *self.cause {
             Cause::Check { line, fault } => {
-                let check = without_indent(shown_line(self.text, line));
-                let place = (" (line ", line, ")\n");
-                (check, place, FaultLine(fault)).put(out, block)
+                let check = CheckLine {
+                    text: self.text,
+                    line,
+                };
+                (check, "\n", FaultLine(fault)).put(out, block)
             }
             Cause::Fault(fault) => (fault, "\n").put(out, block),
         }
+    }
+}
+
+/// A check line without its indent, and its number.
+#[derive(Clone, Copy)]
+struct CheckLine<'a> {
+    text: &'a [u8],
+    line: u64,
+}
+
+impl Text for CheckLine<'_> {
+    ghost text = { λ c. spec.check_text c.text.now c.line };
+
+    fn put<W: Write>(&self, out: &mut W, block: &mut Block) -> Result<(), WriteFault> {
+        let check = without_indent(shown_line(self.text, self.line));
+        (check, " (line ", self.line, ")").put(out, block)
     }
 }
 
@@ -116,24 +141,71 @@ impl Text for Asked {
     }
 }
 
-/// That no schedule fails, how much was tried, what was looked for, and whether schedules were cut off.
+/// The checks of a text that no outcome could break, one a line.
+#[derive(Clone, Copy)]
+struct GapLines<'a> {
+    text: &'a [u8],
+    gaps: &'a [Gap],
+}
+
+impl Text for GapLines<'_> {
+    ghost text = { λ lines. spec.gaps_text lines.text.now lines.gaps.now };
+
+    fn put<W: Write>(&self, out: &mut W, block: &mut Block) -> Result<(), WriteFault> {
+        for gap in self.gaps {
+            let line = GapLine {
+                text: self.text,
+                gap,
+            };
+            line.put(out, block)?;
+        }
+        Ok(())
+    }
+}
+
+/// A check of a text that no outcome could break, and why.
+#[derive(Clone, Copy)]
+struct GapLine<'a> {
+    text: &'a [u8],
+    gap: &'a Gap,
+}
+
+impl Text for GapLine<'_> {
+    ghost text = { λ line. spec.gap_text line.text.now line.gap.now };
+
+    fn put<W: Write>(&self, out: &mut W, block: &mut Block) -> Result<(), WriteFault> {
+        let check = CheckLine {
+            text: self.text,
+            line: self.gap.line,
+        };
+        (check, self.gap.want).put(out, block)
+    }
+}
+
+/// What no outcome has of which a check speaks.
+impl Text for Want {
+    ghost text = { spec.want_text };
+
+    fn put<W: Write>(&self, out: &mut W, block: &mut Block) -> Result<(), WriteFault> {
+        match self {
+            Want::Name => ": no process ever had a name.\n".put(out, block),
+            Want::Done => ": no process was ever done.\n".put(out, block),
+        }
+    }
+}
+
+/// That no schedule fails, and how much was tried.
 #[derive(Clone, Copy)]
 struct Holding<'a> {
     path: &'a [u8],
     reach: Reach,
-    asked: Asked,
 }
 
 impl Text for Holding<'_> {
-    ghost text = { λ h. spec.holding_text h.path.now h.reach h.asked };
+    ghost text = { λ h. spec.holding_text h.path.now h.reach };
 
     fn put<W: Write>(&self, out: &mut W, block: &mut Block) -> Result<(), WriteFault> {
         let reach = self.reach;
-        let caution = if reach.cut_off {
-            Some(CutOff(reach.length))
-        } else {
-            None
-        };
         let tried = Counted {
             number: reach.tried,
             noun: "schedule",
@@ -152,8 +224,22 @@ impl Text for Holding<'_> {
             Crashes(reach.crashes),
             "\n",
         );
-        let fails = (self.path, ": no schedule fails: ");
-        (fails, tried, bounds, self.asked, caution).put(out, block)
+        (self.path, ": no schedule fails: ", tried, bounds).put(out, block)
+    }
+}
+
+/// That schedules were cut off, where they were.
+#[derive(Clone, Copy)]
+struct Caution(Reach);
+
+impl Text for Caution {
+    ghost text = { λ c. spec.caution_text c.0.cut_off c.0.length };
+
+    fn put<W: Write>(&self, out: &mut W, block: &mut Block) -> Result<(), WriteFault> {
+        if !self.0.cut_off {
+            return Ok(());
+        }
+        CutOff(self.0.length).put(out, block)
     }
 }
 
