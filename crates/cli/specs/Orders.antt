@@ -14,7 +14,7 @@ use Rattle.cli.specs.declared.orders.Task.TheVariants.{Check, Explore, Least, Fi
 
 -- to replay the schedule of this text
 abbrev pub IsReplayOf : List ℕ → Task → Type 0
-IsReplayOf text (Check settings native) = ⊥
+IsReplayOf text (Check settings native allows_faults) = ⊥
 IsReplayOf text (Explore settings native) = ⊥
 IsReplayOf text (Least settings native) = ⊥
 IsReplayOf text (Find settings native patterns) = ⊥
@@ -23,7 +23,7 @@ IsReplayOf text (Show schedule all) = ⊥
 
 -- to draw the schedule of this text, with all registers or with those that fit
 abbrev pub IsShowOf : List ℕ → Bool → Task → Type 0
-IsShowOf text all (Check settings native) = ⊥
+IsShowOf text all (Check settings native allows_faults) = ⊥
 IsShowOf text all (Explore settings native) = ⊥
 IsShowOf text all (Least settings native) = ⊥
 IsShowOf text all (Find settings native patterns) = ⊥
@@ -72,7 +72,7 @@ IsNativeTold told native = (text : Bool) × IsFlagTold (told (codes "text")) tex
 
 -- to explore as the words tell, for a report or for the least failing schedule alone
 abbrev pub IsExploration : (List ℕ → Option (List ℕ)) → Task → Type 0
-IsExploration told (Check settings native) = ⊥
+IsExploration told (Check settings native allows_faults) = ⊥
 IsExploration told (Explore settings native) =
     AreSettingsTold told settings × IsNativeTold told native × IsFlagTold (told (codes "least")) false
 IsExploration told (Least settings native) =
@@ -83,7 +83,7 @@ IsExploration told (Show schedule all) = ⊥
 
 -- whether use lines run as native machines
 abbrev pub is_native : Task → Bool
-is_native (Check settings native) = native
+is_native (Check settings native allows_faults) = native
 is_native (Explore settings native) = native
 is_native (Least settings native) = native
 is_native (Find settings native patterns) = native
@@ -92,7 +92,8 @@ is_native (Show schedule all) = false
 
 -- to check as the words tell, and say in words what fails
 abbrev pub IsCheck : (List ℕ → Option (List ℕ)) → ℕ → Task → Type 0
-IsCheck told processors (Check settings native) = AreBoundsTold told processors settings × IsNativeTold told native
+IsCheck told processors (Check settings native allows_faults) =
+    AreBoundsTold told processors settings × IsNativeTold told native × IsFlagTold (told (codes "allow-faults")) allows_faults
 IsCheck told processors (Explore settings native) = ⊥
 IsCheck told processors (Least settings native) = ⊥
 IsCheck told processors (Find settings native patterns) = ⊥
@@ -105,7 +106,7 @@ texts_told found = elim (option_map raw_values (matched_of found (codes "PATTERN
 
 -- to look as far as the words tell for outcomes that match one of the patterns of these texts
 abbrev pub IsFind : (List ℕ → Option (List ℕ)) → ℕ → List (List ℕ) → Task → Type 0
-IsFind told processors texts (Check settings native) = ⊥
+IsFind told processors texts (Check settings native allows_faults) = ⊥
 IsFind told processors texts (Explore settings native) = ⊥
 IsFind told processors texts (Least settings native) = ⊥
 IsFind told processors texts (Find settings native patterns) =
@@ -115,7 +116,7 @@ IsFind told processors texts (Show schedule all) = ⊥
 
 -- how many lists of machines it takes: one for each worker, and one more where a schedule that is found is to be drawn
 abbrev pub lists_of : Task → ℕ
-lists_of (Check settings native) = settings.workers + 1
+lists_of (Check settings native allows_faults) = settings.workers + 1
 lists_of (Explore settings native) = settings.workers
 lists_of (Least settings native) = settings.workers
 lists_of (Find settings native patterns) = settings.workers + 1

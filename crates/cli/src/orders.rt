@@ -29,10 +29,11 @@ const ROOM: u32 = 64;
 /// What to do with a source.
 #[derive(Debug, Drop)]
 pub enum Task {
-    /// Check it this far, and say in words what fails.
+    /// Check it this far, and say in words what fails; a process at fault fails it unless that is allowed.
     Check {
         settings: Settings,
         native: bool,
+        allows_faults: bool,
     },
     /// Explore it this far, with native machines for use lines or with interpreters alone.
     Explore {
@@ -185,14 +186,19 @@ fn order_of<'a, E: Write>(
     }
 }
 
-/// How far the words of `check` ask to check.
+/// How far the words of `check` ask to check, and whether they allow faults.
 fn check_of(words: &ArgMatches<'_>, processors: u32) -> Result<Task, Refusal>
     ensures ok { IfOk result (IsCheck (one_text (found_of words.now)) processors) }
     ensures err { IfErr result (λ refusal. status_of refusal ≡ 2) }
 {
     let settings = bounds_of(words, processors)?;
     let native = is_native(words);
-    Ok(Task::Check { settings, native })
+    let allows_faults = has_flag(words, "allow-faults");
+    Ok(Task::Check {
+        settings,
+        native,
+        allows_faults,
+    })
 }
 
 /// How far the words of `find` ask to look, and for which outcomes.

@@ -80,10 +80,15 @@ Statuses:
 
 /// What the help says of a check.
 const CHECKS: &str =
-    "Where a schedule fails, it prints the least one that does: the first check that its outcome breaks and the line of
-that check, the schedule as a drawing (see regtry show --help), and the command that replays it.
+    "A schedule fails where its outcome breaks a check, and where a process is at fault at its end: a value of the process is
+below 0 or above 1000000000, or it names a register or a cell that is not there, repeats more than 99 times, or emits a
+ninth number. With --allow-faults only a check that is broken counts.
+
+Where a schedule fails, it prints the least one that does: the first check that its outcome breaks and the line of
+that check, the lowest process at fault and why, the schedule as a drawing (see regtry show --help), and the command that
+replays it.
 Where none fails, it prints how much was tried, and whether schedules were cut off at the greatest length with a process
-still running: longer ones were not tried then.
+still running: longer ones were not tried then. Without a check line it says what was looked for.
 
 Example: regtry check FILE --crashes 1 tries all schedules of up to 64 letters in which at most one process crashes.
 
@@ -168,7 +173,10 @@ fn check<'a>(alloc: Global) -> Result<Command<'a>, AllocError> {
     for (name, value, help) in BOUNDS {
         command = command.arg(bound(alloc, name, value, help))?;
     }
-    command.arg(text(alloc))?.arg(progress(alloc))
+    command
+        .arg(allow_faults(alloc))?
+        .arg(text(alloc))?
+        .arg(progress(alloc))
 }
 
 /// The words of `explore`.
@@ -245,6 +253,16 @@ fn patterns<'a>(alloc: Global) -> Arg<'a> {
         .required(true)
         .num_args(1..)
         .help("How each process may stand, as one word: 'done 1; *'")
+}
+
+/// The flag that allows faults.
+fn allow_faults<'a>(alloc: Global) -> Arg<'a> {
+    Arg::new(alloc, "allow-faults")
+        .long("allow-faults")
+        .action(ArgAction::SetTrue)
+        .help(
+            "Let no schedule fail for a process at fault alone, but only for a check that it breaks",
+        )
 }
 
 /// The flag that asks for interpreters.

@@ -1,1 +1,3 @@
 mod Breaking
+mod Causes
+mod GapRows

@@ -1,4 +1,9 @@
 pub mod Breaches
+pub mod Demands
+pub mod Examples
+pub mod FaultText
+pub mod Faults
+pub mod Gaps
 pub mod Indents
 pub mod VerdictText
 pub mod Verdicts

@@ -1,6 +1,6 @@
 -- Whether a source holds, in words.
 use Rattle.std.specs.Prelude.{ℕ, ◌==◌, Bool, false, if◌then◌else◌, List, [], ◌++◌, length, codes, decimal}
-use Rattle.std.specs.List.{list_any}
+use Rattle.std.specs.List.{flat_map, list_any}
 use Rattle.regmodel.specs.declared.limits.TheConstants.{MOST_LETTERS}
 use Rattle.regmodel.specs.Judging.{is_running}
 use Rattle.regmodel.specs.Letters.{Schedule}
@@ -9,10 +9,18 @@ use Rattle.regmodel.specs.ScheduleText.{schedule_text}
 use Rattle.explanations.specs.Checks.{line_at}
 use Rattle.drawing.specs.DrawingText.{drawing_text}
 use Rattle.explanations.specs.Shown.{shown}
+use Rattle.verdict.specs.FaultText.{fault_line, fault_text}
 use Rattle.verdict.specs.Indents.{without_indent}
 use Rattle.verdict.specs.declared.breaches.Breach.{Breach}
+use Rattle.verdict.specs.declared.breaches.Cause.{Cause}
+use Rattle.verdict.specs.declared.breaches.Cause.TheVariants.{Check, Fault}
 use Rattle.verdict.specs.declared.breaches.Verdict.{Verdict}
 use Rattle.verdict.specs.declared.breaches.Verdict.TheVariants.{Fails, Holds}
+use Rattle.verdict.specs.declared.demands.Asked.{Asked}
+use Rattle.verdict.specs.declared.demands.Asked.TheVariants.{Checks, Faults, Nothing}
+use Rattle.verdict.specs.declared.gaps.Gap.{Gap}
+use Rattle.verdict.specs.declared.gaps.Want.{Want}
+use Rattle.verdict.specs.declared.gaps.Want.TheVariants.{Name, Done}
 use Rattle.verdict.specs.declared.reaches.Reach.{Reach}
 
 -- the ending of a noun, but for one thing
@@ -31,23 +39,28 @@ letters_text n = counted n (codes "letter") (codes "s")
 abbrev pub crashes_text : ℕ → List ℕ
 crashes_text n = if n == 0 then codes "no crashes" else counted n (codes "crash") (codes "es")
 
--- where a line stands
-abbrev pub place_text : ℕ → List ℕ
-place_text line = codes " (line " ++ decimal line ++ codes ")\n"
+-- a check line without its indent, and its number
+abbrev pub check_text : List ℕ → ℕ → List ℕ
+check_text text line = without_indent (shown (line_at line text)) ++ codes " (line " ++ decimal line ++ codes ")"
 
--- that a schedule of so many letters fails, and the check line that it breaks, with its number
-abbrev pub failing_text : List ℕ → ℕ → List ℕ → ℕ → List ℕ
-failing_text path letters line number =
-    path ++ codes ": a schedule of " ++ letters_text letters ++ codes " fails: " ++ line ++ place_text number ++ codes "\n"
+-- the check line that is broken, and the process at fault beside it; or that process alone
+abbrev pub cause_text : List ℕ → Cause → List ℕ
+cause_text text (Check line fault) = check_text text line ++ codes "\n" ++ fault_line fault
+cause_text text (Fault fault) = fault_text fault ++ codes "\n"
+
+-- that a schedule of so many letters fails, and why
+abbrev pub failing_text : List ℕ → List ℕ → ℕ → Cause → List ℕ
+failing_text path text letters cause =
+    path ++ codes ": a schedule of " ++ letters_text letters ++ codes " fails: " ++ cause_text text cause ++ codes "\n"
 
 -- the command that replays a schedule
 abbrev pub replay_text : List ℕ → Schedule → List ℕ
 replay_text path w = codes "\nregtry replay " ++ path ++ codes " '" ++ schedule_text w ++ codes "'\n"
 
--- the check that a schedule breaks, without its indent, the schedule as a drawing, and the command that replays it
+-- that a schedule fails and why, the schedule as a drawing, and the command that replays it
 abbrev pub breach_text : List ℕ → List ℕ → Breach → List ℕ
 breach_text path text breach =
-    failing_text path (length breach.schedule) (without_indent (shown (line_at breach.line text))) breach.line ++ drawing_text false breach.drawing ++ replay_text path breach.schedule
+    failing_text path text (length breach.schedule) breach.cause ++ drawing_text false breach.drawing ++ replay_text path breach.schedule
 
 -- whether schedules were cut off: some process still wants an access after as many letters as there may be
 abbrev pub is_cut_off : Findings → Bool
@@ -84,12 +97,36 @@ cut_off_text limit =
 abbrev pub caution_text : Bool → ℕ → List ℕ
 caution_text cut_off limit = if cut_off then cut_off_text limit else []
 
--- that no schedule fails, how much was tried, and whether schedules were cut off
+-- what was looked for where there is no check line
+abbrev pub asked_text : Asked → List ℕ
+asked_text Checks = []
+asked_text Faults = codes "No check line: only faults were looked for.\n"
+asked_text Nothing = codes "No check line: nothing was looked for.\n"
+
+-- what no outcome has of which a check speaks
+abbrev pub want_text : Want → List ℕ
+want_text Name = codes ": no process ever had a name.\n"
+want_text Done = codes ": no process was ever done.\n"
+
+-- a check that no outcome could break, and why
+abbrev pub gap_text : List ℕ → Gap → List ℕ
+gap_text text gap = check_text text gap.line ++ want_text gap.want
+
+-- such checks, one a line
+abbrev pub gaps_text : List ℕ → List Gap → List ℕ
+gaps_text text gaps = flat_map (gap_text text) gaps
+
+-- that no schedule fails, and how much was tried
 abbrev pub holding_text : List ℕ → Reach → List ℕ
 holding_text path reach =
-    path ++ codes ": no schedule fails: " ++ tried_text reach.tried reach.outcomes ++ bounds_text reach.length reach.crashes ++ caution_text reach.cut_off reach.length
+    path ++ codes ": no schedule fails: " ++ tried_text reach.tried reach.outcomes ++ bounds_text reach.length reach.crashes
+
+-- the same, what was looked for, which checks could not be broken, and whether schedules were cut off
+abbrev pub held_text : List ℕ → List ℕ → Reach → Asked → List Gap → List ℕ
+held_text path text reach asked gaps =
+    holding_text path reach ++ asked_text asked ++ gaps_text text gaps ++ caution_text reach.cut_off reach.length
 
 -- what is told of a source in the file of this path
 abbrev pub verdict_text : List ℕ → List ℕ → Verdict → List ℕ
 verdict_text path text (Fails breach) = breach_text path text breach
-verdict_text path text (Holds exploration) = holding_text path (reach_of exploration)
+verdict_text path text (Holds held) = held_text path text (reach_of held.exploration) held.asked held.gaps.items

@@ -1,6 +1,6 @@
 //! What a schedule that fails breaks.
 
-ghost use Rattle.std.specs.Prelude.{◌≡◌, ◌≤◌, IfSome, false, is_some, map, true};
+ghost use Rattle.std.specs.Prelude.{◌≡◌, ◌≤◌, Bool, IfSome, IsNone, false, is_some, map, true};
 ghost use Rattle.regmodel.specs.Judging.{meets_all};
 ghost use Rattle.report.specs.PlainCheck.{IsPlainCheck};
 ghost use Rattle.report.specs.PlainReport.{IsPlainLeast};
@@ -10,9 +10,14 @@ ghost use Rattle.regmodel.specs.declared.limits.TheConstants.{MOST_CRASHES};
 ghost use Rattle.reglang.specs.Grammar.{Spells};
 ghost use Rattle.reglang.specs.Sources.{contents_of, registers_of, source_programs};
 ghost use Rattle.drawing.specs.Pictures.{IsPictureOf};
-ghost use Rattle.verdict.specs.Breaches.{IsBreachOf, IsBrokenLine};
+ghost use Rattle.verdict.specs.Breaches.{IsBreachOf, IsBrokenLine, IsCauseOf};
+ghost use Rattle.verdict.specs.Demands.{meets_demands};
 ghost use Rattle.verdict.specs.Verdicts.{IsVerdictFor};
 
+use crate::demands::{Asked, asked_of};
+use crate::faults::{ProcessFault, first_fault};
+use crate::gaps::{Gap, gaps_of};
+use arrayvec::ArrayVec;
 use drawing::{Drawing, draw};
 use explanations::check_line;
 use machine::Machine;
@@ -22,15 +27,40 @@ use regmodel::{Outcome, Prefix, Settings};
 use report::{Checked, Exploration, Least};
 use world::World;
 
+/// Why a schedule fails.
+#[derive(Clone, Copy, PartialEq, Eq, Debug)]
+pub enum Cause {
+    /// Its outcome breaks a check.
+    Check {
+        /// The line of the first check that it breaks, counted from 1.
+        line: u64,
+        /// The lowest process at fault, where there is one, also where that is allowed.
+        fault: Option<ProcessFault>,
+    },
+    /// Its outcome breaks no check, but a process is at fault: the lowest one.
+    Fault(ProcessFault),
+}
+
 /// What a schedule that fails breaks.
 #[derive(Debug, Drop)]
 pub struct Breach {
     /// The schedule.
     pub schedule: Prefix,
-    /// The line of the first check that its outcome breaks, counted from 1.
-    pub line: u64,
+    /// Why it fails.
+    pub cause: Cause,
     /// What is drawn of it.
     pub drawing: Drawing,
+}
+
+/// What is known where no schedule fails.
+#[derive(Drop)]
+pub struct Held {
+    /// What was found.
+    pub exploration: Exploration,
+    /// What was looked for.
+    pub asked: Asked,
+    /// The checks that no outcome could break.
+    pub gaps: ArrayVec<Gap, 16>,
 }
 
 /// Whether a source holds.
@@ -38,8 +68,8 @@ pub struct Breach {
 pub enum Verdict {
     /// A schedule fails: what the least one breaks.
     Fails(Breach),
-    /// None fails: what was found.
-    Holds(Exploration),
+    /// None fails: what was found and looked for.
+    Holds(Held),
 }
 
 impl Verdict {
@@ -64,19 +94,27 @@ pub fn verdict_on(
     source: &Source,
     machines: Vec<Box<dyn Machine + Send>>,
     settings: Settings,
+    allows_faults: bool,
     checked: Checked,
 ) -> Verdict
     requires machines { map program machines.items ≡ source_programs source.now }
     requires spelled { Spells text.now (contents_of source.now) }
     requires checked { IsPlainCheck (source_programs source.now) settings.length settings.crashes
-        (meets_all (contents_of source.now).clauses) checked }
-    ensures { IsVerdictFor text.now (contents_of source.now) checked result }
+        (meets_demands (contents_of source.now).clauses allows_faults) checked }
+    ensures { IsVerdictFor text.now (contents_of source.now) allows_faults checked result }
 {
     match checked {
         Checked::Fails(least) => {
             Verdict::Fails(breach_for(text, source, machines, settings, &least))
         }
-        Checked::Holds(exploration) => Verdict::Holds(exploration),
+        Checked::Holds(exploration) => {
+            let clauses = source.clauses().list();
+            Verdict::Holds(Held {
+                asked: asked_of(clauses, allows_faults),
+                gaps: gaps_of(text, clauses, &exploration),
+                exploration,
+            })
+        }
     }
 }
 
@@ -90,8 +128,9 @@ fn breach_for(
 ) -> Breach
     requires machines { map program machines.items ≡ source_programs source.now }
     requires spelled { Spells text.now (contents_of source.now) }
-    requires least { IsPlainLeast (source_programs source.now) settings.length settings.crashes
-        (meets_all (contents_of source.now).clauses) least.now }
+    requires least { (allows_faults : Bool)
+        × IsPlainLeast (source_programs source.now) settings.length settings.crashes
+        (meets_demands (contents_of source.now).clauses allows_faults) least.now }
     requires fails { is_some least.now.least ≡ true }
     ensures { IfSome least.now.least
         (λ l. IsBreachOf text.now (contents_of source.now) l.0 l.1 result) }
@@ -110,8 +149,8 @@ fn breach_for(
     )
 }
 
-/// What a schedule of a source breaks that fails: the first check that its outcome breaks has the line, and the machines, one a process,
-/// lead to the drawing. Takes no memory.
+/// What a schedule of a source breaks that fails, whether or not faults are allowed. The machines, one a process, lead to the drawing. Takes
+/// no memory.
 fn breach_of(
     text: &[u8],
     source: &Source,
@@ -123,30 +162,48 @@ fn breach_of(
     requires machines { map program machines.items ≡ source_programs source.now }
     requires few { crashes ≤ MOST_CRASHES }
     requires spelled { Spells text.now (contents_of source.now) }
-    requires refused { IsRefusedWith (source_programs source.now) crashes
-        (meets_all (contents_of source.now).clauses) schedule.now outcome.now }
+    requires refused { (allows_faults : Bool)
+        × IsRefusedWith (source_programs source.now) crashes
+        (meets_demands (contents_of source.now).clauses allows_faults) schedule.now outcome.now }
     ensures { IsBreachOf text.now (contents_of source.now) schedule.now outcome.now result }
 {
     Breach {
         schedule: schedule.copy(),
-        line: broken_line(text, source, outcome),
+        cause: cause_of(text, source, outcome),
         drawing: drawing_of(source, machines, crashes, schedule),
     }
 }
 
-/// The line of the first check of a source that an outcome breaks.
-fn broken_line(text: &[u8], source: &Source, outcome: &Outcome) -> u64
+/// Why a schedule with this outcome fails.
+fn cause_of(text: &[u8], source: &Source, outcome: &Outcome) -> Cause
     requires spelled { Spells text.now (contents_of source.now) }
-    requires refused { meets_all (contents_of source.now).clauses outcome.now ≡ false }
-    ensures { IsBrokenLine text.now (contents_of source.now).clauses outcome.now result }
+    requires refused { (allows_faults : Bool)
+        × (meets_demands (contents_of source.now).clauses allows_faults outcome.now ≡ false) }
+    ensures { IsCauseOf text.now (contents_of source.now).clauses outcome.now result }
+{
+    let fault = first_fault(outcome);
+    if let Some(line) = broken_line(text, source, outcome) {
+        return Cause::Check { line, fault };
+    }
+    let Some(fault) = fault else { unreachable!() };
+    Cause::Fault(fault)
+}
+
+/// The line of the first check of a source that an outcome breaks. None where it breaks none.
+fn broken_line(text: &[u8], source: &Source, outcome: &Outcome) -> Option<u64>
+    requires { Spells text.now (contents_of source.now) }
+    ensures line { IfSome result
+        (IsBrokenLine text.now (contents_of source.now).clauses outcome.now) }
+    ensures none { IsNone result
+        → meets_all (contents_of source.now).clauses outcome.now ≡ true }
 {
     let Some(place) = source.clauses().first_broken(outcome) else {
-        unreachable!()
+        return None;
     };
     let Some(line) = check_line(text, place) else {
         unreachable!()
     };
-    line
+    Some(line)
 }
 
 /// What is drawn of a schedule of a source.

@@ -1,15 +1,21 @@
-//! Whether a source holds, in words for a person: the schedule that fails, the check that it breaks and its drawing, or how much was tried.
+//! Whether a source holds, in words for a person: the schedule that fails, why and its drawing, or how much was tried.
 #![tactic(auto)]
 
 mod breaches;
 mod counts;
+mod demands;
+mod faults;
+mod gaps;
 mod indents;
 mod leading;
 mod reaches;
 mod telling;
 mod ways;
 
-pub use breaches::{Breach, Verdict, verdict_on};
+pub use breaches::{Breach, Cause, Held, Verdict, verdict_on};
+pub use demands::{Asked, Demands};
+pub use faults::ProcessFault;
+pub use gaps::{Gap, Want};
 pub use leading::write_discovery;
 pub use telling::write_verdict;
 pub use ways::{Discovery, Way, discovery_on};

@@ -1,11 +1,15 @@
 //! Whether a source holds, in words. No call takes memory.
 
 ghost use Rattle.texts.specs.Appending.{Wrote};
+ghost use Rattle.verdict.specs.FaultText.{fault_line};
 ghost use Rattle.verdict.specs.VerdictText as spec;
 ghost use Rattle.verdict.specs.VerdictText.{verdict_text};
 
-use crate::breaches::{Breach, Verdict};
+use crate::breaches::{Breach, Cause, Verdict};
 use crate::counts::{Counted, Crashes, Letters};
+use crate::demands::Asked;
+use crate::faults::ProcessFault;
+use crate::gaps::{Gap, Want};
 use crate::indents::without_indent;
 use crate::reaches::{Reach, reach_of};
 use drawing::Drawn;
@@ -14,9 +18,9 @@ use regmodel::limits::MOST_LETTERS;
 use std::io::Write;
 use texts::{Block, Text, WriteFault, write};
 
-/// Writes whether the source holds that the text in the file of this path spells: the schedule that fails, the check that it breaks, its
-/// drawing and the command that replays it; or how much was tried, and whether schedules were cut off. After a fault the writer has taken
-/// a beginning of it.
+/// Writes whether the source holds that the text in the file of this path spells: the schedule that fails, the check that it breaks and the
+/// process at fault, its drawing and the command that replays it; or how much was tried, what was looked for where there is no check line,
+/// which checks no outcome could break, and whether schedules were cut off. After a fault the writer has taken a beginning of it.
 pub fn write_verdict<W: Write>(
     path: &[u8],
     text: &[u8],
@@ -27,9 +31,16 @@ pub fn write_verdict<W: Write>(
 {
     match verdict {
         Verdict::Fails(breach) => write(&Failing { path, text, breach }, out),
-        Verdict::Holds(exploration) => {
-            let reach = reach_of(exploration);
-            write(&Holding { path, reach }, out)
+        Verdict::Holds(held) => {
+            let reach = reach_of(&held.exploration);
+            let gaps = GapLines {
+                text,
+                gaps: held.gaps.as_slice(),
+            };
+            write(
+                &(Holding { path, reach }, held.asked, gaps, Caution(reach)),
+                out,
+            )
         }
     }
 }
@@ -48,19 +59,142 @@ impl Text for Failing<'_> {
     fn put<W: Write>(&self, out: &mut W, block: &mut Block) -> Result<(), WriteFault> {
         let breach = self.breach;
         let letters = Letters(breach.schedule.letters().len() as u64);
-        let line = without_indent(shown_line(self.text, breach.line));
-        let place = (" (line ", breach.line, ")\n");
+        let cause = Caused {
+            text: self.text,
+            cause: &breach.cause,
+        };
         let drawing = Drawn {
             drawing: &breach.drawing,
             all: false,
         };
         let fails = (self.path, ": a schedule of ", letters, " fails: ");
         let replay = ("\nregtry replay ", self.path, " '", &breach.schedule, "'\n");
-        ((fails, line, place, "\n"), drawing, replay).put(out, block)
+        (fails, cause, "\n", drawing, replay).put(out, block)
     }
 }
 
-/// That no schedule fails, how much was tried, and whether schedules were cut off.
+/// Why a schedule fails.
+#[derive(Clone, Copy)]
+struct Caused<'a> {
+    text: &'a [u8],
+    cause: &'a Cause,
+}
+
+impl Text for Caused<'_> {
+    ghost text = { λ c. spec.cause_text c.text.now c.cause.now };
+
+    fn put<W: Write>(&self, out: &mut W, block: &mut Block) -> Result<(), WriteFault> {
+        match *self.cause {
+            Cause::Check { line, fault } => {
+                let check = CheckLine {
+                    text: self.text,
+                    line,
+                };
+                (check, "\n", FaultLine(fault)).put(out, block)
+            }
+            Cause::Fault(fault) => (fault, "\n").put(out, block),
+        }
+    }
+}
+
+/// A check line without its indent, and its number.
+#[derive(Clone, Copy)]
+struct CheckLine<'a> {
+    text: &'a [u8],
+    line: u64,
+}
+
+impl Text for CheckLine<'_> {
+    ghost text = { λ c. spec.check_text c.text.now c.line };
+
+    fn put<W: Write>(&self, out: &mut W, block: &mut Block) -> Result<(), WriteFault> {
+        let check = without_indent(shown_line(self.text, self.line));
+        (check, " (line ", self.line, ")").put(out, block)
+    }
+}
+
+/// The process at fault beside a check that is broken, where there is one.
+#[derive(Clone, Copy)]
+struct FaultLine(Option<ProcessFault>);
+
+impl Text for FaultLine {
+    ghost text = { λ line. fault_line line.0 };
+
+    fn put<W: Write>(&self, out: &mut W, block: &mut Block) -> Result<(), WriteFault> {
+        match self.0 {
+            Some(fault) => ("At its end ", fault, ".\n").put(out, block),
+            None => Ok(()),
+        }
+    }
+}
+
+/// What was looked for, where there is no check line.
+impl Text for Asked {
+    ghost text = { spec.asked_text };
+
+    fn put<W: Write>(&self, out: &mut W, block: &mut Block) -> Result<(), WriteFault> {
+        match self {
+            Asked::Nothing => "No check line: nothing was looked for.\n".put(out, block),
+            Asked::Faults => "No check line: only faults were looked for.\n".put(out, block),
+            Asked::Checks => Ok(()),
+        }
+    }
+}
+
+/// The checks of a text that no outcome could break, one a line.
+#[derive(Clone, Copy)]
+struct GapLines<'a> {
+    text: &'a [u8],
+    gaps: &'a [Gap],
+}
+
+impl Text for GapLines<'_> {
+    ghost text = { λ lines. spec.gaps_text lines.text.now lines.gaps.now };
+
+    fn put<W: Write>(&self, out: &mut W, block: &mut Block) -> Result<(), WriteFault> {
+        for gap in self.gaps {
+            let line = GapLine {
+                text: self.text,
+                gap,
+            };
+            line.put(out, block)?;
+        }
+        Ok(())
+    }
+}
+
+/// A check of a text that no outcome could break, and why.
+#[derive(Clone, Copy)]
+struct GapLine<'a> {
+    text: &'a [u8],
+    gap: &'a Gap,
+}
+
+impl Text for GapLine<'_> {
+    ghost text = { λ line. spec.gap_text line.text.now line.gap.now };
+
+    fn put<W: Write>(&self, out: &mut W, block: &mut Block) -> Result<(), WriteFault> {
+        let check = CheckLine {
+            text: self.text,
+            line: self.gap.line,
+        };
+        (check, self.gap.want).put(out, block)
+    }
+}
+
+/// What no outcome has of which a check speaks.
+impl Text for Want {
+    ghost text = { spec.want_text };
+
+    fn put<W: Write>(&self, out: &mut W, block: &mut Block) -> Result<(), WriteFault> {
+        match self {
+            Want::Name => ": no process ever had a name.\n".put(out, block),
+            Want::Done => ": no process was ever done.\n".put(out, block),
+        }
+    }
+}
+
+/// That no schedule fails, and how much was tried.
 #[derive(Clone, Copy)]
 struct Holding<'a> {
     path: &'a [u8],
@@ -72,11 +206,6 @@ impl Text for Holding<'_> {
 
     fn put<W: Write>(&self, out: &mut W, block: &mut Block) -> Result<(), WriteFault> {
         let reach = self.reach;
-        let caution = if reach.cut_off {
-            Some(CutOff(reach.length))
-        } else {
-            None
-        };
         let tried = Counted {
             number: reach.tried,
             noun: "schedule",
@@ -95,7 +224,22 @@ impl Text for Holding<'_> {
             Crashes(reach.crashes),
             "\n",
         );
-        (self.path, ": no schedule fails: ", tried, bounds, caution).put(out, block)
+        (self.path, ": no schedule fails: ", tried, bounds).put(out, block)
+    }
+}
+
+/// That schedules were cut off, where they were.
+#[derive(Clone, Copy)]
+struct Caution(Reach);
+
+impl Text for Caution {
+    ghost text = { λ c. spec.caution_text c.0.cut_off c.0.length };
+
+    fn put<W: Write>(&self, out: &mut W, block: &mut Block) -> Result<(), WriteFault> {
+        if !self.0.cut_off {
+            return Ok(());
+        }
+        CutOff(self.0.length).put(out, block)
     }
 }
 

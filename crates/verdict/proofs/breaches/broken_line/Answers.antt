@@ -5,12 +5,12 @@ use Rattle.reglang.specs.Sources.{contents_of}
 use Rattle.verdict.proofs.Breaking.{broken_line_is}
 use Rattle.verdict.proofs.breaches.broken_line.Goals as goal
 
-pub unreachable-requires-in_default-check_line : goal.unreachable-requires-in_default-check_line
-unreachable-requires-in_default-check_line c =
+pub unreachable-requires : goal.unreachable-requires
+unreachable-requires c =
     broken_line_is c.args.text.now (contents_of c.args.source.now) c.args.outcome.now c.in-Some.place None
-    (c.in-Some.ensures.first ∙ ap (position (λ clause. not (meets clause c.args.outcome.now))) c.clauses.ensures.value) c.in_default-check_line.ensures.number c.requires.spelled c.in_default-check_line.ensures.clause
+    (c.in-Some.ensures.first ∙ ap (position (λ clause. not (meets clause c.args.outcome.now))) c.clauses.ensures.value) c.in_default-check_line.ensures.number c.requires c.in_default-check_line.ensures.clause
 
-pub returns : goal.returns
-returns c =
+pub returns-clause-line : goal.returns-clause-line
+returns-clause-line c =
     broken_line_is c.args.text.now (contents_of c.args.source.now) c.args.outcome.now c.in-Some.place (Some c.in-Some-check_line.line)
-    (c.in-Some.ensures.first ∙ ap (position (λ clause. not (meets clause c.args.outcome.now))) c.clauses.ensures.value) c.in-Some-check_line.ensures.number c.requires.spelled c.in-Some-check_line.ensures.clause
+    (c.in-Some.ensures.first ∙ ap (position (λ clause. not (meets clause c.args.outcome.now))) c.clauses.ensures.value) c.in-Some-check_line.ensures.number c.requires c.in-Some-check_line.ensures.clause

@@ -1,0 +1,8 @@
+use Rattle.std.proofs.Common.{sym, ◌∙◌}
+use Rattle.reglang.specs.Sources.{contents_of}
+use Rattle.verdict.proofs.Causes.{some_cause}
+use Rattle.verdict.proofs.breaches.cause_of.Goals as goal
+
+pub unreachable-requires : goal.unreachable-requires
+unreachable-requires c =
+    some_cause (contents_of c.args.source.now).clauses c.requires.refused.0 c.args.outcome.now (sym c.first_fault-fault.ensures ∙ cc) (c.broken_line.ensures.none cc) c.requires.refused.1

@@ -1,0 +1,33 @@
+-- Worked examples of what a check demands, and of faults in words.
+use Rattle.std.specs.Prelude.{◌≡◌, true, false, [], ◌∷◌, None, Some, codes, refl}
+use Rattle.regmodel.specs.declared.clauses.Clause.TheVariants as clause
+use Rattle.regmodel.specs.declared.outcomes.End.{End}
+use Rattle.regmodel.specs.declared.outcomes.End.TheVariants as end
+use Rattle.regmodel.specs.declared.outcomes.ProcEnd.{ProcEnd}
+use Rattle.verdict.specs.Demands.{meets_demands}
+use Rattle.verdict.specs.FaultText.{reason_text}
+use Rattle.verdict.specs.Faults.{first_fault}
+
+-- a process that took no step
+abbrev idle : End → ProcEnd
+idle fate = record { started = false; fate = fate }
+
+-- a process at fault has come to an end, and yet fails a check
+pub at_fault : meets_demands (clause.Ended ∷ []) false (idle (end.Fault 2) ∷ []) ≡ false
+at_fault = refl
+
+pub allowed : meets_demands (clause.Ended ∷ []) true (idle (end.Fault 2) ∷ []) ≡ true
+allowed = refl
+
+-- a clause is asked also where faults are allowed
+pub allowed_but_running : meets_demands (clause.Ended ∷ []) true (idle end.Running ∷ []) ≡ false
+allowed_but_running = refl
+
+pub second_of_three : first_fault 0 (idle end.Crashed ∷ idle (end.Fault 2) ∷ idle (end.Fault 3) ∷ []) ≡ Some (record { process = 1; code = 2 })
+second_of_three = refl
+
+pub none_at_fault : first_fault 0 (idle end.Running ∷ []) ≡ None
+none_at_fault = refl
+
+pub in_words : reason_text 4 ≡ codes "it emits a ninth number"
+in_words = refl

@@ -1,0 +1,19 @@
+-- Which process is at fault, in words.
+use Rattle.std.specs.Prelude.{ℕ, ◌==◌, if◌then◌else◌, List, [], ◌++◌, Option, Some, None, codes, decimal}
+use Rattle.regmodel.specs.declared.faults.TheConstants.{NO_PLACE, NO_VALUE, TOO_MANY_TURNS}
+use Rattle.verdict.specs.declared.faults.ProcessFault.{ProcessFault}
+
+-- why a process is at fault with this code
+abbrev pub reason_text : ℕ → List ℕ
+reason_text code =
+    if code == NO_VALUE then codes "a value is below 0 or above 1000000000" else
+    (if code == NO_PLACE then codes "it names a register or a cell that is not there" else
+    (if code == TOO_MANY_TURNS then codes "it repeats more than 99 times" else codes "it emits a ninth number"))
+
+-- that a process is at fault, and why
+abbrev pub fault_text : ProcessFault → List ℕ
+fault_text fault = codes "process " ++ decimal fault.process ++ codes " is at fault: " ++ reason_text fault.code
+
+-- the same beside a check that is broken, where a process is at fault
+abbrev pub fault_line : Option ProcessFault → List ℕ
+fault_line fault = elim fault [ Some f ↦ codes "At its end " ++ fault_text f ++ codes ".\n" | None ↦ [] ]
