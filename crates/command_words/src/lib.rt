@@ -88,7 +88,8 @@ Where a schedule fails, it prints the least one that does: the first check that 
 that check, the lowest process at fault and why, the schedule as a drawing (see regtry show --help), and the command that
 replays it.
 Where none fails, it prints how much was tried, and whether schedules were cut off at the greatest length with a process
-still running: longer ones were not tried then. Without a check line it says what was looked for.
+still running: longer ones were not tried then. It says what was looked for where there is no check line, and which check no
+outcome could break, since no process ever had a name or was done.
 
 Example: regtry check FILE --crashes 1 tries all schedules of up to 64 letters in which at most one process crashes.
 

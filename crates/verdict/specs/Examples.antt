@@ -1,4 +1,4 @@
--- Worked examples of what a check demands, and of faults in words.
+-- Worked examples of what a check demands, of checks that are vacuous, and of faults in words.
 use Rattle.std.specs.Prelude.{◌≡◌, true, false, [], ◌∷◌, None, Some, codes, refl}
 use Rattle.regmodel.specs.declared.clauses.Clause.TheVariants as clause
 use Rattle.regmodel.specs.declared.outcomes.End.{End}
@@ -7,6 +7,8 @@ use Rattle.regmodel.specs.declared.outcomes.ProcEnd.{ProcEnd}
 use Rattle.verdict.specs.Demands.{meets_demands}
 use Rattle.verdict.specs.FaultText.{reason_text}
 use Rattle.verdict.specs.Faults.{first_fault}
+use Rattle.verdict.specs.Gaps.{want_of}
+use Rattle.verdict.specs.declared.gaps.Want.TheVariants as want
 
 -- a process that took no step
 abbrev idle : End → ProcEnd
@@ -22,6 +24,16 @@ allowed = refl
 -- a clause is asked also where faults are allowed
 pub allowed_but_running : meets_demands (clause.Ended ∷ []) true (idle end.Running ∷ []) ≡ false
 allowed_but_running = refl
+
+-- a process is done in the second outcome, but none has a name
+pub nameless : want_of clause.Distinct ((idle end.Crashed ∷ []) ∷ (idle (end.Done (record { items = [] })) ∷ []) ∷ []) ≡ Some want.Name
+nameless = refl
+
+pub done_once : want_of clause.SelfSeen ((idle end.Crashed ∷ []) ∷ (idle (end.Done (record { items = [] })) ∷ []) ∷ []) ≡ None
+done_once = refl
+
+pub never_done : want_of clause.SelfSeen ((idle end.Crashed ∷ []) ∷ (idle end.Running ∷ []) ∷ []) ≡ Some want.Done
+never_done = refl
 
 pub second_of_three : first_fault 0 (idle end.Crashed ∷ idle (end.Fault 2) ∷ idle (end.Fault 3) ∷ []) ≡ Some (record { process = 1; code = 2 })
 second_of_three = refl
