@@ -33,7 +33,8 @@ type Open = ArrayVec<Opened, MOST_OPEN>;
 
 /// Opens one more block.
 fn open_one(blocks: &mut Open, block: Block, line: u64)
-    ensures { blocks.new.items ≡ spec.with_one blocks.old.items (record { block = block; line = line }) }
+    ensures { blocks.new.items
+        ≡ spec.with_one blocks.old.items (record { block = block; line = line }) }
 {
     let _ = blocks.try_push(Opened { block, line });
 }

@@ -11,7 +11,7 @@ use crate::advice::Advice;
 use crate::lines::shown_line;
 use crate::misfits::word_at_fault;
 use crate::open_blocks::{Opened, open_block};
-use crate::origins::{Origin, origin_of};
+use crate::origins::origin_of;
 use crate::wording::{Culprit, what_is_wrong};
 use reglang::{NOT_PRINTABLE, Rejection};
 use std::io::Write;
@@ -31,8 +31,10 @@ pub fn write_explanation<W: Write>(
 {
     let line = shown_line(text, rejection.fault.line);
     let opened = block_told(text, open_block(text, lines_before(rejection)));
+    let origin = origin_of(path, text, rejection.fault.line);
     let explanation = Explanation {
-        origin: origin_of(path, text, rejection.fault.line),
+        path: origin.path,
+        number: origin.line,
         rejection,
         line,
         opened,
@@ -65,17 +67,19 @@ fn block_told(text: &[u8], opened: Option<Opened>) -> Option<Opened>
     }
 }
 
-/// What is wrong with a text, where its line comes from, the line, the block that is open there, and what to change.
+/// What is wrong with a text, the file and the number of the line that are told, the line, the block that is open there, and what to
+/// change.
 #[derive(Clone, Copy)]
 struct Explanation<'a> {
-    origin: Origin<'a>,
+    path: &'a [u8],
+    number: u64,
     rejection: &'a Rejection,
     line: &'a [u8],
     opened: Option<Opened>,
 }
 
 impl Text for Explanation<'_> {
-    ghost text = { λ e. line_explained e.origin.path.now e.origin.line e.rejection.now e.line.now e.opened };
+    ghost text = { λ e. line_explained e.path.now e.number e.rejection.now e.line.now e.opened };
 
     fn put<W: Write>(&self, out: &mut W, block: &mut Block) -> Result<(), WriteFault> {
         let fault = self.rejection.fault;
@@ -91,7 +95,7 @@ impl Text for Explanation<'_> {
             rejection: self.rejection,
             line: self.line,
         };
-        let place = (self.origin.path, ":", self.origin.line, ": ");
+        let place = (self.path, ":", self.number, ": ");
         let heading = (place, (wrong, word), "\n");
         (heading, Shown(self.line), "\n", advice, "\n").put(out, block)
     }

@@ -29,7 +29,11 @@ impl Reply {
         requires { length values.now ≤ MOST_SCANNED }
         ensures { values_in self.new ≡ values.now }
     {
-        self.places[..values.len()].copy_from_slice(values);
+        match values {
+            // Most replies are of one number: its place is set without a call that copies memory.
+            [value] => self.places[0] = *value,
+            _ => self.places[..values.len()].copy_from_slice(values),
+        }
         self.count = values.len();
     }
 
@@ -44,6 +48,9 @@ impl Reply {
     pub fn is(&self, values: &[u32]) -> bool
         ensures { IsTrue result ↔ (values_in self.now ≡ values.now) }
     {
-        self.values() == values
+        match values {
+            [value] => self.count == 1 && self.places[0] == *value,
+            _ => self.values() == values,
+        }
     }
 }
