@@ -4,4 +4,5 @@ pub mod Fitting
 pub mod Flows
 pub mod KeptStates
 pub mod Places
+pub mod StandingNumbers
 pub mod Wanting

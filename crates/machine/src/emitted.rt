@@ -41,12 +41,19 @@ impl Emitted {
         self.count += 1;
     }
 
+    /// The numbers.
+    pub fn values(&self) -> &[u32]
+        ensures { result.now ≡ items_of self.now }
+    {
+        &self.places[..self.count.min(MOST_NUMBERS)]
+    }
+
     /// The same numbers, as they are told.
     pub fn numbers(&self) -> Numbers
         ensures { result.items ≡ items_of self.now }
     {
         let mut numbers = Numbers::new();
-        let _ = numbers.try_extend_from_slice(&self.places[..self.count.min(MOST_NUMBERS)]);
+        let _ = numbers.try_extend_from_slice(self.values());
         numbers
     }
 }

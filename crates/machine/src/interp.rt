@@ -7,8 +7,8 @@ ghost use Rattle.regmodel.specs.Kept.{values_in};
 ghost use Rattle.machine.specs.Keeping.{IsKept, LeadsTo, kept_at, state_at};
 ghost use Rattle.machine.specs.Rest.{Asks, pending_in};
 
-use crate::Machine;
 use crate::states::{Kept, State};
+use crate::{Machine, Told};
 use regmodel::limits::MOST_LETTERS;
 use regmodel::{OutOfMemory, Pending, Prog, Reply};
 use std::alloc::Global;
@@ -104,10 +104,13 @@ impl Machine for Interp {
     ghost use Rattle.regmodel.specs.OfProg.{program_of};
     ghost use Rattle.machine.specs.Keeping.{state_at};
     ghost use Rattle.machine.specs.Rest.{rest_in};
+    ghost use Rattle.machine.specs.Standings.{resumed_by};
 
     ghost program = { λ m. program_of m.prog };
 
     ghost rest = { λ m. rest_in (program_of m.prog) (state_at m.kept.items m.at) };
+
+    ghost resumed = { λ m. resumed_by (program_of m.prog) };
 
     fn reset(&mut self) {
         self.at = 0;
@@ -135,5 +138,9 @@ impl Machine for Interp {
         self.at = 0;
         self.known = 0;
         self.kept[0].state = State::over();
+    }
+
+    fn tell(&self, numbers: &mut Told) -> bool {
+        self.kept[self.at].state.tell(numbers).is_some()
     }
 }

@@ -1,23 +1,29 @@
 //! Machines: programs in progress, which go on by one reply after another.
 #![tactic(auto)]
 
-ghost use Rattle.std.specs.Prelude.{◌≡◌, ℕ, List, [], ◌∷◌};
+ghost use Rattle.std.specs.Prelude.{◌≡◌, ℕ, IsTrue, List, [], ◌∷◌};
 ghost use Rattle.regmodel.specs.declared.accesses.Pending.{Pending};
 ghost use Rattle.regmodel.specs.declared.accesses.Pending.TheVariants.{Done};
 ghost use Rattle.regmodel.specs.Program.{Program};
 ghost use Rattle.regmodel.specs.Lawful.{IsReplyTo, IsAtStart};
 ghost use Rattle.regmodel.specs.Reply as replies;
 ghost use Rattle.regmodel.specs.Reply.{Replies};
+ghost use Rattle.machine.specs.Telling.{Tells};
 
 mod emitted;
 mod interp;
 mod resume;
 mod run;
+mod standings;
 mod states;
 mod values;
 
+use arrayvec::ArrayVec;
 pub use interp::Interp;
 use regmodel::Pending;
+
+/// Numbers that tell where something stands, at most 64.
+pub type Told = ArrayVec<u32, 64>;
 
 /// A program in progress, known by its program and by its rest: what is pending after each list of further replies.
 /// No call takes memory.
@@ -28,9 +34,13 @@ pub trait Machine: Drop + Send {
     /// What is pending after these further replies.
     ghost rest: { Self → Replies → Pending };
 
+    /// What is pending after further replies, where it stands as a list of numbers tells.
+    ghost resumed: { Self → List ℕ → Replies → Pending } = { λ m numbers s. Done (record { items = [] }) };
+
     /// Goes to the program's start.
     fn reset(&mut self)
         ensures same { program self.new ≡ program self.old }
+        ensures resumed { resumed self.new ≡ resumed self.old }
         ensures starts { IsAtStart (program self.new) (rest self.new) };
 
     /// What is pending now.
@@ -41,12 +51,24 @@ pub trait Machine: Drop + Send {
     fn feed(&mut self, reply: &[u32])
         requires { IsReplyTo (rest self.old []) reply.now }
         ensures same { program self.new ≡ program self.old }
+        ensures resumed { resumed self.new ≡ resumed self.old }
         ensures goes_on { (s : Replies) → rest self.new s ≡ rest self.old (reply.now ∷ s) };
 
     /// Gives up what it holds; it is done with no numbers until it is reset.
     fn end(&mut self)
         ensures same { program self.new ≡ program self.old }
+        ensures resumed { resumed self.new ≡ resumed self.old }
         ensures ended { (s : Replies) → rest self.new s ≡ Done (record { items = [] }) };
+
+    /// Tells where it stands, in numbers behind those of the list. It answers false where it cannot tell, or the list has no room for that;
+    /// what then stands behind the earlier numbers means nothing.
+    fn tell(&self, numbers: &mut Told) -> bool
+        ensures { IsTrue result
+            → Tells (resumed self.now) (rest self.now) numbers.old.items numbers.new.items }
+    {
+        let _ = numbers;
+        false
+    }
 }
 
 /// The first value of a reply; 0 where it has none.
@@ -69,6 +91,7 @@ pub fn pending_of_box(machine: &Box<dyn Machine + Send>) -> Pending
 pub fn feed_box(machine: &mut Box<dyn Machine + Send>, reply: &[u32])
     requires { IsReplyTo (rest machine.old []) reply.now }
     ensures same { program machine.new ≡ program machine.old }
+    ensures resumed { resumed machine.new ≡ resumed machine.old }
     ensures goes_on { (s : Replies) → rest machine.new s ≡ rest machine.old (reply.now ∷ s) }
 {
     machine.feed(reply);
@@ -77,6 +100,7 @@ pub fn feed_box(machine: &mut Box<dyn Machine + Send>, reply: &[u32])
 /// Resets a boxed machine.
 pub fn reset_box(machine: &mut Box<dyn Machine + Send>)
     ensures same { program machine.new ≡ program machine.old }
+    ensures resumed { resumed machine.new ≡ resumed machine.old }
     ensures starts { IsAtStart (program machine.new) (rest machine.new) }
 {
     machine.reset();
@@ -85,7 +109,16 @@ pub fn reset_box(machine: &mut Box<dyn Machine + Send>)
 /// Ends a boxed machine.
 pub fn end_box(machine: &mut Box<dyn Machine + Send>)
     ensures same { program machine.new ≡ program machine.old }
+    ensures resumed { resumed machine.new ≡ resumed machine.old }
     ensures ended { (s : Replies) → rest machine.new s ≡ Done (record { items = [] }) }
 {
     machine.end();
+}
+
+/// Asks a boxed machine to tell where it stands.
+pub fn tell_box(machine: &Box<dyn Machine + Send>, numbers: &mut Told) -> bool
+    ensures { IsTrue result
+        → Tells (resumed machine.now) (rest machine.now) numbers.old.items numbers.new.items }
+{
+    machine.tell(numbers)
 }

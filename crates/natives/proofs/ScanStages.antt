@@ -1,16 +1,18 @@
 -- What a renaming that scans does, by where it stands.
-use Rattle.std.proofs.Common.{◌≡◌, ℕ, suc, ◌-◌, ◌*◌, ◌++◌, true, List, [], ◌∷◌, drop, length, take, ap, ◌∙◌, arith}
+use Rattle.std.proofs.Common.{◌≡◌, ℕ, suc, ◌-◌, ◌*◌, ◌++◌, true, List, [], ◌∷◌, drop, length, take, refl, ap, sym, ◌∙◌, arith}
 use Rattle.std.specs.Prelude.{slice_set}
 use Rattle.std.proofs.lemmas.List.{length-set, length-append, length-drop}
 use Rattle.regmodel.specs.declared.accesses.Pending.{Pending}
 use Rattle.regmodel.specs.declared.accesses.Pending.TheVariants.{Done}
 use Rattle.regmodel.specs.Reply.{Reply, Replies, one}
+use Rattle.machine.specs.Standings.{padded}
 use Rattle.natives.specs.declared.scanned_names.Names.{Names}
 use Rattle.natives.specs.declared.scanned_names.Stage.{Stage}
+use Rattle.natives.specs.declared.scanned_names.Stage.TheVariants.{Proposes, Scans, Named, Over}
 use Rattle.natives.specs.declared.rounds.Reading.{Reading}
 use Rattle.natives.specs.Bits.{bit}
 use Rattle.natives.specs.Rounds.{after_slots, first_slot, at_slot, cells_of, from_after, number_from}
-use Rattle.natives.specs.ScannedNames.{scan_rounds, from_scan_round, names_rest}
+use Rattle.natives.specs.ScannedNames.{scan_rounds, from_scan_round, names_numbers, names_rest, names_resumed}
 use Rattle.natives.proofs.NextNames.{IsChoice, finish-next, long_cells, taken}
 use Rattle.natives.proofs.Scans.{alike, scan-ends, scanned-seen}
 
@@ -66,3 +68,10 @@ module _ (m : Names) where
       ∙ ap (λ k. ends_round (slice_set (copied ++ drop k m.seen) own 0) (after_slots m.slot m.proposal (take k (slice_set (copied ++ drop k m.seen) own 0)) first_slot) s) e
       ∙ ap (λ i. ends_round (slice_set (copied ++ drop m.slots m.seen) i 0) (reading_after (slice_set (copied ++ drop m.slots m.seen) i 0)) s) f
       ∙ ap (λ r. ends_round (seen_after r) (reading_after (seen_after r)) s) g
+
+  -- a stage, with what the slots held
+  pub stage-told : (stage : Stage) (held : List ℕ) → padded 8 held ≡ m.seen → (s : Replies) → rest_at stage s ≡ names_resumed m.base m.slots m.slot m.registers (names_numbers m.later m.proposal stage ++ held) s
+  stage-told Proposes held same s = ap (λ seen. from_scan_round m.base m.slots m.slot m.registers (suc m.later) m.proposal (cells_of seen) s) (sym same)
+  stage-told Scans held same s = ap (λ seen. from_scan_round m.base m.slots m.slot m.registers (suc m.later) m.proposal (cells_of seen) (one 0 ∷ s)) (sym same)
+  stage-told Named held same s = refl
+  stage-told Over held same s = refl

@@ -5,10 +5,12 @@ use Rattle.regmodel.specs.declared.accesses.Pending.TheVariants.{Fault}
 use Rattle.regmodel.specs.Reply.{Reply, Replies, value_of, one}
 use Rattle.natives.specs.declared.trees.Tree.{Tree}
 use Rattle.natives.specs.declared.trees.Stage.{Stage}
-use Rattle.natives.specs.declared.trees.Stage.TheVariants.{Tries, Closes, Looks, Leaves, Sees}
-use Rattle.natives.specs.Trees.{IsIn, below_reached, from_vertex, from_stop, from_past, from_at, tree_rest}
+use Rattle.natives.specs.declared.trees.Stage.TheVariants.{Marks, Signs, Tries, Closes, Looks, Leaves, Sees, Takes, Collected, Overfull, Over}
+use Rattle.natives.specs.Bits.{packed, unpacked}
+use Rattle.natives.specs.Trees.{IsIn, below_reached, from_vertex, from_stop, from_past, from_at, tree_numbers, tree_rest, tree_resumed}
 use Rattle.natives.proofs.Collects.{IsTree, sees-unmarked, sees-marked, takes-empty, takes-value, takes-ninth}
 use Rattle.natives.proofs.Descents.{IsNode, from-open, from-right, from-down, from-stops, from_stop-past}
+use Rattle.natives.proofs.Packed.{unpacked-packed}
 use Rattle.natives.proofs.Powers.{below_within, within_last}
 
 module _ (m : Tree) where
@@ -84,3 +86,22 @@ module _ (m : Tree) where
 
     pub ninth_value : v ≢ 0 → 8 ≤ length m.numbers.items → Fault 4 ≡ taken
     ninth_value some full = sym (takes-ninth m.base m.registers m.last tree m.reached m.numbers.items m.long (m.last - vertex) vertex h.some (left vertex h.within) v reply s value some full)
+
+  -- ---- what numbers tell
+
+  reached-told : m.reached ≡ unpacked 32 (packed m.reached)
+  reached-told = sym (subst (λ n. unpacked n (packed m.reached) ≡ m.reached) m.long (unpacked-packed m.reached))
+
+  -- from the numbers of a stage follows what comes of it
+  pub stage-told : (stage : Stage) (s : Replies) → rest_at stage s ≡ tree_resumed m.base m.registers m.depth m.last m.id m.value (tree_numbers m.vertex m.levels m.reached m.numbers.items stage) s
+  stage-told Marks s = refl
+  stage-told Signs s = refl
+  stage-told Tries s = refl
+  stage-told Closes s = refl
+  stage-told Looks s = refl
+  stage-told Leaves s = refl
+  stage-told (Sees at) s = ap (λ reached. from_at m.base m.registers m.last reached m.numbers.items at s) reached-told
+  stage-told (Takes at) s = ap (λ reached. from_at m.base m.registers m.last reached m.numbers.items at (one 1 ∷ s)) reached-told
+  stage-told Collected s = refl
+  stage-told Overfull s = refl
+  stage-told Over s = refl

@@ -5,12 +5,13 @@ use Rattle.regmodel.specs.declared.accesses.Pending.TheVariants.{Wants, Done, Fa
 use Rattle.regmodel.specs.Reply.{one}
 use Rattle.uses.specs.Expansions.{split_program}
 use Rattle.natives.specs.declared.split.Stage.TheVariants as split
-use Rattle.natives.specs.Splits.{split_rest}
-use Rattle.natives.specs.Grids.{grid_from}
+use Rattle.natives.specs.Splits.{split_rest, split_resumed}
+use Rattle.natives.specs.Bits.{packed, unpacked}
+use Rattle.natives.specs.Grids.{grid_from, grid_resumed}
 use Rattle.natives.specs.Rounds.{first_slot, after_slot, after_slots, number_from}
-use Rattle.natives.specs.Names.{from_reading}
-use Rattle.natives.specs.ScannedNames.{from_scan_round}
-use Rattle.natives.specs.Trees.{from_stop, from_past, from_at}
+use Rattle.natives.specs.Names.{from_reading, name_resumed}
+use Rattle.natives.specs.ScannedNames.{from_scan_round, names_resumed}
+use Rattle.natives.specs.Trees.{from_stop, from_past, from_at, tree_resumed}
 
 -- ---- a splitter that is about to look who came last
 
@@ -82,3 +83,26 @@ tree_passes_an_unmarked_root = refl
 
 pub tree_takes_no_ninth : from_at 0 12 3 root (replicate 8 5) 1 (one 1 ∷ one 7 ∷ []) ≡ Fault 4
 tree_takes_no_ninth = refl
+
+-- ---- where the same machines stand, in numbers
+
+pub split_looks : split_resumed (split_program 0 1 2) (3 ∷ []) (one 1 ∷ []) ≡ Done (record { items = 1 ∷ [] })
+split_looks = refl
+
+pub grid_tries : grid_resumed 0 2 1 6 (1 ∷ 0 ∷ 1 ∷ []) (one 1 ∷ []) ≡ Wants (Write 4 1)
+grid_tries = refl
+
+pub name_reads : name_resumed 0 2 0 2 (1 ∷ 98 ∷ 1 ∷ 1 ∷ 1 ∷ []) (one 0 ∷ []) ≡ Done (record { items = 1 ∷ [] })
+name_reads = refl
+
+pub names_scan_now : names_resumed 0 2 1 2 (1 ∷ 98 ∷ 1 ∷ []) ((1 ∷ 1 ∷ []) ∷ []) ≡ Wants (Write 1 3)
+names_scan_now = refl
+
+pub reached_root : packed root ≡ 2
+reached_root = refl
+
+pub root_reached : unpacked 32 2 ≡ root
+root_reached = refl
+
+pub tree_takes : tree_resumed 0 12 2 3 1 7 (7 ∷ 1 ∷ 2 ∷ []) (one 7 ∷ []) ≡ Wants (Read 4)
+tree_takes = refl

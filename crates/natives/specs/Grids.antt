@@ -1,5 +1,5 @@
 -- What a grid of splitters does on further replies.
-use Rattle.std.specs.Prelude.{ℕ, [], ◌∷◌, replicate}
+use Rattle.std.specs.Prelude.{ℕ, zero, suc, ◌-◌, List, [], ◌∷◌, replicate}
 use Rattle.regmodel.specs.declared.accesses.Pending.{Pending}
 use Rattle.regmodel.specs.declared.accesses.Pending.TheVariants.{Done}
 use Rattle.regmodel.specs.Values.{Env}
@@ -26,3 +26,26 @@ grid_rest from vertex Closes s = from (one 0 ∷ one 0 ∷ s)
 grid_rest from vertex Looks s = from (one 0 ∷ one 0 ∷ one 0 ∷ s)
 grid_rest from vertex Stopped s = Done (record { items = vertex ∷ [] })
 grid_rest from vertex Over s = Done (record { items = [] })
+
+-- how a stage is told: a number for what it is, and what it holds
+abbrev pub grid_numbers : ℕ → ℕ → Stage → List ℕ
+grid_numbers level vertex Marks = 0 ∷ level ∷ vertex ∷ []
+grid_numbers level vertex Tries = 1 ∷ level ∷ vertex ∷ []
+grid_numbers level vertex Closes = 2 ∷ level ∷ vertex ∷ []
+grid_numbers level vertex Looks = 3 ∷ level ∷ vertex ∷ []
+grid_numbers level vertex Stopped = 4 ∷ vertex ∷ []
+grid_numbers level vertex Over = 5 ∷ []
+
+-- the stage at an access that a number tells
+abbrev pub access_stage : ℕ → Stage
+access_stage zero = Marks
+access_stage (suc zero) = Tries
+access_stage (suc (suc zero)) = Closes
+access_stage _ = Looks
+
+-- what is pending after further replies, where it stands as these numbers tell: at an access, stopped or over
+abbrev pub grid_resumed : ℕ → ℕ → ℕ → ℕ → List ℕ → Replies → Pending
+grid_resumed base side id registers (number ∷ level ∷ vertex ∷ _) s =
+    grid_rest (grid_from base id registers (side - level) level vertex) vertex (access_stage number) s
+grid_resumed base side id registers (number ∷ vertex ∷ []) s = Done (record { items = vertex ∷ [] })
+grid_resumed base side id registers _ s = Done (record { items = [] })

@@ -1,13 +1,14 @@
 -- What a renaming does on further replies.
-use Rattle.std.specs.Prelude.{◌≢◌, ◌<◌, ◌≤◌, ℕ, ◌+◌, ◌-◌, List, [], ◌∷◌}
+use Rattle.std.specs.Prelude.{◌≢◌, ◌<◌, ◌≤◌, ℕ, zero, suc, ◌+◌, ◌-◌, true, false, List, [], ◌∷◌}
 use Rattle.regmodel.specs.declared.accesses.Pending.{Pending}
 use Rattle.regmodel.specs.declared.accesses.Pending.TheVariants.{Done}
 use Rattle.regmodel.specs.Values.{Env}
 use Rattle.regmodel.specs.Act.{Flow, exec, times, then_do, flow_pending}
 use Rattle.regmodel.specs.Reply.{Replies}
 use Rattle.uses.specs.Expansions.{name_after, name_round, name_slot}
+use Rattle.machine.specs.Standings.{padded}
 use Rattle.natives.specs.Bits.{bit}
-use Rattle.natives.specs.Rounds.{at_slot, cells_of}
+use Rattle.natives.specs.Rounds.{at_slot, cells_of, reading_number}
 use Rattle.natives.specs.declared.rounds.Reading.{Reading}
 use Rattle.natives.specs.declared.names.Stage.{Stage}
 use Rattle.natives.specs.declared.names.Stage.TheVariants.{Proposes, Reads, Named, Over}
@@ -48,3 +49,22 @@ name_rest round slot proposal Proposes s = round s
 name_rest round slot proposal (Reads reading) s = slot reading s
 name_rest round slot proposal Named s = Done (record { items = proposal ∷ [] })
 name_rest round slot proposal Over s = Done (record { items = [] })
+
+-- how a stage is told: a number for what it is, and what it holds
+abbrev pub name_numbers : ℕ → ℕ → Stage → List ℕ
+name_numbers later proposal Proposes = 0 ∷ later ∷ proposal ∷ []
+name_numbers later proposal (Reads reading) = reading_number reading.clash ∷ later ∷ proposal ∷ reading.at ∷ reading.rank ∷ []
+name_numbers later proposal Named = 3 ∷ proposal ∷ []
+name_numbers later proposal Over = 4 ∷ []
+
+-- what is pending after further replies, where it stands as these numbers tell: what the slots held comes behind those of a stage
+-- in a round, without the zeros at the end
+abbrev pub name_resumed : ℕ → ℕ → ℕ → ℕ → List ℕ → Replies → Pending
+name_resumed base slots own registers (zero ∷ later ∷ proposal ∷ seen) s =
+    from_round base slots own registers (suc later) proposal (cells_of (padded 8 seen)) s
+name_resumed base slots own registers (suc zero ∷ later ∷ proposal ∷ at ∷ rank ∷ seen) s =
+    from_reading base slots own registers later proposal (padded 8 seen) (record { at = at; clash = false; rank = rank }) s
+name_resumed base slots own registers (suc (suc zero) ∷ later ∷ proposal ∷ at ∷ rank ∷ seen) s =
+    from_reading base slots own registers later proposal (padded 8 seen) (record { at = at; clash = true; rank = rank }) s
+name_resumed base slots own registers (suc (suc (suc zero)) ∷ proposal ∷ _) s = Done (record { items = proposal ∷ [] })
+name_resumed base slots own registers _ s = Done (record { items = [] })

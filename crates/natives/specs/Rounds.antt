@@ -1,5 +1,5 @@
 -- A round of a renaming once its slots were read, and the next proposal.
-use Rattle.std.specs.Prelude.{ℕ, zero, suc, ◌+◌, ◌-◌, ◌==◌, if◌then◌else◌, ◌||◌, ◌&&◌, not, nat_lt, Bool, false, List, [], ◌∷◌, ◌++◌, replicate}
+use Rattle.std.specs.Prelude.{ℕ, zero, suc, ◌+◌, ◌-◌, ◌==◌, if◌then◌else◌, ◌||◌, ◌&&◌, not, nat_lt, Bool, true, false, List, [], ◌∷◌, ◌++◌, replicate}
 use Rattle.regmodel.specs.declared.accesses.Pending.{Pending}
 use Rattle.regmodel.specs.Values.{Env}
 use Rattle.regmodel.specs.Act.{Flow, exec, then_do, flow_pending}
@@ -10,6 +10,11 @@ use Rattle.natives.specs.declared.rounds.Reading.{Reading}
 -- before the first slot
 abbrev pub first_slot : Reading
 first_slot = record { at = 0; clash = false; rank = 1 }
+
+-- the number that tells that a slot is read, by whether there is a clash
+abbrev pub reading_number : Bool → ℕ
+reading_number false = 1
+reading_number true = 2
 
 -- past a slot that held so much: a clash where that is the proposal, a higher rank where the slot is below the own one and
 -- held something

@@ -1,12 +1,13 @@
 -- What a renaming that scans does on further replies.
-use Rattle.std.specs.Prelude.{ℕ, List, [], ◌∷◌}
+use Rattle.std.specs.Prelude.{ℕ, zero, suc, List, [], ◌∷◌}
 use Rattle.regmodel.specs.declared.accesses.Pending.{Pending}
 use Rattle.regmodel.specs.declared.accesses.Pending.TheVariants.{Done}
 use Rattle.regmodel.specs.Values.{Env}
 use Rattle.regmodel.specs.Act.{Flow, exec, times, flow_pending}
 use Rattle.regmodel.specs.Reply.{Replies, one}
 use Rattle.uses.specs.Expansions.{names_round}
-use Rattle.natives.specs.Rounds.{at_slot}
+use Rattle.machine.specs.Standings.{padded}
+use Rattle.natives.specs.Rounds.{at_slot, cells_of}
 use Rattle.natives.specs.declared.scanned_names.Stage.{Stage}
 use Rattle.natives.specs.declared.scanned_names.Stage.TheVariants.{Proposes, Scans, Named, Over}
 
@@ -25,3 +26,20 @@ names_rest round proposal Proposes s = round s
 names_rest round proposal Scans s = round (one 0 ∷ s)
 names_rest round proposal Named s = Done (record { items = proposal ∷ [] })
 names_rest round proposal Over s = Done (record { items = [] })
+
+-- how a stage is told: a number for what it is, and what it holds
+abbrev pub names_numbers : ℕ → ℕ → Stage → List ℕ
+names_numbers later proposal Proposes = 0 ∷ later ∷ proposal ∷ []
+names_numbers later proposal Scans = 1 ∷ later ∷ proposal ∷ []
+names_numbers later proposal Named = 2 ∷ proposal ∷ []
+names_numbers later proposal Over = 3 ∷ []
+
+-- what is pending after further replies, where it stands as these numbers tell: what the slots held comes behind those of a stage
+-- in a round, without the zeros at the end
+abbrev pub names_resumed : ℕ → ℕ → ℕ → ℕ → List ℕ → Replies → Pending
+names_resumed base slots own registers (zero ∷ later ∷ proposal ∷ seen) s =
+    from_scan_round base slots own registers (suc later) proposal (cells_of (padded 8 seen)) s
+names_resumed base slots own registers (suc zero ∷ later ∷ proposal ∷ seen) s =
+    from_scan_round base slots own registers (suc later) proposal (cells_of (padded 8 seen)) (one 0 ∷ s)
+names_resumed base slots own registers (suc (suc zero) ∷ proposal ∷ _) s = Done (record { items = proposal ∷ [] })
+names_resumed base slots own registers _ s = Done (record { items = [] })

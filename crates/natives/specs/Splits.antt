@@ -1,5 +1,5 @@
 -- What a splitter does on further replies.
-use Rattle.std.specs.Prelude.{[], ◌∷◌}
+use Rattle.std.specs.Prelude.{ℕ, zero, suc, List, [], ◌∷◌}
 use Rattle.regmodel.specs.declared.accesses.Pending.{Pending}
 use Rattle.regmodel.specs.declared.accesses.Pending.TheVariants.{Done}
 use Rattle.regmodel.specs.Program.{Program}
@@ -18,3 +18,19 @@ split_rest program Stopped s = Done (record { items = 1 ∷ [] })
 split_rest program Right s = Done (record { items = 2 ∷ [] })
 split_rest program Down s = Done (record { items = 3 ∷ [] })
 split_rest program Ended s = Done (record { items = [] })
+
+-- the stage that a number tells
+abbrev pub split_stage : ℕ → Stage
+split_stage zero = Marks
+split_stage (suc zero) = Tries
+split_stage (suc (suc zero)) = Closes
+split_stage (suc (suc (suc zero))) = Looks
+split_stage (suc (suc (suc (suc zero)))) = Stopped
+split_stage (suc (suc (suc (suc (suc zero))))) = Right
+split_stage (suc (suc (suc (suc (suc (suc zero)))))) = Down
+split_stage _ = Ended
+
+-- what is pending after further replies, where it stands as these numbers tell
+abbrev pub split_resumed : Program → List ℕ → Replies → Pending
+split_resumed program [] s = Done (record { items = [] })
+split_resumed program (number ∷ _) s = split_rest program (split_stage number) s

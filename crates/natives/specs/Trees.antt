@@ -1,12 +1,12 @@
 -- What a collect tree does on further replies.
-use Rattle.std.specs.Prelude.{◌≤◌, ℕ, ◌+◌, ◌*◌, ◌-◌, slice_set, Bool, true, Option, Some, None, List, [], ◌∷◌, map, replicate}
+use Rattle.std.specs.Prelude.{◌≤◌, ℕ, zero, suc, ◌+◌, ◌*◌, ◌-◌, slice_set, Bool, true, Option, Some, None, List, [], ◌∷◌, map, replicate}
 use Rattle.regmodel.specs.declared.accesses.Pending.{Pending}
 use Rattle.regmodel.specs.declared.accesses.Pending.TheVariants.{Done, Fault}
 use Rattle.regmodel.specs.Values.{Env}
 use Rattle.regmodel.specs.Act.{Flow, exec, times, then_do, flow_pending}
 use Rattle.regmodel.specs.Reply.{Replies, one}
 use Rattle.uses.specs.Expansions.{tree_leave, tree_after, tree_descend, tree_collect, tree_look}
-use Rattle.natives.specs.Bits.{bit}
+use Rattle.natives.specs.Bits.{bit, packed, unpacked}
 use Rattle.natives.specs.declared.trees.Stage.{Stage}
 use Rattle.natives.specs.declared.trees.Stage.TheVariants.{Marks, Signs, Tries, Closes, Looks, Leaves, Sees, Takes, Collected, Overfull, Over}
 
@@ -73,3 +73,35 @@ tree_rest vertex stop look numbers (Takes at) s = look at (one 1 ∷ s)
 tree_rest vertex stop look numbers Collected s = Done (record { items = numbers })
 tree_rest vertex stop look numbers Overfull s = Fault 4
 tree_rest vertex stop look numbers Over s = Done (record { items = [] })
+
+-- how it is told that a vertex is looked at: a number for the stage, the vertex, which vertices were reached, the numbers so far
+abbrev pub collect_numbers : List Bool → List ℕ → ℕ → ℕ → List ℕ
+collect_numbers reached numbers stage at = stage ∷ at ∷ packed reached ∷ numbers
+
+-- how a stage is told: a number for what it is, and what it holds
+abbrev pub tree_numbers : ℕ → ℕ → List Bool → List ℕ → Stage → List ℕ
+tree_numbers vertex levels reached numbers Marks = 0 ∷ vertex ∷ levels ∷ []
+tree_numbers vertex levels reached numbers Signs = 1 ∷ vertex ∷ levels ∷ []
+tree_numbers vertex levels reached numbers Tries = 2 ∷ vertex ∷ levels ∷ []
+tree_numbers vertex levels reached numbers Closes = 3 ∷ vertex ∷ levels ∷ []
+tree_numbers vertex levels reached numbers Looks = 4 ∷ vertex ∷ levels ∷ []
+tree_numbers vertex levels reached numbers Leaves = 5 ∷ vertex ∷ []
+tree_numbers vertex levels reached numbers (Sees at) = collect_numbers reached numbers 6 at
+tree_numbers vertex levels reached numbers (Takes at) = collect_numbers reached numbers 7 at
+tree_numbers vertex levels reached numbers Collected = 8 ∷ numbers
+tree_numbers vertex levels reached numbers Overfull = 9 ∷ []
+tree_numbers vertex levels reached numbers Over = 10 ∷ []
+
+-- what is pending after further replies, where it stands as these numbers tell
+abbrev pub tree_resumed : ℕ → ℕ → ℕ → ℕ → ℕ → ℕ → List ℕ → Replies → Pending
+tree_resumed base registers depth last id value (zero ∷ vertex ∷ levels ∷ _) s = from_vertex base registers depth id value (suc levels) vertex s
+tree_resumed base registers depth last id value (suc zero ∷ vertex ∷ levels ∷ _) s = from_vertex base registers depth id value (suc levels) vertex (one 0 ∷ s)
+tree_resumed base registers depth last id value (suc (suc zero) ∷ vertex ∷ levels ∷ _) s = from_vertex base registers depth id value (suc levels) vertex (one 0 ∷ one 0 ∷ s)
+tree_resumed base registers depth last id value (suc (suc (suc zero)) ∷ vertex ∷ levels ∷ _) s = from_vertex base registers depth id value (suc levels) vertex (one 0 ∷ one 0 ∷ one 0 ∷ s)
+tree_resumed base registers depth last id value (suc (suc (suc (suc zero))) ∷ vertex ∷ levels ∷ _) s = from_vertex base registers depth id value (suc levels) vertex (one 0 ∷ one 0 ∷ one 0 ∷ one 0 ∷ s)
+tree_resumed base registers depth last id value (suc (suc (suc (suc (suc zero)))) ∷ vertex ∷ _) s = from_stop base registers depth value vertex s
+tree_resumed base registers depth last id value (suc (suc (suc (suc (suc (suc zero))))) ∷ at ∷ reached ∷ numbers) s = from_at base registers last (unpacked 32 reached) numbers at s
+tree_resumed base registers depth last id value (suc (suc (suc (suc (suc (suc (suc zero)))))) ∷ at ∷ reached ∷ numbers) s = from_at base registers last (unpacked 32 reached) numbers at (one 1 ∷ s)
+tree_resumed base registers depth last id value (suc (suc (suc (suc (suc (suc (suc (suc zero))))))) ∷ numbers) s = Done (record { items = numbers })
+tree_resumed base registers depth last id value (suc (suc (suc (suc (suc (suc (suc (suc (suc zero)))))))) ∷ _) s = Fault 4
+tree_resumed base registers depth last id value _ s = Done (record { items = [] })

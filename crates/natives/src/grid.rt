@@ -1,6 +1,6 @@
 //! Grids of splitters: a process goes from the first vertex right and down until it stops at one or leaves the grid.
 
-ghost use Rattle.std.specs.Prelude.{◌≡◌, ◌+◌, ◌-◌, ◌*◌, ◌<◌, ◌≤◌, ◌↔◌, false, Err, IfOk, IsOk, IsTrue};
+ghost use Rattle.std.specs.Prelude.{◌≡◌, ◌+◌, ◌-◌, ◌*◌, ◌<◌, ◌≤◌, ◌↔◌, ◌++◌, false, Err, IfOk, IfSome, IsOk, IsTrue};
 ghost use Rattle.regmodel.specs.Lawful.{IsAtStart};
 ghost use Rattle.regmodel.specs.Reply.{Replies};
 ghost use Rattle.uses.specs.declared.kinds.Use.TheVariants as kind;
@@ -8,11 +8,12 @@ ghost use Rattle.uses.specs.Expansions.{expansion};
 ghost use Rattle.uses.specs.Uses.{use_fits};
 ghost use Rattle.natives.specs.declared.TheConstants.{PAST_LIMIT};
 ghost use Rattle.regmodel.specs.declared.limits.TheConstants.{MOST_REGISTERS, MOST_ROWS};
-ghost use Rattle.natives.specs.Grids.{grid_from};
+ghost use Rattle.natives.specs.Grids.{grid_from, grid_numbers};
 
 use crate::numbers::{done, done_with};
+use crate::told::put;
 use crate::{MakeFault, PAST_LIMIT};
-use machine::{Machine, value_of};
+use machine::{Machine, Told, value_of};
 use regmodel::{Access, Pending};
 use uses::Use;
 
@@ -107,17 +108,37 @@ impl Grid {
             self.stage = Stage::Marks;
         }
     }
+
+    /// Puts where it stands behind the numbers.
+    fn put_standing(&self, numbers: &mut Told) -> Option<()>
+        ensures { IfSome result
+            (λ _. numbers.new.items
+            ≡ numbers.old.items ++ grid_numbers self.now.level self.now.vertex self.now.stage) }
+    {
+        let level = u32::from(self.level);
+        let vertex = u32::from(self.vertex);
+        match self.stage {
+            Stage::Marks => put(&[0, level, vertex], numbers),
+            Stage::Tries => put(&[1, level, vertex], numbers),
+            Stage::Closes => put(&[2, level, vertex], numbers),
+            Stage::Looks => put(&[3, level, vertex], numbers),
+            Stage::Stopped => put(&[4, vertex], numbers),
+            Stage::Over => put(&[5], numbers),
+        }
+    }
 }
 
 impl Machine for Grid {
     ghost use Rattle.std.specs.Prelude.{◌-◌};
     ghost use Rattle.uses.specs.declared.kinds.Use.TheVariants as kind;
     ghost use Rattle.uses.specs.Expansions.{expansion};
-    ghost use Rattle.natives.specs.Grids.{grid_from, grid_rest};
+    ghost use Rattle.natives.specs.Grids.{grid_from, grid_rest, grid_resumed};
 
     ghost program = { λ m. expansion (kind.Grid m.base m.side m.id) m.registers };
 
     ghost rest = { λ m. grid_rest (grid_from m.base m.id m.registers (m.side - m.level) m.level m.vertex) m.vertex m.stage };
+
+    ghost resumed = { λ m. grid_resumed m.base m.side m.id m.registers };
 
     fn reset(&mut self) {
         self.level = 0;
@@ -151,5 +172,9 @@ impl Machine for Grid {
 
     fn end(&mut self) {
         self.stage = Stage::Over;
+    }
+
+    fn tell(&self, numbers: &mut Told) -> bool {
+        self.put_standing(numbers).is_some()
     }
 }

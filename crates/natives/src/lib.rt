@@ -7,6 +7,7 @@ mod numbers;
 mod rounds;
 mod scanned_names;
 mod split;
+mod told;
 mod trees;
 
 pub use grid::Grid;

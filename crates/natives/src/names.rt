@@ -1,23 +1,25 @@
 //! Renamings: a process proposes a name in its slot until no other slot holds it.
 
-ghost use Rattle.std.specs.Prelude.{◌≡◌, ◌≢◌, ℕ, ◌+◌, ◌<◌, ◌≤◌, ◌↔◌, ◌∷◌, false, Err, IfOk, IsOk, IsTrue, length, slice_index};
+ghost use Rattle.std.specs.Prelude.{◌≡◌, ◌≢◌, ℕ, ◌+◌, ◌<◌, ◌≤◌, ◌↔◌, ◌∷◌, ◌++◌, false, Err, IfOk, IfSome, IsOk, IsTrue, length, slice_index};
 ghost use Rattle.regmodel.specs.Lawful.{IsAtStart};
 ghost use Rattle.regmodel.specs.Reply.{Replies};
 ghost use Rattle.uses.specs.declared.kinds.Use.TheVariants as kind;
 ghost use Rattle.uses.specs.Expansions.{expansion};
 ghost use Rattle.uses.specs.Uses.{use_fits};
+ghost use Rattle.machine.specs.Telling.{Tells};
 ghost use Rattle.natives.specs.declared.TheConstants.{PAST_LIMIT};
 ghost use Rattle.regmodel.specs.declared.limits.TheConstants.{MOST_REGISTERS, MOST_SLOTS};
 ghost use Rattle.natives.specs.declared.rounds.Reading.{Reading};
 ghost use Rattle.natives.specs.declared.names.Stage.TheVariants.{Reads};
 ghost use Rattle.natives.specs.Bits.{bit};
 ghost use Rattle.natives.specs.Rounds.{at_slot, cells_of, from_after};
-ghost use Rattle.natives.specs.Names.{IsRead, from_reading, rounds_from};
+ghost use Rattle.natives.specs.Names.{IsRead, from_reading, name_numbers, rounds_from};
 
 use crate::numbers::{done, done_with};
 use crate::rounds::{LATER, Reading, free_number};
+use crate::told::{put, used};
 use crate::{MakeFault, PAST_LIMIT};
-use machine::{Machine, value_of};
+use machine::{Machine, Told, value_of};
 use regmodel::{Access, Pending};
 use uses::Use;
 
@@ -166,6 +168,44 @@ impl NameSlots {
         self.seen[usize::from(reading.at)] = held;
         self.go_on(reading.after_slot(held, self.proposal, self.slot));
     }
+
+    /// Puts the stage behind the numbers, with the numbers that it holds, but not what the slots held.
+    fn put_stage(&self, numbers: &mut Told) -> Option<()>
+        ensures { IfSome result
+            (λ _. numbers.new.items
+            ≡ numbers.old.items ++ name_numbers self.now.later self.now.proposal self.now.stage) }
+    {
+        match self.stage {
+            Stage::Proposes => put(&[0, u32::from(self.later), self.proposal], numbers),
+            Stage::Reads(reading) => {
+                put(
+                    &[
+                        reading.number(),
+                        u32::from(self.later),
+                        self.proposal,
+                        u32::from(reading.at),
+                        u32::from(reading.rank),
+                    ],
+                    numbers,
+                )
+            }
+            Stage::Named => put(&[3, self.proposal], numbers),
+            Stage::Over => put(&[4], numbers),
+        }
+    }
+
+    /// Puts where it stands behind the numbers: the stage, and in a round what the slots held.
+    fn put_standing(&self, numbers: &mut Told) -> Option<()>
+        ensures { IfSome result
+            (λ _. Tells (⟦<NameSlots as Machine>⟧.resumed self.now)
+            (⟦<NameSlots as Machine>⟧.rest self.now) numbers.old.items numbers.new.items) }
+    {
+        self.put_stage(numbers)?;
+        match self.stage {
+            Stage::Proposes | Stage::Reads(_) => put(&self.seen[..used(&self.seen)], numbers),
+            Stage::Named | Stage::Over => Some(()),
+        }
+    }
 }
 
 impl Machine for NameSlots {
@@ -173,11 +213,13 @@ impl Machine for NameSlots {
     ghost use Rattle.uses.specs.declared.kinds.Use.TheVariants as kind;
     ghost use Rattle.uses.specs.Expansions.{expansion};
     ghost use Rattle.natives.specs.Rounds.{cells_of};
-    ghost use Rattle.natives.specs.Names.{from_round, from_reading, name_rest};
+    ghost use Rattle.natives.specs.Names.{from_round, from_reading, name_rest, name_resumed};
 
     ghost program = { λ m. expansion (kind.Name m.base m.slots m.slot) m.registers };
 
     ghost rest = { λ m. name_rest (from_round m.base m.slots m.slot m.registers (suc m.later) m.proposal (cells_of m.seen)) (from_reading m.base m.slots m.slot m.registers m.later m.proposal m.seen) m.proposal m.stage };
+
+    ghost resumed = { λ m. name_resumed m.base m.slots m.slot m.registers };
 
     fn reset(&mut self) {
         self.later = LATER;
@@ -205,5 +247,9 @@ impl Machine for NameSlots {
 
     fn end(&mut self) {
         self.stage = Stage::Over;
+    }
+
+    fn tell(&self, numbers: &mut Told) -> bool {
+        self.put_standing(numbers).is_some()
     }
 }

@@ -2,7 +2,7 @@
 
 ghost use Rattle.std.specs.Prelude.{◌≡◌, ◌+◌, ◌-◌, ◌*◌, ◌<◌, ◌≤◌, length};
 ghost use Rattle.regmodel.specs.declared.limits.TheConstants.{MOST_SLOTS};
-ghost use Rattle.natives.specs.Rounds.{first_slot, after_slot, after_slots, number_from};
+ghost use Rattle.natives.specs.Rounds.{first_slot, after_slot, after_slots, number_from, reading_number};
 
 use regmodel::limits::MOST_TURNS;
 
@@ -30,6 +30,13 @@ impl Reading {
             clash: false,
             rank: 1,
         }
+    }
+
+    /// The number that tells that a slot is read, by whether there is a clash.
+    pub fn number(self) -> u32
+        ensures { result ≡ reading_number self.clash }
+    {
+        if self.clash { 2 } else { 1 }
     }
 
     /// Past the slot, which held this much.

@@ -1,21 +1,23 @@
 //! Renamings that scan: a process proposes a name in its slot until no other slot holds it, where it sees all slots at once.
 
-ghost use Rattle.std.specs.Prelude.{◌≡◌, ℕ, suc, ◌+◌, ◌<◌, ◌≤◌, ◌↔◌, ◌∷◌, false, Err, IfOk, IsOk, IsTrue, length};
+ghost use Rattle.std.specs.Prelude.{◌≡◌, ℕ, suc, ◌+◌, ◌<◌, ◌≤◌, ◌↔◌, ◌∷◌, ◌++◌, false, Err, IfOk, IfSome, IsOk, IsTrue, length};
 ghost use Rattle.regmodel.specs.Lawful.{IsAtStart};
 ghost use Rattle.regmodel.specs.Reply.{Replies, one};
 ghost use Rattle.uses.specs.declared.kinds.Use.TheVariants as kind;
 ghost use Rattle.uses.specs.Expansions.{expansion};
 ghost use Rattle.uses.specs.Uses.{use_fits};
+ghost use Rattle.machine.specs.Telling.{Tells};
 ghost use Rattle.natives.specs.declared.TheConstants.{PAST_LIMIT};
 ghost use Rattle.regmodel.specs.declared.limits.TheConstants.{MOST_REGISTERS, MOST_SLOTS};
 ghost use Rattle.natives.specs.Bits.{bit};
 ghost use Rattle.natives.specs.Rounds.{at_slot, cells_of, from_after};
-ghost use Rattle.natives.specs.ScannedNames.{scan_rounds, from_scan_round};
+ghost use Rattle.natives.specs.ScannedNames.{scan_rounds, from_scan_round, names_numbers};
 
 use crate::numbers::{done, done_with};
 use crate::rounds::{LATER, Reading, free_number};
+use crate::told::{put, used};
 use crate::{MakeFault, PAST_LIMIT};
-use machine::Machine;
+use machine::{Machine, Told};
 use regmodel::{Access, Pending};
 use uses::Use;
 
@@ -124,6 +126,33 @@ impl Names {
         let reading = Reading::after_slots(&seen[..slots], self.proposal, self.slot);
         self.finish(reading);
     }
+
+    /// Puts the stage behind the numbers, with the numbers that it holds, but not what the slots held.
+    fn put_stage(&self, numbers: &mut Told) -> Option<()>
+        ensures { IfSome result
+            (λ _. numbers.new.items
+            ≡ numbers.old.items ++ names_numbers self.now.later self.now.proposal self.now.stage) }
+    {
+        match self.stage {
+            Stage::Proposes => put(&[0, u32::from(self.later), self.proposal], numbers),
+            Stage::Scans => put(&[1, u32::from(self.later), self.proposal], numbers),
+            Stage::Named => put(&[2, self.proposal], numbers),
+            Stage::Over => put(&[3], numbers),
+        }
+    }
+
+    /// Puts where it stands behind the numbers: the stage, and in a round what the slots held.
+    fn put_standing(&self, numbers: &mut Told) -> Option<()>
+        ensures { IfSome result
+            (λ _. Tells (⟦<Names as Machine>⟧.resumed self.now)
+            (⟦<Names as Machine>⟧.rest self.now) numbers.old.items numbers.new.items) }
+    {
+        self.put_stage(numbers)?;
+        match self.stage {
+            Stage::Proposes | Stage::Scans => put(&self.seen[..used(&self.seen)], numbers),
+            Stage::Named | Stage::Over => Some(()),
+        }
+    }
 }
 
 impl Machine for Names {
@@ -131,11 +160,13 @@ impl Machine for Names {
     ghost use Rattle.uses.specs.declared.kinds.Use.TheVariants as kind;
     ghost use Rattle.uses.specs.Expansions.{expansion};
     ghost use Rattle.natives.specs.Rounds.{cells_of};
-    ghost use Rattle.natives.specs.ScannedNames.{from_scan_round, names_rest};
+    ghost use Rattle.natives.specs.ScannedNames.{from_scan_round, names_rest, names_resumed};
 
     ghost program = { λ m. expansion (kind.Names m.base m.slots m.slot) m.registers };
 
     ghost rest = { λ m. names_rest (from_scan_round m.base m.slots m.slot m.registers (suc m.later) m.proposal (cells_of m.seen)) m.proposal m.stage };
+
+    ghost resumed = { λ m. names_resumed m.base m.slots m.slot m.registers };
 
     fn reset(&mut self) {
         self.later = LATER;
@@ -163,5 +194,9 @@ impl Machine for Names {
 
     fn end(&mut self) {
         self.stage = Stage::Over;
+    }
+
+    fn tell(&self, numbers: &mut Told) -> bool {
+        self.put_standing(numbers).is_some()
     }
 }

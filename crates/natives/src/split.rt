@@ -7,10 +7,12 @@ ghost use Rattle.uses.specs.Expansions.{expansion};
 ghost use Rattle.uses.specs.Uses.{use_fits};
 ghost use Rattle.natives.specs.declared.TheConstants.{PAST_LIMIT};
 ghost use Rattle.regmodel.specs.declared.limits.TheConstants.{MOST_REGISTERS};
+ghost use Rattle.natives.specs.Splits.{split_stage};
 
 use crate::numbers::{done, done_with};
+use crate::told::put;
 use crate::{MakeFault, PAST_LIMIT};
-use machine::{Machine, value_of};
+use machine::{Machine, Told, value_of};
 use regmodel::{Access, Pending};
 use uses::Use;
 
@@ -33,6 +35,24 @@ enum Stage {
     Down,
     /// It was ended.
     Ended,
+}
+
+impl Stage {
+    /// The number that tells the stage.
+    fn number(self) -> u32
+        ensures { split_stage result ≡ self }
+    {
+        match self {
+            Stage::Marks => 0,
+            Stage::Tries => 1,
+            Stage::Closes => 2,
+            Stage::Looks => 3,
+            Stage::Stopped => 4,
+            Stage::Right => 5,
+            Stage::Down => 6,
+            Stage::Ended => 7,
+        }
+    }
 }
 
 /// A splitter in progress: register BASE tells who came last, the next one is the door, 0 where it is open.
@@ -74,11 +94,13 @@ impl Split {
 impl Machine for Split {
     ghost use Rattle.uses.specs.declared.kinds.Use.TheVariants as kind;
     ghost use Rattle.uses.specs.Expansions.{expansion};
-    ghost use Rattle.natives.specs.Splits.{split_rest};
+    ghost use Rattle.natives.specs.Splits.{split_rest, split_resumed};
 
     ghost program = { λ m. expansion (kind.Split m.base m.id) m.registers };
 
     ghost rest = { λ m. split_rest (expansion (kind.Split m.base m.id) m.registers) m.stage };
+
+    ghost resumed = { λ m. split_resumed (expansion (kind.Split m.base m.id) m.registers) };
 
     fn reset(&mut self) {
         self.stage = Stage::Marks;
@@ -112,5 +134,9 @@ impl Machine for Split {
 
     fn end(&mut self) {
         self.stage = Stage::Ended;
+    }
+
+    fn tell(&self, numbers: &mut Told) -> bool {
+        put(&[self.stage.number()], numbers).is_some()
     }
 }

@@ -1,7 +1,7 @@
 //! Collect trees: a process goes down a binary tree of splitters until it stops at a vertex, leaves its value there, and
 //! collects the values of the vertices whose marks it reads.
 
-ghost use Rattle.std.specs.Prelude.{◌≡◌, ◌≢◌, ℕ, suc, ◌+◌, ◌-◌, ◌*◌, ◌^◌, ◌<◌, ◌≤◌, ◌↔◌, [], ◌∷◌, true, false, Err, IfOk, IfSome, IsOk, IsTrue, length, replicate, slice_set};
+ghost use Rattle.std.specs.Prelude.{◌≡◌, ◌≢◌, ℕ, suc, ◌+◌, ◌-◌, ◌*◌, ◌^◌, ◌<◌, ◌≤◌, ◌↔◌, [], ◌∷◌, ◌++◌, true, false, Err, IfOk, IfSome, IsOk, IsTrue, length, replicate, slice_set};
 ghost use Rattle.regmodel.specs.Lawful.{IsAtStart};
 ghost use Rattle.regmodel.specs.Reply.{Replies, one};
 ghost use Rattle.uses.specs.declared.kinds.Use.TheVariants as kind;
@@ -10,11 +10,12 @@ ghost use Rattle.uses.specs.Uses.{use_fits};
 ghost use Rattle.natives.specs.declared.TheConstants.{PAST_LIMIT};
 ghost use Rattle.regmodel.specs.declared.limits.TheConstants.{MOST_LEVELS, MOST_REGISTERS};
 ghost use Rattle.natives.specs.declared.trees.Stage.TheVariants.{Sees, Takes};
-ghost use Rattle.natives.specs.Trees.{IsIn, below_reached, from_vertex, from_past, from_at, from_next};
+ghost use Rattle.natives.specs.Trees.{IsIn, collect_numbers, tree_numbers, below_reached, from_vertex, from_past, from_at, from_next};
 
 use crate::numbers::done;
+use crate::told::{packed, put};
 use crate::{MakeFault, PAST_LIMIT};
-use machine::{Machine, value_of};
+use machine::{Machine, Told, value_of};
 use regmodel::{Access, Numbers, Pending};
 use uses::Use;
 
@@ -232,17 +233,59 @@ impl Tree {
             self.reach(vertex);
         }
     }
+
+    /// Puts behind the numbers that a vertex is looked at, with the number of the stage, and what was collected before it.
+    fn put_collect(&self, stage: u32, vertex: u8, numbers: &mut Told) -> Option<()>
+        ensures { IfSome result
+            (λ _. numbers.new.items
+            ≡ numbers.old.items
+            ++ collect_numbers self.now.reached self.now.numbers.items stage vertex) }
+    {
+        let reached = packed(&self.reached)?;
+        put(&[stage, u32::from(vertex), reached], numbers)?;
+        put(&self.numbers, numbers)
+    }
+
+    /// Puts where it stands behind the numbers.
+    fn put_standing(&self, numbers: &mut Told) -> Option<()>
+        ensures { IfSome result
+            (λ _. numbers.new.items
+            ≡ numbers.old.items
+            ++ tree_numbers self.now.vertex self.now.levels self.now.reached
+            self.now.numbers.items self.now.stage) }
+    {
+        let vertex = u32::from(self.vertex);
+        let levels = u32::from(self.levels);
+        match self.stage {
+            Stage::Marks => put(&[0, vertex, levels], numbers),
+            Stage::Signs => put(&[1, vertex, levels], numbers),
+            Stage::Tries => put(&[2, vertex, levels], numbers),
+            Stage::Closes => put(&[3, vertex, levels], numbers),
+            Stage::Looks => put(&[4, vertex, levels], numbers),
+            Stage::Leaves => put(&[5, vertex], numbers),
+            Stage::Sees(seen) => self.put_collect(6, seen, numbers),
+            Stage::Takes(taken) => self.put_collect(7, taken, numbers),
+            Stage::Collected => {
+                put(&[8], numbers)?;
+                put(&self.numbers, numbers)
+            }
+            Stage::Overfull => put(&[9], numbers),
+            Stage::Over => put(&[10], numbers),
+        }
+    }
 }
 
 impl Machine for Tree {
     ghost use Rattle.std.specs.Prelude.{suc};
     ghost use Rattle.uses.specs.declared.kinds.Use.TheVariants as kind;
     ghost use Rattle.uses.specs.Expansions.{expansion};
-    ghost use Rattle.natives.specs.Trees.{from_vertex, from_stop, from_at, tree_rest};
+    ghost use Rattle.natives.specs.Trees.{from_vertex, from_stop, from_at, tree_rest, tree_resumed};
 
     ghost program = { λ m. expansion (kind.Tree m.base m.depth m.id m.value) m.registers };
 
     ghost rest = { λ m. tree_rest (from_vertex m.base m.registers m.depth m.id m.value (suc m.levels) m.vertex) (from_stop m.base m.registers m.depth m.value m.vertex) (from_at m.base m.registers m.last m.reached m.numbers.items) m.numbers.items m.stage };
+
+    ghost resumed = { λ m. tree_resumed m.base m.registers m.depth m.last m.id m.value };
 
     fn reset(&mut self) {
         self.vertex = 1;
@@ -286,5 +329,9 @@ impl Machine for Tree {
 
     fn end(&mut self) {
         self.stage = Stage::Over;
+    }
+
+    fn tell(&self, numbers: &mut Told) -> bool {
+        self.put_standing(numbers).is_some()
     }
 }

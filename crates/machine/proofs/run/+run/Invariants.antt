@@ -1,4 +1,4 @@
-use Rattle.std.proofs.Common.{◌≡◌, ℕ, ◌+◌, ◌-◌, ◌*◌, List, drop, length}
+use Rattle.std.proofs.Common.{◌≡◌, ◌+◌, ◌-◌, ◌*◌, drop, length}
 use Rattle.regmodel.specs.Reply.{Replies}
 use Rattle.regmodel.specs.Act.{exec, times}
 use Rattle.regmodel.specs.Program.{block_of}

@@ -1,4 +1,4 @@
-use Rattle.std.proofs.Common.{◌≡◌, ℕ, ◌+◌, drop, get_or, List, [], ap, ◌∙◌, sym, arith}
+use Rattle.std.proofs.Common.{◌≡◌, ◌+◌, drop, get_or, ap, ◌∙◌, sym, arith}
 use Rattle.regmodel.specs.Values.{store, store_from, InCell}
 use Rattle.machine.specs.Stores.{env_of}
 use Rattle.machine.proofs.CellLists.{drop_at, drop_past}
