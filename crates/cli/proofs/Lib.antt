@@ -1,3 +1,4 @@
 mod BoundedReads
 mod VerdictsFound
 mod Numbers
+mod Steps

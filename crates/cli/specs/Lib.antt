@@ -1,5 +1,10 @@
+pub mod Bounds
 pub mod Findings
+pub mod Inputs
+pub mod NumberTexts
 pub mod Orders
+pub mod PatternTexts
+pub mod Performing
 pub mod Progress
 pub mod Searches
 pub mod Standings

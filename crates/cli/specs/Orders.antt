@@ -1,21 +1,23 @@
 -- What the words of the command line ask for.
-use Rattle.std.specs.Prelude.{◌≡◌, ℕ, ◌+◌, ◌<◌, ◌^◌, Bool, true, false, not, List, [], map, Option, Some, None, codes}
+use Rattle.std.specs.Prelude.{◌≡◌, ℕ, ◌+◌, ◌≤◌, Bool, true, false, not, List, [], map, Option, Some, None, codes}
 use Rattle.std.specs.Option.{option_map}
-use Rattle.std.specs.Str.Parse.{IsNumeral, digits_value, without_leading_plus}
+use Rattle.std.specs.Str.Parse.{digits_value, without_leading_plus}
 use Rattle.clap.specs.Words.{matched_of, raw_values}
 use Rattle.clap.specs.declared.parser.matches.Found.{Found}
 use Rattle.patterns.specs.PatternText.{pattern_text}
 use Rattle.regmodel.specs.Settings.{Bounds}
 use Rattle.regmodel.specs.declared.limits.TheConstants.{MOST_LETTERS}
 use Rattle.regmodel.specs.ScheduleText.{schedule_text}
+use Rattle.cli.specs.Bounds.{IsBoundTold}
+use Rattle.cli.specs.NumberTexts.{IsNumberText}
 use Rattle.cli.specs.declared.orders.Task.{Task}
-use Rattle.cli.specs.declared.orders.TheConstants.{CUT, ROOM}
+use Rattle.cli.specs.declared.bounds.TheConstants.{CACHE, CUT, MOST_CACHE, ROOM}
 use Rattle.cli.specs.declared.orders.Task.TheVariants.{Check, Explore, Least, Find, Replay, Show}
 
 -- to replay the schedule of this text
 abbrev pub IsReplayOf : List ℕ → Task → Type 0
-IsReplayOf text (Check settings native allows_faults) = ⊥
-IsReplayOf text (Explore settings native) = ⊥
+IsReplayOf text (Check effort native allows_faults) = ⊥
+IsReplayOf text (Explore effort native) = ⊥
 IsReplayOf text (Least settings native) = ⊥
 IsReplayOf text (Find settings native patterns) = ⊥
 IsReplayOf text (Replay schedule) = schedule_text schedule ≡ text
@@ -23,16 +25,12 @@ IsReplayOf text (Show schedule all) = ⊥
 
 -- to draw the schedule of this text, with all registers or with those that fit
 abbrev pub IsShowOf : List ℕ → Bool → Task → Type 0
-IsShowOf text all (Check settings native allows_faults) = ⊥
-IsShowOf text all (Explore settings native) = ⊥
+IsShowOf text all (Check effort native allows_faults) = ⊥
+IsShowOf text all (Explore effort native) = ⊥
 IsShowOf text all (Least settings native) = ⊥
 IsShowOf text all (Find settings native patterns) = ⊥
 IsShowOf text all (Replay schedule) = ⊥
 IsShowOf text all (Show schedule with_all) = (schedule_text schedule ≡ text) × (with_all ≡ all)
-
--- the text is digits, maybe behind a plus, and the number that they write has 32 bits
-abbrev pub IsNumberText : List ℕ → Type 0
-IsNumberText text = IsNumeral 10 (without_leading_plus text) × (digits_value 10 (without_leading_plus text) < 2 ^ 32)
 
 -- the number that a text writes, where it writes one; else another one
 pub record IsNumberIn (text : List ℕ) (other n : ℕ) : Type 0 where
@@ -60,11 +58,15 @@ pub record AreSettingsTold (told : List ℕ → Option (List ℕ)) (settings : B
 
 -- the bounds of a check or a search are those of its words: without them the greatest length, no crash, and as many workers as there are processors
 pub record AreBoundsTold (told : List ℕ → Option (List ℕ)) (processors : ℕ) (settings : Bounds) : Type 0 where
-  pub length : IsNumberTold (told (codes "length")) MOST_LETTERS settings.length
-  pub crashes : IsNumberTold (told (codes "crashes")) 0 settings.crashes
-  pub workers : IsNumberTold (told (codes "workers")) processors settings.workers
+  pub length : IsBoundTold (told (codes "length")) MOST_LETTERS settings.length
+  pub crashes : IsBoundTold (told (codes "crashes")) 0 settings.crashes
+  pub workers : IsBoundTold (told (codes "workers")) processors settings.workers
   pub cut : settings.cut ≡ CUT
   pub room : settings.room ≡ ROOM
+
+-- the megabytes in which states are remembered are those of the words, or else so many; there is a limit
+abbrev pub IsCacheTold : (List ℕ → Option (List ℕ)) → ℕ → ℕ → Type 0
+IsCacheTold told other cache = IsNumberTold (told (codes "cache")) other cache × (cache ≤ MOST_CACHE)
 
 -- use lines run as native machines, unless the words ask for interpreters
 abbrev pub IsNativeTold : (List ℕ → Option (List ℕ)) → Bool → Type 0
@@ -72,9 +74,9 @@ IsNativeTold told native = (text : Bool) × IsFlagTold (told (codes "text")) tex
 
 -- to explore as the words tell, for a report or for the least failing schedule alone
 abbrev pub IsExploration : (List ℕ → Option (List ℕ)) → Task → Type 0
-IsExploration told (Check settings native allows_faults) = ⊥
-IsExploration told (Explore settings native) =
-    AreSettingsTold told settings × IsNativeTold told native × IsFlagTold (told (codes "least")) false
+IsExploration told (Check effort native allows_faults) = ⊥
+IsExploration told (Explore effort native) =
+    AreSettingsTold told effort.settings × IsCacheTold told 0 effort.cache × IsNativeTold told native × IsFlagTold (told (codes "least")) false
 IsExploration told (Least settings native) =
     AreSettingsTold told settings × IsNativeTold told native × IsFlagTold (told (codes "least")) true
 IsExploration told (Find settings native patterns) = ⊥
@@ -83,8 +85,8 @@ IsExploration told (Show schedule all) = ⊥
 
 -- whether use lines run as native machines
 abbrev pub is_native : Task → Bool
-is_native (Check settings native allows_faults) = native
-is_native (Explore settings native) = native
+is_native (Check effort native allows_faults) = native
+is_native (Explore effort native) = native
 is_native (Least settings native) = native
 is_native (Find settings native patterns) = native
 is_native (Replay schedule) = false
@@ -92,9 +94,9 @@ is_native (Show schedule all) = false
 
 -- to check as the words tell, and say in words what fails
 abbrev pub IsCheck : (List ℕ → Option (List ℕ)) → ℕ → Task → Type 0
-IsCheck told processors (Check settings native allows_faults) =
-    AreBoundsTold told processors settings × IsNativeTold told native × IsFlagTold (told (codes "allow-faults")) allows_faults
-IsCheck told processors (Explore settings native) = ⊥
+IsCheck told processors (Check effort native allows_faults) =
+    AreBoundsTold told processors effort.settings × IsBoundTold (told (codes "cache")) CACHE effort.cache × IsNativeTold told native × IsFlagTold (told (codes "allow-faults")) allows_faults
+IsCheck told processors (Explore effort native) = ⊥
 IsCheck told processors (Least settings native) = ⊥
 IsCheck told processors (Find settings native patterns) = ⊥
 IsCheck told processors (Replay schedule) = ⊥
@@ -106,8 +108,8 @@ texts_told found = elim (option_map raw_values (matched_of found (codes "PATTERN
 
 -- to look as far as the words tell for outcomes that match one of the patterns of these texts
 abbrev pub IsFind : (List ℕ → Option (List ℕ)) → ℕ → List (List ℕ) → Task → Type 0
-IsFind told processors texts (Check settings native allows_faults) = ⊥
-IsFind told processors texts (Explore settings native) = ⊥
+IsFind told processors texts (Check effort native allows_faults) = ⊥
+IsFind told processors texts (Explore effort native) = ⊥
 IsFind told processors texts (Least settings native) = ⊥
 IsFind told processors texts (Find settings native patterns) =
     AreBoundsTold told processors settings × IsNativeTold told native × (map pattern_text patterns.items ≡ texts)
@@ -116,8 +118,8 @@ IsFind told processors texts (Show schedule all) = ⊥
 
 -- how many lists of machines it takes: one for each worker, and one more where a schedule that is found is to be drawn
 abbrev pub lists_of : Task → ℕ
-lists_of (Check settings native allows_faults) = settings.workers + 1
-lists_of (Explore settings native) = settings.workers
+lists_of (Check effort native allows_faults) = effort.settings.workers + 1
+lists_of (Explore effort native) = effort.settings.workers
 lists_of (Least settings native) = settings.workers
 lists_of (Find settings native patterns) = settings.workers + 1
 lists_of (Replay schedule) = 1

@@ -2,29 +2,27 @@
 
 ghost use Rattle.std.specs.Prelude.{◌≡◌, ◌≤◌, ◌⊎◌, IfErr, IfOk, IsNone, None, OnErr, OnOk, if◌then◌else◌, option_and_then};
 ghost use Rattle.texts.specs.Appending.{Writes};
-ghost use Rattle.cli.specs.Findings.{HasBeginning, IsAnswered, IsCutShort, IsRefusal, IsRefusedWith, IsTextOf, IsTooLong, finding_text};
+ghost use Rattle.cli.specs.Findings.{HasBeginning, IsAnswered, IsCutShort, IsRefusal, IsRefusedWith, finding_text};
 
 use crate::findings::{Finding, found};
-use crate::orders::Order;
+use crate::inputs::bytes_of;
+use crate::orders::Question;
 use crate::progress::Progress;
 use crate::refusals::{Refusal, refuse};
 use crate::wording::{explain, refuse_in_words};
 use std::alloc::Global;
-use std::io::{ErrorKind, Read, Write};
+use std::io::{Read, Write};
 use std::sync::Wait;
 use std::thread::Threads;
 
-/// The most bytes of a source.
-pub const MOST_BYTES: u64 = 1048576;
-
-/// Does what the order asks of the source in the file, and writes what it found. The status is 0 where that is done, but 1
+/// Does what is asked of the source in the file, and writes what it found. The status is 0 where that is done, but 1
 /// where an explored schedule fails; 2 where the file, the source or a letter is refused; 3 where it could not be done. At 2 and 3 a line
 /// on `err` says why, and `out` is as before, unless it did not take the whole text: then it took a beginning of it, and the status is 3.
-/// `file` is None where it could not be opened. Where the order asks for progress, `err` is told of it before.
+/// `file` is None where it could not be opened. Where progress is asked for, `err` is told of it before.
 pub fn answer<H: Threads + Wait + Sync, R: Read + Drop, W: Write, E: Write + Send>(
     rt: &H,
     alloc: Global,
-    order: &Order<'_>,
+    question: &Question<'_>,
     file: Option<R>,
     out: &mut W,
     err: &mut E,
@@ -32,21 +30,23 @@ pub fn answer<H: Threads + Wait + Sync, R: Read + Drop, W: Write, E: Write + Sen
     ensures no_file { IsNone file → result ≡ 2 }
     ensures status { result ≤ 3 }
     ensures answered { result ≤ 1
-        → IsAnswered order.now.path.now order.now.task (option_and_then R.remaining file)
+        → IsAnswered question.now.path.now question.now.task.now (option_and_then R.remaining file)
         (W.contents out.old) (W.contents out.new) result }
     ensures refused { 2 ≤ result
-        → IsRefusedWith W.contents order.now.path.now order.now.task
+        → IsRefusedWith W.contents question.now.path.now question.now.task.now
         (option_and_then R.remaining file) out.old out.new result }
     ensures silent { result ≡ 2 → out.new ≡ out.old }
     ensures cut_short { result ≡ 3
         → (out.new ≡ out.old)
-        ⊎ IsCutShort order.now.path.now order.now.task (option_and_then R.remaining file)
+        ⊎ IsCutShort question.now.path.now question.now.task.now (option_and_then R.remaining file)
         (W.contents out.old) (W.contents out.new) }
 {
-    match written(rt, alloc, order, file, out, err) {
+    match written(rt, alloc, question, file, out, err) {
         Ok(fails) => u8::from(fails),
-        Err(refusal) if order.task().is_in_words() => refuse_in_words(order.path(), refusal, err),
-        Err(refusal) => refuse(refusal, err),
+        Err(refusal) if question.task.is_in_words() => {
+            refuse_in_words(question.path, &refusal, err)
+        }
+        Err(refusal) => refuse(&refusal, err),
     }
 }
 
@@ -55,40 +55,47 @@ pub fn answer<H: Threads + Wait + Sync, R: Read + Drop, W: Write, E: Write + Sen
 fn written<H: Threads + Wait + Sync, R: Read + Drop, W: Write, E: Write + Send>(
     rt: &H,
     alloc: Global,
-    order: &Order<'_>,
+    question: &Question<'_>,
     file: Option<R>,
     out: &mut W,
     err: &mut E,
 ) -> Result<bool, Refusal>
     ensures no_file { IsNone file → result ≡ Err Refusal.File }
     ensures answered { IfOk result
-        (λ fails. IsAnswered order.now.path.now order.now.task (option_and_then R.remaining file)
+        (λ fails. IsAnswered question.now.path.now question.now.task.now
+        (option_and_then R.remaining file)
         (W.contents out.old) (W.contents out.new) (if fails then 1 else 0)) }
     ensures refused { IfErr result
-        (IsRefusal W.contents order.now.path.now order.now.task (option_and_then R.remaining file)
+        (IsRefusal W.contents question.now.path.now question.now.task.now
+        (option_and_then R.remaining file)
         out.old out.new) }
 {
     let Some(file) = file else {
         return Err(Refusal::File);
     };
     let text = bytes_of(alloc, file)?;
-    let progress = Progress::new(rt, err, order.has_progress());
-    let found = found(rt, alloc, order.task(), text.as_slice(), &progress);
+    let progress = Progress::new(rt, err, question.progress);
+    let found = found(rt, alloc, question.task, text.as_slice(), &progress);
     drop(progress);
     let finding = match found {
         Ok(finding) => finding,
-        Err(refusal) => return Err(explained(order, text.as_slice(), refusal, err)),
+        Err(refusal) => return Err(explained(question, text.as_slice(), refusal, err)),
     };
-    tell(order.path(), text.as_slice(), &finding, out)?;
+    tell(question.path, text.as_slice(), &finding, out)?;
     Ok(finding.fails())
 }
 
 /// The refusal of a text. Where refusals are told in words, a refused source is explained.
-fn explained<E: Write>(order: &Order<'_>, text: &[u8], refusal: Refusal, err: &mut E) -> Refusal
+fn explained<E: Write>(
+    question: &Question<'_>,
+    text: &[u8],
+    refusal: Refusal,
+    err: &mut E,
+) -> Refusal
     ensures { result ≡ refusal }
 {
-    if order.task().is_in_words() {
-        explain(order.path(), text, &refusal, err);
+    if question.task.is_in_words() {
+        explain(question.path, text, &refusal, err);
     }
     refusal
 }
@@ -110,22 +117,4 @@ fn tell<W: Write>(path: &str, text: &[u8], finding: &Finding, out: &mut W) -> Re
         return Err(Refusal::Write);
     }
     Ok(())
-}
-
-/// All bytes of a file, where they are not too many.
-fn bytes_of<R: Read + Drop>(alloc: Global, file: R) -> Result<Vec<u8>, Refusal>
-    ensures text { IfOk result (λ bytes. IsTextOf (R.remaining file) bytes.items) }
-    ensures err { IfErr result
-        (λ refusal. (refusal ≡ Refusal.File) ⊎ (refusal ≡ Refusal.LongFile)
-        ⊎ (refusal ≡ Refusal.Memory)) }
-    ensures long { IfErr result
-        (λ refusal. refusal ≡ Refusal.LongFile → IsTooLong (R.remaining file)) }
-{
-    let mut bytes = Vec::new(alloc);
-    match file.take(MOST_BYTES + 1).read_to_end(&mut bytes) {
-        Ok(count) if count as u64 <= MOST_BYTES => Ok(bytes),
-        Ok(_) => Err(Refusal::LongFile),
-        Err(error) if error.kind() == ErrorKind::OutOfMemory => Err(Refusal::Memory),
-        Err(_) => Err(Refusal::File),
-    }
 }

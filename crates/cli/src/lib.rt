@@ -2,7 +2,9 @@
 #![tactic(auto)]
 
 mod answers;
+mod bounds;
 mod findings;
+mod inputs;
 mod machines;
 mod orders;
 mod patterns_told;
@@ -15,6 +17,8 @@ mod standings;
 mod wording;
 
 pub use answers::answer;
-pub use orders::{Order, Task, command};
-pub use performing::{perform, words_of};
+pub use bounds::Bound;
+pub use inputs::{Input, MOST_BYTES, input_of};
+pub use orders::{Order, Question, Request, Task, command};
+pub use performing::{perform, processors, words_of};
 pub use refusals::{Refusal, refuse};

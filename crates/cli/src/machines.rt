@@ -7,7 +7,7 @@ ghost use Rattle.uses.specs.Uses.{use_fits};
 ghost use Rattle.cli.specs.declared.machines.ProcessMachine.TheVariants as process;
 
 use crate::refusals::Refusal;
-use machine::{Interp, Machine};
+use machine::{Interp, Machine, Told};
 use natives::{Grid, MakeFault, NameSlots, Names, Split, Tree};
 use reglang::{Source, Use};
 use regmodel::Pending;
@@ -28,6 +28,8 @@ impl Machine for ProcessMachine {
     ghost program = { λ m. elim m [ process.Text i ↦ ⟦<Interp as Machine>⟧.program i | process.Split i ↦ ⟦<Split as Machine>⟧.program i | process.Grid i ↦ ⟦<Grid as Machine>⟧.program i | process.Tree i ↦ ⟦<Tree as Machine>⟧.program i | process.Name i ↦ ⟦<NameSlots as Machine>⟧.program i | process.Names i ↦ ⟦<Names as Machine>⟧.program i ] };
 
     ghost rest = { λ m. elim m [ process.Text i ↦ ⟦<Interp as Machine>⟧.rest i | process.Split i ↦ ⟦<Split as Machine>⟧.rest i | process.Grid i ↦ ⟦<Grid as Machine>⟧.rest i | process.Tree i ↦ ⟦<Tree as Machine>⟧.rest i | process.Name i ↦ ⟦<NameSlots as Machine>⟧.rest i | process.Names i ↦ ⟦<Names as Machine>⟧.rest i ] };
+
+    ghost resumed = { λ m. elim m [ process.Text i ↦ ⟦<Interp as Machine>⟧.resumed i | process.Split i ↦ ⟦<Split as Machine>⟧.resumed i | process.Grid i ↦ ⟦<Grid as Machine>⟧.resumed i | process.Tree i ↦ ⟦<Tree as Machine>⟧.resumed i | process.Name i ↦ ⟦<NameSlots as Machine>⟧.resumed i | process.Names i ↦ ⟦<Names as Machine>⟧.resumed i ] };
 
     fn reset(&mut self) {
         match self {
@@ -70,6 +72,17 @@ impl Machine for ProcessMachine {
             ProcessMachine::Tree(machine) => machine.end(),
             ProcessMachine::Name(machine) => machine.end(),
             ProcessMachine::Names(machine) => machine.end(),
+        }
+    }
+
+    fn tell(&self, numbers: &mut Told) -> bool {
+        match self {
+            ProcessMachine::Text(machine) => machine.tell(numbers),
+            ProcessMachine::Split(machine) => machine.tell(numbers),
+            ProcessMachine::Grid(machine) => machine.tell(numbers),
+            ProcessMachine::Tree(machine) => machine.tell(numbers),
+            ProcessMachine::Name(machine) => machine.tell(numbers),
+            ProcessMachine::Names(machine) => machine.tell(numbers),
         }
     }
 }

@@ -1,43 +1,47 @@
 //! What the words of the command line ask for.
 
-ghost use Rattle.std.specs.Prelude.{◌≡◌, ◌≢◌, IfErr, IfOk, List, map, not};
+ghost use Rattle.std.specs.Prelude.{◌≡◌, ◌≢◌, ◌<◌, ◌≤◌, ◌⊎◌, ℕ, Err, IfErr, IfOk, List, Option, codes, map, not, option_and_then};
+ghost use Rattle.std.specs.Fn.{FnReturnsAt};
 ghost use Rattle.clap.specs.Words.{found_of, one_text};
 ghost use Rattle.regmodel.specs.declared.letters.Letter.{Letter};
+ghost use Rattle.regmodel.specs.declared.limits.TheConstants.{MOST_WORKERS};
 ghost use Rattle.regmodel.specs.Prefixes.{FitsPrefix};
 ghost use Rattle.regmodel.specs.ScheduleText.{schedule_text};
-ghost use Rattle.cli.specs.Orders.{AreBoundsTold, IsCheck, IsExploration, IsFind, IsFlagTold, IsNativeTold, IsNumberTold, IsReplayOf, IsShowOf, texts_told};
+ghost use Rattle.cli.specs.Orders.{IsCheck, IsExploration, IsFind, IsFlagTold, IsNativeTold, IsNumberTold, IsReplayOf, IsShowOf, texts_told};
+ghost use Rattle.cli.specs.Inputs.{IsTextOf};
+ghost use Rattle.cli.specs.PatternTexts.{AreTextsOf};
 ghost use Rattle.cli.specs.Statuses.{status_of};
 
-use crate::patterns_told::patterns_of;
+use crate::bounds::{Bound, CACHE, MOST_CACHE, bound_of, bounds_of};
+use crate::inputs::{STANDARD_INPUT, is_standard};
+use crate::patterns_told::{are_standard, patterns_told};
 use crate::refusals::{Refusal, refuse};
 use crate::wording::refuse_in_words;
 use clap::ArgMatches;
+use clap::error::ErrorKind;
 use command_words::matches_of;
-use patterns::Patterns;
-use regmodel::limits::MOST_LETTERS;
+use explorer::Effort;
+use patterns::Pattern;
 use regmodel::{Prefix, Settings, read_schedule};
 use std::alloc::Global;
 use std::convert::AsStr;
-use std::io::Write;
+use std::io::{Read, Write};
 
-/// Up to which length a check splits beginnings of schedules into pieces for its workers.
-const CUT: u32 = 3;
-
-/// How many pieces each worker of a check may put up for the others.
-const ROOM: u32 = 64;
+/// The number of the setting that says in how many megabytes states are remembered. Those of `Settings` are 1 to 5.
+const CACHE_SETTING: u8 = 7;
 
 /// What to do with a source.
 #[derive(Debug, Drop)]
 pub enum Task {
     /// Check it this far, and say in words what fails; a process at fault fails it unless that is allowed.
     Check {
-        settings: Settings,
+        effort: Effort,
         native: bool,
         allows_faults: bool,
     },
     /// Explore it this far, with native machines for use lines or with interpreters alone.
     Explore {
-        settings: Settings,
+        effort: Effort,
         native: bool,
     },
     /// Look for its least failing schedule alone, as far and with the same machines.
@@ -49,7 +53,7 @@ pub enum Task {
     Find {
         settings: Settings,
         native: bool,
-        patterns: Patterns,
+        patterns: Vec<Pattern>,
     },
     /// Replay this schedule.
     Replay {
@@ -70,8 +74,8 @@ impl Task {
         ensures { result ≡ lists_of self.now }
     {
         match self {
-            Task::Check { settings, .. } => settings.workers() + 1,
-            Task::Explore { settings, .. } => settings.workers(),
+            Task::Check { effort, .. } => effort.settings.workers() + 1,
+            Task::Explore { effort, .. } => effort.settings.workers(),
             Task::Least { settings, .. } => settings.workers(),
             Task::Find { settings, .. } => settings.workers() + 1,
             Task::Replay { .. } | Task::Show { .. } => 1,
@@ -103,47 +107,60 @@ impl Task {
 /// What is asked for.
 #[derive(Debug, Drop)]
 pub struct Order<'a> {
-    path: &'a str,
-    task: Task,
-    progress: bool,
-}
-
-impl<'a> Order<'a> {
-    /// The file that holds the source.
-    pub fn path(&self) -> &'a str
-        ensures { result ≡ self.now.path }
-    {
-        self.path
-    }
-
-    /// What to do with the source.
-    pub fn task(&self) -> &Task
-        ensures { result.now ≡ self.now.task }
-    {
-        &self.task
-    }
-
+    /// The files that hold sources, in the order in which they are named: one, but for a check any number of them.
+    pub paths: Vec<&'a str>,
+    /// What to do with each of them.
+    pub task: Task,
     /// Whether it is to be told meanwhile how far it has come. A replay and a drawing never tell.
-    pub fn has_progress(&self) -> bool
-        ensures { result ≡ self.now.progress }
-    {
-        self.progress
-    }
+    pub progress: bool,
 }
 
-/// Reads the words of the command line, the program's name first. Where they are refused, also where they ask for help or the
-/// version, a setting is past its limit, or a schedule or a pattern is no text of one, it prints why, and the error is the status. A check or a search has as
-/// many workers as there are processors where the words do not say how many.
-pub fn command<'a, S: AsStr, E: Write>(
+/// What the words of the command line ask for.
+#[derive(Debug, Drop)]
+pub enum Request<'a> {
+    /// The version of the program.
+    Version,
+    /// To do something with files.
+    Order(Order<'a>),
+}
+
+/// What is asked of one file.
+#[derive(Clone, Copy, Debug)]
+pub struct Question<'a> {
+    /// The file that holds the source.
+    pub path: &'a str,
+    /// What to do with it.
+    pub task: &'a Task,
+    /// Whether it is to be told meanwhile how far it has come.
+    pub progress: bool,
+}
+
+/// Reads the words of the command line, the program's name first. Where they are refused, also where they ask for help, a setting is past its limit, or a schedule or a pattern is no text of one, it prints why, and the error is the status. A check or a search has as
+/// many workers as there are processors, 1 to 16, where the words do not say how many. `opener` gives what is read for a path, here for that of standard
+/// input where the words say that patterns are read from it.
+pub fn command<'a, S: AsStr, R: Read + Drop, F: Fn(&str) -> Option<R>, E: Write>(
     alloc: Global,
-    words: &'a [S],
+    words: &'a Result<Vec<S>, Refusal>,
     processors: u32,
+    opener: &F,
     err: &mut E,
-) -> Result<Order<'a>, u8>
-    ensures { IfErr result (λ status. status ≡ 2) }
+) -> Result<Request<'a>, u8>
+    requires callable { F.IsAlwaysCallable opener.now }
+    requires some { 0 < processors }
+    requires few { processors ≤ MOST_WORKERS }
+    ensures words { IfErr words.now (λ refusal. result ≡ Err (status_of refusal)) }
+    ensures err { IfErr result (λ status. (status ≡ 2) ⊎ (status ≡ 3)) }
 {
+    let words = match words {
+        Ok(words) => words.as_slice(),
+        Err(refusal) => return Err(refuse(refusal, err)),
+    };
     match matches_of(alloc, words) {
-        Ok(matches) => order_of(&matches, processors, err),
+        Ok(matches) => match order_of(alloc, &matches, processors, opener, err) {
+            Ok(order) => Ok(Request::Order(order)),
+            Err(status) => Err(status),
+        },
+        Err(error) if matches!(error.kind(), ErrorKind::DisplayVersion) => Ok(Request::Version),
         Err(error) => {
             let _ = write!(err, "{error}");
             Err(2)
@@ -152,20 +169,24 @@ pub fn command<'a, S: AsStr, E: Write>(
 }
 
 /// The order of words that clap took.
-fn order_of<'a, E: Write>(
+fn order_of<'a, R: Read + Drop, F: Fn(&str) -> Option<R>, E: Write>(
+    alloc: Global,
     matches: &ArgMatches<'a>,
     processors: u32,
+    opener: &F,
     err: &mut E,
 ) -> Result<Order<'a>, u8>
-    ensures { IfErr result (λ status. status ≡ 2) }
+    requires callable { F.IsAlwaysCallable opener.now }
+    requires some { 0 < processors }
+    requires few { processors ≤ MOST_WORKERS }
+    ensures { IfErr result (λ status. (status ≡ 2) ⊎ (status ≡ 3)) }
 {
     let Some((name, words)) = matches.subcommand() else {
         return Err(2);
     };
-    let path = words.get_str("FILE").unwrap_or("");
     let task = match name {
         "check" => check_of(words, processors),
-        "find" => find_of(words, processors),
+        "find" => find_of(alloc, words, processors, opener),
         "replay" => replay_of(words.get_str("SCHEDULE").unwrap_or("")),
         "show" => show_of(
             words.get_str("SCHEDULE").unwrap_or(""),
@@ -173,43 +194,79 @@ fn order_of<'a, E: Write>(
         ),
         _ => exploration_of(words),
     };
-    match task {
-        Ok(task) => Ok(Order {
-            path,
-            task,
-            progress: words.get_flag("progress"),
-        }),
-        Err(refusal) if name == "check" || name == "find" || name == "show" => {
-            Err(refuse_in_words(path, refusal, err))
-        }
-        Err(refusal) => Err(refuse(refusal, err)),
+    let refusal = match task {
+        Ok(task) => match Vec::from_slice(alloc, words.get_strs("FILE").unwrap_or(&[])) {
+            Ok(paths) => {
+                return Ok(Order {
+                    paths,
+                    task,
+                    progress: words.get_flag("progress"),
+                });
+            }
+            Err(_) => Refusal::Memory,
+        },
+        Err(refusal) => refusal,
+    };
+    if name == "check" || name == "find" || name == "show" {
+        let subject = subject_of(words, &refusal);
+        return Err(refuse_in_words(subject, &refusal, err));
+    }
+    Err(refuse(&refusal, err))
+}
+
+/// Of what a refusal of words tells: the text that is given for a bound, or standard input, of which patterns are read.
+fn subject_of<'a>(words: &ArgMatches<'a>, refusal: &Refusal) -> &'a str {
+    match refusal {
+        Refusal::Bound(bound) => words.get_str(bound.name()).unwrap_or(""),
+        _ => STANDARD_INPUT,
     }
 }
 
 /// How far the words of `check` ask to check, and whether they allow faults.
 fn check_of(words: &ArgMatches<'_>, processors: u32) -> Result<Task, Refusal>
+    requires some { 0 < processors }
+    requires few { processors ≤ MOST_WORKERS }
     ensures ok { IfOk result (IsCheck (one_text (found_of words.now)) processors) }
     ensures err { IfErr result (λ refusal. status_of refusal ≡ 2) }
 {
     let settings = bounds_of(words, processors)?;
+    let cache = bound_of(words, Bound::Cache, CACHE)?;
     let native = is_native(words);
     let allows_faults = has_flag(words, "allow-faults");
     Ok(Task::Check {
-        settings,
+        effort: Effort { settings, cache },
         native,
         allows_faults,
     })
 }
 
-/// How far the words of `find` ask to look, and for which outcomes.
-fn find_of(words: &ArgMatches<'_>, processors: u32) -> Result<Task, Refusal>
+/// How far the words of `find` ask to look, and for which outcomes. Standard input cannot be both the source and the patterns.
+fn find_of<R: Read + Drop, F: Fn(&str) -> Option<R>>(
+    alloc: Global,
+    words: &ArgMatches<'_>,
+    processors: u32,
+    opener: &F,
+) -> Result<Task, Refusal>
+    requires callable { F.IsAlwaysCallable opener.now }
+    requires some { 0 < processors }
+    requires few { processors ≤ MOST_WORKERS }
     ensures ok { IfOk result
-        (IsFind (one_text (found_of words.now)) processors (texts_told (found_of words.now))) }
-    ensures err { IfErr result (λ refusal. status_of refusal ≡ 2) }
+        (λ task. (texts : List (List ℕ))
+        × AreTextsOf
+        (λ text. (file : Option R) × FnReturnsAt F.Fn opener.now (codes "-") file
+        × IsTextOf (option_and_then R.remaining file) text)
+        (texts_told (found_of words.now)) texts
+        × IsFind (one_text (found_of words.now)) processors texts task) }
+    ensures err { IfErr result
+        (λ refusal. (status_of refusal ≡ 2) ⊎ (refusal ≡ Refusal.Memory)) }
 {
     let settings = bounds_of(words, processors)?;
     let native = is_native(words);
-    let patterns = patterns_of(pattern_words(words))?;
+    let texts = pattern_words(words);
+    if is_standard(words.get_str("FILE").unwrap_or("")) && are_standard(texts) {
+        return Err(Refusal::TwiceStandard);
+    }
+    let patterns = patterns_told(alloc, texts, opener)?;
     Ok(Task::Find {
         settings,
         native,
@@ -224,24 +281,6 @@ fn pattern_words<'a>(words: &'a ArgMatches<'_>) -> &'a [&'a str]
     words.get_strs("PATTERN").unwrap_or(&[])
 }
 
-/// How far the words of a check or a search ask to go.
-fn bounds_of(words: &ArgMatches<'_>, processors: u32) -> Result<Settings, Refusal>
-    ensures ok { IfOk result (AreBoundsTold (one_text (found_of words.now)) processors) }
-    ensures err { IfErr result (λ refusal. status_of refusal ≡ 2) }
-{
-    let settings = Settings::new(
-        number_or(words, "length", MOST_LETTERS),
-        number_or(words, "crashes", 0),
-        number_or(words, "workers", processors),
-        CUT,
-        ROOM,
-    );
-    match settings {
-        Ok(settings) => Ok(settings),
-        Err(fault) => Err(Refusal::Setting(fault.code)),
-    }
-}
-
 /// How far the words of `explore` ask to explore.
 fn exploration_of(words: &ArgMatches<'_>) -> Result<Task, Refusal>
     ensures ok { IfOk result (IsExploration (one_text (found_of words.now))) }
@@ -254,10 +293,15 @@ fn exploration_of(words: &ArgMatches<'_>) -> Result<Task, Refusal>
         number_of(words, "cut"),
         number_of(words, "room"),
     );
+    let cache = number_of(words, "cache");
     let native = is_native(words);
     match settings {
+        Ok(_) if cache > MOST_CACHE => Err(Refusal::Setting(CACHE_SETTING)),
         Ok(settings) if has_flag(words, "least") => Ok(Task::Least { settings, native }),
-        Ok(settings) => Ok(Task::Explore { settings, native }),
+        Ok(settings) => Ok(Task::Explore {
+            effort: Effort { settings, cache },
+            native,
+        }),
         Err(fault) => Err(Refusal::Setting(fault.code)),
     }
 }

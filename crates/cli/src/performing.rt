@@ -1,22 +1,22 @@
-//! The whole program, over what opens its file and what takes its texts.
+//! The whole program, over what opens its files and what takes its texts.
 
-ghost use Rattle.std.specs.Prelude.{◌≡◌, ◌≤◌, ◌⊎◌, IfErr, List, Option, Result, ℕ, option_and_then};
-ghost use Rattle.std.specs.Fn.{FnOnceReturnsAt};
-ghost use Rattle.cli.specs.declared.orders.Task.{Task};
-ghost use Rattle.cli.specs.Findings.{IsAnswered, IsCutShort};
-ghost use Rattle.cli.specs.Statuses.{status_of};
+ghost use Rattle.std.specs.Prelude.{◌≡◌, ◌<◌, ◌≤◌, ◌⊎◌, IfErr, Option, option_and_then};
+ghost use Rattle.std.specs.Fn.{FnReturnsAt};
+ghost use Rattle.regmodel.specs.declared.limits.TheConstants.{MOST_WORKERS};
+ghost use Rattle.cli.specs.Performing.{AreAnswered, IsPerformed, IsVersionTold};
 
 use crate::answers::answer;
-use crate::orders::command;
+use crate::orders::{Order, Question, Request};
 use crate::refusals::{Refusal, refuse};
+use command_words::VERSION;
 use regmodel::limits::MOST_WORKERS;
 use std::alloc::Global;
-use std::convert::AsStr;
 use std::env::Env;
 use std::io::{ErrorKind, Read, Write};
 use std::sync::Wait;
 use std::thread::Threads;
 use std::{env, thread};
+use texts::write;
 
 /// How many processors there are taken to be where the system does not tell.
 const PROCESSORS: u32 = 4;
@@ -39,50 +39,85 @@ pub fn words_of<H: Env + AllocGlobal>(rt: &H) -> Result<Vec<String>, Refusal>
     Ok(list)
 }
 
-/// Does what the words of the command line ask for, in the file that `opener` gives for the path that they name, and gives the status: 0 or
-/// 1 where the answer was written to `out`; 2 where the words, the file, the source or a letter is refused; 3 where it could not be done. At
-/// 2 and 3 `err` is told why, and `out` is as before, unless it did not take the whole answer: then it took a beginning of it.
-pub fn perform<
-    H: Threads + Wait + Sync,
-    S: AsStr + Drop,
-    R: Read + Drop,
-    F: FnOnce(&str) -> Option<R>,
-    W: Write,
-    E: Write + Send,
->(rt: &H, alloc: Global, words: Result<Vec<S>, Refusal>, opener: F, out: &mut W, err: &mut E) -> u8
-    requires { F.IsAlwaysCallable opener }
-    ensures status { result ≤ 3 }
-    ensures words { IfErr words (λ refusal. result ≡ status_of refusal) }
-    ensures answered { result ≤ 1
-        → (asked : Task) × (path : List ℕ) × (file : Option R)
-        × FnOnceReturnsAt F.FnOnce opener path file
-        × IsAnswered path asked (option_and_then R.remaining file) (W.contents out.old)
-        (W.contents out.new) result }
-    ensures silent { result ≡ 2 → out.new ≡ out.old }
-    ensures cut_short { result ≡ 3
-        → (out.new ≡ out.old)
-        ⊎
-        ((asked : Task) × (path : List ℕ) × (file : Option R)
-        × FnOnceReturnsAt F.FnOnce opener path file
-        × IsCutShort path asked (option_and_then R.remaining file) (W.contents out.old)
-        (W.contents out.new)) }
-{
-    let words = match words {
-        Ok(words) => words,
-        Err(refusal) => return refuse(refusal, err),
-    };
-    let order = match command(alloc, words.as_slice(), processors(rt), err) {
-        Ok(order) => order,
-        Err(status) => return status,
-    };
-    let file = opener(order.path());
-    answer(rt, alloc, &order, file, out, err)
-}
-
 /// How many processors there are, as far as workers can be as many.
-fn processors<H: Threads>(rt: &H) -> u32 {
+pub fn processors<H: Threads>(rt: &H) -> u32
+    ensures some { 0 < result }
+    ensures few { result ≤ MOST_WORKERS }
+{
     match thread::available_parallelism(rt) {
         Ok(count) => count.get().min(MOST_WORKERS as usize) as u32,
         Err(_) => PROCESSORS,
     }
+}
+
+/// Does what was asked for, and gives the status: that of the words where they were refused, and nothing is done then; 0 where the version was written, else the
+/// highest of those with which
+/// the files are answered, one after another, each as `opener` gives it for its path, which may be that of standard input (`input_of`): 0 or 1 where
+/// the answer was written to `out`; 2 where the file, the source or a letter is refused; 3 where it could not be done. At 2 and 3 `err` is told why,
+/// and `out` is as before, unless it did not take the whole answer: then it took a beginning of it.
+pub fn perform<
+    H: Threads + Wait + Sync,
+    R: Read + Drop,
+    F: Fn(&str) -> Option<R>,
+    W: Write,
+    E: Write + Send,
+>(
+    rt: &H,
+    alloc: Global,
+    request: Result<Request<'_>, u8>,
+    opener: &F,
+    out: &mut W,
+    err: &mut E,
+) -> u8
+    requires { F.IsAlwaysCallable opener.now }
+    ensures { IsPerformed W.contents
+        (λ path known. (file : Option R) × FnReturnsAt F.Fn opener.now path file
+        × (known ≡ option_and_then R.remaining file))
+        request.entry out.old out.new result }
+{
+    match request {
+        Ok(Request::Order(order)) => answer_each(rt, alloc, &order, opener, out, err),
+        Ok(Request::Version) => tell_version(out, err),
+        Err(status) => status,
+    }
+}
+
+/// Writes the version on `out`, and gives the status: 0, or 3 where it was not written whole.
+fn tell_version<W: Write, E: Write>(out: &mut W, err: &mut E) -> u8
+    ensures { IsVersionTold W.contents out.old out.new result }
+{
+    if write(&("regtry ", VERSION, "\n"), out).is_err() {
+        return refuse(&Refusal::Write, err);
+    }
+    if out.flush().is_err() {
+        return refuse(&Refusal::Write, err);
+    }
+    0
+}
+
+/// Answers each file of an order in turn, and gives the highest status.
+fn answer_each<
+    H: Threads + Wait + Sync,
+    R: Read + Drop,
+    F: Fn(&str) -> Option<R>,
+    W: Write,
+    E: Write + Send,
+>(rt: &H, alloc: Global, order: &Order<'_>, opener: &F, out: &mut W, err: &mut E) -> u8
+    requires { F.IsAlwaysCallable opener.now }
+    ensures { AreAnswered W.contents
+        (λ path known. (file : Option R) × FnReturnsAt F.Fn opener.now path file
+        × (known ≡ option_and_then R.remaining file))
+        order.now out.old out.new result }
+{
+    let mut highest = 0;
+    for path in order.paths.as_slice() {
+        let question = Question {
+            path,
+            task: &order.task,
+            progress: order.progress,
+        };
+        let status = answer(rt, alloc, &question, opener(path), out, err);
+        highest = highest.max(status);
+    }
+    highest
 }

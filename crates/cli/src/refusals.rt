@@ -3,6 +3,7 @@
 ghost use Rattle.std.specs.Prelude.{◌≡◌, ◌⊎◌};
 ghost use Rattle.cli.specs.Statuses.{status_of};
 
+use crate::bounds::Bound;
 use reglang::Rejection;
 use regmodel::OutOfMemory;
 use std::alloc::{AllocError, AllocFailed};
@@ -18,15 +19,24 @@ pub enum Refusal {
     /// A setting past its limit, by its number.
     #[error("setting {0}")]
     Setting(u8),
+    /// A bound whose text is no number, or not one that it takes.
+    #[error("bound")]
+    Bound(Bound),
     /// A word that is the text of no schedule.
     #[error("schedule")]
     Schedule,
     /// A word that is the text of no pattern: its place among the patterns, and that of its first standing at fault, both from 0.
     #[error("pattern {0} standing {1}")]
     Pattern(usize, usize),
-    /// More than 8 patterns.
+    /// A line of standard input that is the text of no pattern: its place from 0, and that of its first standing at fault.
+    #[error("pattern {0} standing {1}")]
+    PatternLine(usize, usize),
+    /// Standard input without a pattern.
     #[error("patterns")]
-    Patterns,
+    NoPattern,
+    /// Standard input named for the source and for the patterns.
+    #[error("patterns")]
+    TwiceStandard,
     /// A pattern that has not as many standings as the source has processes, by its place among the patterns from 0.
     #[error("pattern {0}")]
     Misfit(usize),
@@ -56,14 +66,18 @@ pub enum Refusal {
 impl Refusal {
     /// 2 where what was asked is refused, 3 where it could not be done.
     pub fn status(&self) -> u8
-        ensures { result ≡ status_of self.now }
+        ensures value { result ≡ status_of self.now }
+        ensures known { (result ≡ 2) ⊎ (result ≡ 3) }
     {
         match self {
             Refusal::Words
             | Refusal::Setting(_)
+            | Refusal::Bound(_)
             | Refusal::Schedule
             | Refusal::Pattern(_, _)
-            | Refusal::Patterns
+            | Refusal::PatternLine(_, _)
+            | Refusal::NoPattern
+            | Refusal::TwiceStandard
             | Refusal::Misfit(_)
             | Refusal::File
             | Refusal::LongFile
@@ -108,8 +122,9 @@ impl<T: Drop> From<AllocFailed<T>> for Refusal {
 }
 
 /// Writes the line of a refusal, and gives its status, also where the line could not be written.
-pub fn refuse<E: Write>(refusal: Refusal, err: &mut E) -> u8
-    ensures { result ≡ status_of refusal }
+pub fn refuse<E: Write>(refusal: &Refusal, err: &mut E) -> u8
+    ensures value { result ≡ status_of refusal.now }
+    ensures known { (result ≡ 2) ⊎ (result ≡ 3) }
 {
     let _ = writeln!(err, "regtry: {refusal}");
     refusal.status()

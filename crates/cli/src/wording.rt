@@ -1,6 +1,6 @@
 //! Refusals, told in words.
 
-ghost use Rattle.std.specs.Prelude.{◌≡◌};
+ghost use Rattle.std.specs.Prelude.{◌≡◌, ◌⊎◌};
 ghost use Rattle.cli.specs.Statuses.{status_of};
 
 use crate::refusals::Refusal;
@@ -19,19 +19,28 @@ pub fn explain<E: Write>(path: &str, text: &[u8], refusal: &Refusal, err: &mut E
     }
 }
 
-/// Writes in words what is refused, but for a source, which was explained, and gives the status, also where the words could not be written.
-pub fn refuse_in_words<E: Write>(path: &str, refusal: Refusal, err: &mut E) -> u8
-    ensures { result ≡ status_of refusal }
+/// Writes in words what is refused, but for a source, which was explained, and gives the status, also where the words could not be written. They tell of the
+/// subject: the path of what is read, or the text that is given for a bound.
+pub fn refuse_in_words<E: Write>(subject: &str, refusal: &Refusal, err: &mut E) -> u8
+    ensures value { result ≡ status_of refusal.now }
+    ensures known { (result ≡ 2) ⊎ (result ≡ 3) }
 {
-    let _ = write_words(path, &refusal, err);
+    let _ = write_words(subject, refusal, err);
     refusal.status()
 }
 
 /// Writes in words what is refused, but for a source.
-fn write_words<E: Write>(path: &str, refusal: &Refusal, err: &mut E) -> io::Result<()> {
+fn write_words<E: Write>(subject: &str, refusal: &Refusal, err: &mut E) -> io::Result<()> {
     match refusal {
         Refusal::Words => writeln!(err, "a word of the command line is not UTF-8"),
-        Refusal::Setting(code) => writeln!(err, "{}", limit_of(*code)),
+        Refusal::Setting(code) => writeln!(err, "setting {code} is past its limit"),
+        Refusal::Bound(bound) => writeln!(
+            err,
+            "--{} takes a number from {} to {}, not '{subject}'",
+            bound.name(),
+            bound.least(),
+            bound.most()
+        ),
         Refusal::Schedule => writeln!(
             err,
             "this is no schedule: write at most 64 letters parted by one space, each R or C and the number of a process, 0 to 7, or . for none"
@@ -42,34 +51,33 @@ fn write_words<E: Write>(path: &str, refusal: &Refusal, err: &mut E) -> io::Resu
             place.saturating_add(1),
             standing.saturating_add(1)
         ),
-        Refusal::Patterns => writeln!(err, "there are more than 8 patterns"),
+        Refusal::PatternLine(place, standing) => writeln!(
+            err,
+            "{subject}:{}: standing {}: this is no way in which a process can stand: {STANDINGS}",
+            place.saturating_add(1),
+            standing.saturating_add(1)
+        ),
+        Refusal::NoPattern => writeln!(err, "{subject}: there is no pattern: write one a line"),
+        Refusal::TwiceStandard => writeln!(
+            err,
+            "{subject} stands for standard input, which cannot be both the source and the patterns"
+        ),
         Refusal::Misfit(place) => writeln!(
             err,
-            "{path}: pattern {} has not as many standings as the source has processes: write one for each process, parted by '; ', as 'done 1; *'",
+            "{subject}: pattern {} has not as many standings as the source has processes: write one for each process, parted by '; ', as 'done 1; *'",
             place.saturating_add(1)
         ),
-        Refusal::File => writeln!(err, "{path}: the file cannot be read"),
-        Refusal::LongFile => writeln!(err, "{path}: the file is longer than 1048576 bytes"),
+        Refusal::File => writeln!(err, "{subject}: the file cannot be read"),
+        Refusal::LongFile => writeln!(err, "{subject}: the file is longer than 1048576 bytes"),
         Refusal::Source(_) => Ok(()),
         Refusal::Memory => writeln!(err, "memory ran out"),
         Refusal::Letter(place) => writeln!(
             err,
-            "{path}: letter {} of the schedule is not possible there: its process is not in the source, has crashed, or wants no access",
+            "{subject}: letter {} of the schedule is not possible there: its process is not in the source, has crashed, or wants no access",
             place.saturating_add(1)
         ),
-        Refusal::Run(code) => writeln!(err, "{path}: {}", run_fault(*code)),
+        Refusal::Run(code) => writeln!(err, "{subject}: {}", run_fault(*code)),
         Refusal::Write => writeln!(err, "the answer could not be written"),
-    }
-}
-
-/// The limit that a setting with this number is past.
-fn limit_of(setting: u8) -> &'static str {
-    match setting {
-        1 => "--length is past its limit: a schedule has 0 to 64 letters",
-        2 => "--crashes is past its limit: 0 to 8 processes may crash",
-        3 => "--workers is past its limit: there are 1 to 16",
-        4 => "--cut is past its limit: it is 0 to 16",
-        _ => "--room is past its limit: it is 0 to 65536",
     }
 }
 

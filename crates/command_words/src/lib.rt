@@ -6,7 +6,7 @@ use std::alloc::{AllocError, Global};
 use std::convert::AsStr;
 
 /// The program's version, and the toolchain that it is proved with.
-const VERSION: &str = "0.1.0, proved with rattle-kit-13f logic dac8208d650f15bf";
+pub const VERSION: &str = "0.1.0, proved with rattle-kit-13f logic dac8208d650f15bf";
 
 /// The settings of an exploration: the name of each, what its number is called, and what the help says of it.
 const SETTINGS: [(&str, &str, &str); 5] = [
@@ -56,12 +56,23 @@ const BOUNDS: [(&str, &str, &str); 3] = [
     ),
 ];
 
+/// What the help of an exploration says of the memory for states.
+const CACHE: &str =
+    "In how many megabytes states are remembered: 0 to 65536. What follows a state that was met before is counted and not tried again, which gives the same report in fewer steps; --least does not do so. The workers share the megabytes [default: 0]";
+
+/// What the help of a check says of it.
+const CHECK_CACHE: &str =
+    "In how many megabytes states are remembered, as by explore: 0 to 65536 [default: 0]";
+
 /// What the help says of the statuses.
 const STATUSES: &str = "Statuses:
   0  check, explore: no schedule fails; find: no schedule leads there; replay, show: done
   1  check, explore: a schedule fails; find: a schedule leads there
   2  the words, a setting, the schedule, the file or the source is refused
-  3  memory ran out, or the result could not be made or written";
+  3  memory ran out, or the result could not be made or written
+
+What explore and replay refuse they tell in one line for programs that read it, as `regtry: setting 1` for a --length past its limit;
+check, find and show tell it in words. Help is printed on standard error, with status 2, and the version on standard output, with status 0.";
 
 /// What the help says of the text of a schedule.
 const SCHEDULES: &str = "Letters of a schedule:
@@ -91,6 +102,9 @@ Where none fails, it prints how much was tried, and whether schedules were cut o
 still running: longer ones were not tried then. It says what was looked for where there is no check line, and which check no
 outcome could break, since no process ever had a name or was done.
 
+Where several files are named, it does so for each in turn: one that cannot be read or is refused stops no other one. The status is
+the highest.
+
 Example: regtry check FILE --crashes 1 tries all schedules of up to 64 letters in which at most one process crashes.
 
 Statuses:
@@ -109,7 +123,8 @@ const PATTERNS: &str =
   running        it still wants an access
   crashed idle   as one of these, and it took no step: without idle it took one (but for done * and *)
   *              in any way
-Up to 8 patterns may be given: an outcome has to match one of them.
+Where several are given, an outcome has to match one of them. A dash in place of patterns has them read from standard input, one
+a line, also a line of a report that begins with `outcome`: regtry explore .. | grep .. | regtry find FILE -
 
 It prints the least schedule that leads to such an outcome, as a drawing (see regtry show --help), and the command that
 replays it; or that no schedule leads there.
@@ -170,11 +185,12 @@ fn check<'a>(alloc: Global) -> Result<Command<'a>, AllocError> {
     let mut command = Command::new(alloc, "check")
         .about("Checks all schedules of a source and says what fails, in words.")
         .after_help(CHECKS)
-        .arg(file(alloc))?;
+        .arg(file(alloc).num_args(1..))?;
     for (name, value, help) in BOUNDS {
         command = command.arg(bound(alloc, name, value, help))?;
     }
     command
+        .arg(bound(alloc, "cache", "MB", CHECK_CACHE))?
         .arg(allow_faults(alloc))?
         .arg(text(alloc))?
         .arg(progress(alloc))
@@ -195,7 +211,11 @@ fn explore<'a>(alloc: Global) -> Result<Command<'a>, AllocError> {
     for (name, value, help) in SETTINGS {
         command = command.arg(number(alloc, name, value, help))?;
     }
-    command.arg(text(alloc))?.arg(least)?.arg(progress(alloc))
+    command
+        .arg(cache(alloc))?
+        .arg(text(alloc))?
+        .arg(least)?
+        .arg(progress(alloc))
 }
 
 /// The words of `find`.
@@ -237,7 +257,7 @@ fn show<'a>(alloc: Global) -> Result<Command<'a>, AllocError> {
 /// The required word that names the file.
 fn file<'a>(alloc: Global) -> Arg<'a> {
     Arg::new(alloc, "FILE").required(true).help(
-        "The source: a text in the register language, at most 1048576 bytes",
+        "The source: a text in the register language, at most 1048576 bytes, or - for standard input",
     )
 }
 
@@ -250,10 +270,9 @@ fn schedule<'a>(alloc: Global) -> Arg<'a> {
 
 /// The required words that are patterns.
 fn patterns<'a>(alloc: Global) -> Arg<'a> {
-    Arg::new(alloc, "PATTERN")
-        .required(true)
-        .num_args(1..)
-        .help("How each process may stand, as one word: 'done 1; *'")
+    Arg::new(alloc, "PATTERN").required(true).num_args(1..).help(
+        "How each process may stand, as one word: 'done 1; *'; or - for the lines of standard input",
+    )
 }
 
 /// The flag that allows faults.
@@ -284,16 +303,30 @@ fn progress<'a>(alloc: Global) -> Arg<'a> {
         )
 }
 
-/// A required option that takes a number.
+/// A required option that takes a number of 32 bits.
 fn number<'a>(alloc: Global, name: &'a str, value: &'a str, help: &'a str) -> Arg<'a> {
-    bound(alloc, name, value, help).required(true)
+    Arg::new(alloc, name)
+        .long(name)
+        .required(true)
+        .value_name(value)
+        .value_parser(value_parser!(u32))
+        .help(help)
 }
 
-/// An option that takes a number.
+/// The option of an exploration that takes the megabytes for states.
+fn cache<'a>(alloc: Global) -> Arg<'a> {
+    Arg::new(alloc, "cache")
+        .long("cache")
+        .value_name("MB")
+        .value_parser(value_parser!(u32))
+        .help(CACHE)
+}
+
+/// An option that takes a number, of which any text is handed on, so that it is refused with the range of the option.
 fn bound<'a>(alloc: Global, name: &'a str, value: &'a str, help: &'a str) -> Arg<'a> {
     Arg::new(alloc, name)
         .long(name)
         .value_name(value)
-        .value_parser(value_parser!(u32))
+        .allow_hyphen_values(true)
         .help(help)
 }

@@ -10,4 +10,4 @@ mod standings;
 
 pub use matching::NoneOf;
 pub use reading::{BadPattern, read_pattern};
-pub use standings::{Pattern, Patterns, Standing};
+pub use standings::{Pattern, Standing};

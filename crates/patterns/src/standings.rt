@@ -22,9 +22,6 @@ pub struct Pattern {
     standings: ArrayVec<Standing, 8>,
 }
 
-/// At most 8 patterns.
-pub type Patterns = ArrayVec<Pattern, 8>;
-
 impl Model for Pattern {
     ghost use Rattle.std.specs.Prelude.{List};
     ghost use Rattle.patterns.specs.declared.standings.Standing.{Standing};
@@ -34,17 +31,6 @@ impl Model for Pattern {
     ghost view = { λ p. p.standings.items };
 
     ghost inverse = { λ standings. record { standings = record { items = standings } } };
-}
-
-/// The pattern without processes. `ArrayVec` asks for a default.
-impl Default for Pattern {
-    ghost use Rattle.std.specs.Prelude.{◌≡◌, []};
-
-    ghost is_default = { λ pattern. pattern ≡ [] };
-
-    fn default() -> Pattern {
-        Pattern::new(ArrayVec::new())
-    }
 }
 
 impl Pattern {

@@ -1,21 +1,16 @@
 //! Explores register algorithms under all bounded schedules, and replays one.
 #![tactic(auto)]
 
-use cli::{perform, words_of};
+use cli::{command, input_of, perform, processors, words_of};
 use std::fs;
 use std::process::ExitCode;
 
 fn main(rt: HostRuntime) -> ExitCode {
+    let open = |path: &str| input_of(path, rt.stdin(), |path: &str| fs::open(&rt, path).ok());
+    let (mut out, mut err) = (rt.stdout(), rt.stderr());
     let words = words_of(&rt);
-    let open = |path: &str| fs::open(&rt, path).ok();
-    ExitCode::from(perform(
-        &rt,
-        rt.alloc(),
-        words,
-        open,
-        &mut rt.stdout(),
-        &mut rt.stderr(),
-    ))
+    let request = command(rt.alloc(), &words, processors(&rt), &open, &mut err);
+    ExitCode::from(perform(&rt, rt.alloc(), request, &open, &mut out, &mut err))
 }
 
 #[cfg(test)]

@@ -1,6 +1,6 @@
 //! What no run of the program shows: writers that take nothing or pass nothing on, and what the words ask for.
 
-use cli::{Refusal, Task, command, perform};
+use cli::{Refusal, Request, Task, command, perform};
 use std::alloc::Global;
 use std::io;
 use std::io::Write;
@@ -130,7 +130,9 @@ fn asked<H: Threads + Wait + Sync + AllocGlobal, W: Write, E: Write + Send>(
     err: &mut E,
 ) -> u8 {
     let words = list_of(rt.alloc(), words);
-    perform(rt, rt.alloc(), words, |_path: &str| Some(file), out, err)
+    let open = |_path: &str| Some(file);
+    let request = command(rt.alloc(), &words, 2, &open, err);
+    perform(rt, rt.alloc(), request, &open, out, err)
 }
 
 /// Asserts that a fault of this writer is told.
@@ -193,12 +195,21 @@ fn each_option_says_its_own_setting(rt: HostRuntime) -> Result<(), Fail> {
     ];
     for (words, interpreted) in [(words.as_slice(), true), (&words[..13], false)] {
         let mut err = Vec::new(rt.alloc());
-        let order = command(rt.alloc(), words, 2, &mut err)
-            .ok()
-            .ok_or("refused words")?;
-        let Task::Explore { settings, native } = order.task() else {
+        let words = list_of(rt.alloc(), words);
+        let request = command(
+            rt.alloc(),
+            &words,
+            2,
+            &|_path: &str| Some(SPLITTER),
+            &mut err,
+        );
+        let Ok(Request::Order(order)) = request else {
+            return Err(Fail::from("refused words"));
+        };
+        let Task::Explore { effort, native } = &order.task else {
             return Err(Fail::from("no exploration"));
         };
+        let settings = effort.settings;
         let bounds = (settings.length(), settings.crashes());
         let sharing = (settings.workers(), settings.cut(), settings.room());
         assert!(rt; (bounds, sharing, *native) == ((5, 1), (2, 3, 16), !interpreted));

@@ -1,4 +1,4 @@
--- Worked examples of what a check demands, of checks that are vacuous, and of faults in words.
+-- Worked examples of what a check demands, of checks that are vacuous, of faults in words, and of paths in a shell.
 use Rattle.std.specs.Prelude.{◌≡◌, true, false, [], ◌∷◌, None, Some, codes, refl}
 use Rattle.regmodel.specs.declared.clauses.Clause.TheVariants as clause
 use Rattle.regmodel.specs.declared.outcomes.End.{End}
@@ -8,6 +8,7 @@ use Rattle.verdict.specs.Demands.{meets_demands}
 use Rattle.verdict.specs.FaultText.{reason_text}
 use Rattle.verdict.specs.Faults.{first_fault}
 use Rattle.verdict.specs.Gaps.{want_of}
+use Rattle.verdict.specs.ShellWords.{operand_text}
 use Rattle.verdict.specs.declared.gaps.Want.TheVariants as want
 
 -- a process that took no step
@@ -43,3 +44,21 @@ none_at_fault = refl
 
 pub in_words : reason_text 4 ≡ codes "it emits a ninth number"
 in_words = refl
+
+pub path_as_it_stands : operand_text (codes "examples/in_order.reg") ≡ codes "examples/in_order.reg"
+path_as_it_stands = refl
+
+pub path_with_a_space : operand_text (codes "my register.reg") ≡ codes "'my register.reg'"
+path_with_a_space = refl
+
+pub path_with_a_quote : operand_text (codes "it's.reg") ≡ codes "'it'\\''s.reg'"
+path_with_a_quote = refl
+
+pub path_like_an_option : operand_text (codes "-x.reg") ≡ codes "-- -x.reg"
+path_like_an_option = refl
+
+pub standard_input : operand_text (codes "-") ≡ codes "-"
+standard_input = refl
+
+pub empty_path : operand_text [] ≡ codes "''"
+empty_path = refl

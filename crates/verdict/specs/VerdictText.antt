@@ -11,6 +11,7 @@ use Rattle.drawing.specs.DrawingText.{drawing_text}
 use Rattle.explanations.specs.Shown.{shown}
 use Rattle.verdict.specs.FaultText.{fault_line, fault_text}
 use Rattle.verdict.specs.Indents.{without_indent}
+use Rattle.verdict.specs.ShellWords.{operand_text}
 use Rattle.verdict.specs.declared.breaches.Breach.{Breach}
 use Rattle.verdict.specs.declared.breaches.Cause.{Cause}
 use Rattle.verdict.specs.declared.breaches.Cause.TheVariants.{Check, Fault}
@@ -53,9 +54,9 @@ abbrev pub failing_text : List ℕ → List ℕ → ℕ → Cause → List ℕ
 failing_text path text letters cause =
     path ++ codes ": a schedule of " ++ letters_text letters ++ codes " fails: " ++ cause_text text cause ++ codes "\n"
 
--- the command that replays a schedule
+-- the command that replays a schedule, as it is to be typed in a shell
 abbrev pub replay_text : List ℕ → Schedule → List ℕ
-replay_text path w = codes "\nregtry replay " ++ path ++ codes " '" ++ schedule_text w ++ codes "'\n"
+replay_text path w = codes "\nregtry replay " ++ operand_text path ++ codes " '" ++ schedule_text w ++ codes "'\n"
 
 -- that a schedule fails and why, the schedule as a drawing, and the command that replays it
 abbrev pub breach_text : List ℕ → List ℕ → Breach → List ℕ

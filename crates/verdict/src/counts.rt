@@ -61,3 +61,22 @@ impl Text for Crashes {
         crashes.put(out, block)
     }
 }
+
+/// How many letters a schedule had at most, and how many processes could crash, behind what is said of them.
+#[derive(Clone, Copy)]
+pub struct Bounds {
+    /// The number of letters.
+    pub length: u64,
+    /// The number of processes.
+    pub crashes: u64,
+}
+
+impl Text for Bounds {
+    ghost text = { λ b. spec.bounds_text b.length b.crashes };
+
+    fn put<W: Write>(&self, out: &mut W, block: &mut Block) -> Result<(), WriteFault> {
+        let length = Letters(self.length);
+        let crashes = Crashes(self.crashes);
+        (", up to ", length, " and ", crashes, "\n").put(out, block)
+    }
+}

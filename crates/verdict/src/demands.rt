@@ -32,7 +32,7 @@ impl Judge for Demands<'_> {
     ghost use Rattle.regmodel.specs.declared.outcomes.ProcEnd.{ProcEnd};
     ghost use Rattle.verdict.specs.Demands.{meets_demands};
 
-    ghost accepts = { λ demands ends. meets_demands demands.clauses.now demands.allows_faults ends };
+    ghost accepts = { λ judge ends. meets_demands judge.clauses.now judge.allows_faults ends };
 
     fn holds(&self, outcome: &Outcome) -> bool {
         self.clauses.holds(outcome) && (self.allows_faults || !some_faulty(outcome))

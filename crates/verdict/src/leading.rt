@@ -4,7 +4,8 @@ ghost use Rattle.texts.specs.Appending.{Wrote};
 ghost use Rattle.verdict.specs.WayText as spec;
 ghost use Rattle.verdict.specs.WayText.{discovery_text};
 
-use crate::counts::{Crashes, Letters};
+use crate::counts::{Bounds, Letters};
+use crate::replays::ReplayCommand;
 use crate::ways::{Discovery, Way};
 use drawing::Drawn;
 use std::io::Write;
@@ -22,14 +23,11 @@ pub fn write_discovery<W: Write>(
     match &discovery.way {
         Some(way) => write(&Leading { path, way }, out),
         None => {
-            let length = u64::from(discovery.least.length());
-            let crashes = u64::from(discovery.least.crashes());
-            let nowhere = Nowhere {
-                path,
-                length,
-                crashes,
+            let bounds = Bounds {
+                length: u64::from(discovery.least.length()),
+                crashes: u64::from(discovery.least.crashes()),
             };
-            write(&nowhere, out)
+            write(&(path, ": no schedule leads there", bounds), out)
         }
     }
 }
@@ -52,26 +50,10 @@ impl Text for Leading<'_> {
             all: false,
         };
         let leads = (self.path, ": a schedule of ", letters, " leads to ");
-        let replay = ("\nregtry replay ", self.path, " '", &way.schedule, "'\n");
+        let replay = ReplayCommand {
+            path: self.path,
+            schedule: &way.schedule,
+        };
         (leads, &way.outcome, "\n\n", drawing, replay).put(out, block)
-    }
-}
-
-/// That no schedule leads there, and how far was looked.
-#[derive(Clone, Copy)]
-struct Nowhere<'a> {
-    path: &'a [u8],
-    length: u64,
-    crashes: u64,
-}
-
-impl Text for Nowhere<'_> {
-    ghost text = { λ n. spec.nowhere_text n.path.now n.length n.crashes };
-
-    fn put<W: Write>(&self, out: &mut W, block: &mut Block) -> Result<(), WriteFault> {
-        let length = Letters(self.length);
-        let crashes = Crashes(self.crashes);
-        let bounds = (", up to ", length, " and ", crashes, "\n");
-        (self.path, ": no schedule leads there", bounds).put(out, block)
     }
 }

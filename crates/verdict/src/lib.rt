@@ -9,6 +9,8 @@ mod gaps;
 mod indents;
 mod leading;
 mod reaches;
+mod replays;
+mod shell_words;
 mod telling;
 mod ways;
 

@@ -6,12 +6,13 @@ ghost use Rattle.verdict.specs.VerdictText as spec;
 ghost use Rattle.verdict.specs.VerdictText.{verdict_text};
 
 use crate::breaches::{Breach, Cause, Verdict};
-use crate::counts::{Counted, Crashes, Letters};
+use crate::counts::{Bounds, Counted, Letters};
 use crate::demands::Asked;
 use crate::faults::ProcessFault;
 use crate::gaps::{Gap, Want};
 use crate::indents::without_indent;
 use crate::reaches::{Reach, reach_of};
+use crate::replays::ReplayCommand;
 use drawing::Drawn;
 use explanations::shown_line;
 use regmodel::limits::MOST_LETTERS;
@@ -68,7 +69,10 @@ impl Text for Failing<'_> {
             all: false,
         };
         let fails = (self.path, ": a schedule of ", letters, " fails: ");
-        let replay = ("\nregtry replay ", self.path, " '", &breach.schedule, "'\n");
+        let replay = ReplayCommand {
+            path: self.path,
+            schedule: &breach.schedule,
+        };
         (fails, cause, "\n", drawing, replay).put(out, block)
     }
 }
@@ -217,13 +221,10 @@ impl Text for Holding<'_> {
             ending: "s",
         };
         let tried = (tried, " tried, ", outcomes);
-        let bounds = (
-            ", up to ",
-            Letters(reach.length),
-            " and ",
-            Crashes(reach.crashes),
-            "\n",
-        );
+        let bounds = Bounds {
+            length: reach.length,
+            crashes: reach.crashes,
+        };
         (self.path, ": no schedule fails: ", tried, bounds).put(out, block)
     }
 }

@@ -9,13 +9,17 @@ returns-in-Check-clause-found g c = rw c.in-Check.is (c.checked.ensures.found c.
 pub returns-in-Check-clause-refused : goal.returns-in-Check-clause-refused
 returns-in-Check-clause-refused g c = rw c.in-Check.is (c.checked.ensures.refused c.in-Check.native)
 
+pub returns-in-Explore-clause-found : goal.returns-in-Explore-clause-found
+returns-in-Explore-clause-found g c = rw c.in-Explore.is (c.reported.ensures.found c.in-Explore.native c.args.text.now c.requires.spelled)
+
 pub returns-in-Explore-clause-refused : goal.returns-in-Explore-clause-refused
-returns-in-Explore-clause-refused g c =
-    rw c.in-Explore.is (record { source = contents_of c.args.source.now; spelled = c.requires.spelled; fault = c.in-Err.ensures.code })
+returns-in-Explore-clause-refused g c = rw c.in-Explore.is (c.reported.ensures.refused c.in-Explore.native c.args.text.now c.requires.spelled)
+
+pub returns-in-Least-clause-found : goal.returns-in-Least-clause-found
+returns-in-Least-clause-found g c = rw c.in-Least.is (c.least_found.ensures.found c.in-Least.native c.args.text.now c.requires.spelled)
 
 pub returns-in-Least-clause-refused : goal.returns-in-Least-clause-refused
-returns-in-Least-clause-refused g c =
-    rw c.in-Least.is (record { source = contents_of c.args.source.now; spelled = c.requires.spelled; fault = c.in-Err-least_of.ensures.code })
+returns-in-Least-clause-refused g c = rw c.in-Least.is (c.least_found.ensures.refused c.in-Least.native c.args.text.now c.requires.spelled)
 
 pub returns-in-Find-clause-found : goal.returns-in-Find-clause-found
 returns-in-Find-clause-found g c = rw c.in-Find.is (c.searched.ensures.found c.in-Find.native c.args.text.now c.requires.spelled)
@@ -23,12 +27,8 @@ returns-in-Find-clause-found g c = rw c.in-Find.is (c.searched.ensures.found c.i
 pub returns-in-Find-clause-refused : goal.returns-in-Find-clause-refused
 returns-in-Find-clause-refused g c = rw c.in-Find.is (c.searched.ensures.refused c.in-Find.native c.args.text.now c.requires.spelled)
 
-pub returns-in-Replay-clause-refused : goal.returns-in-Replay-clause-refused
-returns-in-Replay-clause-refused g c =
-    rw c.in-Replay.is (record { source = contents_of c.args.source.now; spelled = c.requires.spelled; letter = c.in-Err-standing_after.ensures.refused })
-
-pub standing_after-requires : goal.standing_after-requires
-standing_after-requires g c =
+pub replayed-requires : goal.replayed-requires
+replayed-requires g c =
     last_has (λ list. map (λ b. (goal.Machine-dyn g (b.vtable, b.value)).program b.value) list.items ≡ source_programs c.args.source.now) c.last_of.result c.last_of.new.lists.items c.args.lists.items c.last_of.ensures c.requires.machines
 
 pub shown-requires : goal.shown-requires

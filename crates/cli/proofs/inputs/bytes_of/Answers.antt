@@ -1,6 +1,6 @@
 use Rattle.std.proofs.Common.{arith}
 use Rattle.cli.proofs.BoundedReads.{all_read}
-use Rattle.cli.proofs.answers.bytes_of.Goals as goal
+use Rattle.cli.proofs.inputs.bytes_of.Goals as goal
 
 pub returns-in-Ok-clause-text : goal.returns-in-Ok-clause-text
 returns-in-Ok-clause-text g c =

@@ -1,0 +1,113 @@
+//! How far the words of a check or a search ask to go.
+
+ghost use Rattle.std.specs.Prelude.{◌≡◌, ◌<◌, ◌≤◌, ℕ, IfErr, IfOk};
+ghost use Rattle.clap.specs.Words.{found_of, one_text};
+ghost use Rattle.regmodel.specs.declared.limits.TheConstants.{MOST_WORKERS};
+ghost use Rattle.cli.specs.Bounds as spec;
+ghost use Rattle.cli.specs.Bounds.{IsBoundTold};
+ghost use Rattle.cli.specs.Orders.{AreBoundsTold};
+
+use crate::refusals::Refusal;
+use clap::ArgMatches;
+use regmodel::Settings;
+use regmodel::limits::{MOST_CRASHES, MOST_LETTERS, MOST_WORKERS};
+
+/// Up to which length a check splits beginnings of schedules into pieces for its workers.
+const CUT: u32 = 3;
+
+/// How many pieces each worker of a check may put up for the others.
+const ROOM: u32 = 64;
+
+/// In how many megabytes a check remembers states, unless its words say.
+pub const CACHE: u32 = 0;
+
+/// The most megabytes in which states are remembered.
+pub const MOST_CACHE: u32 = 65536;
+
+/// What an option of a check or a search bounds.
+#[derive(Clone, Copy, PartialEq, Eq, Debug)]
+pub enum Bound {
+    /// The letters of a schedule.
+    Length,
+    /// The processes that crash.
+    Crashes,
+    /// The workers, at least one.
+    Workers,
+    /// The megabytes in which a check remembers states.
+    Cache,
+}
+
+impl Bound {
+    ghost use Rattle.std.specs.Prelude.{◌≡◌};
+    ghost use Rattle.cli.specs.Bounds as spec;
+
+    /// The name of its option.
+    pub fn name(self) -> &'static str
+        ensures { result.now ≡ spec.name_of self }
+    {
+        match self {
+            Bound::Length => "length",
+            Bound::Crashes => "crashes",
+            Bound::Workers => "workers",
+            Bound::Cache => "cache",
+        }
+    }
+
+    /// The least number that it takes.
+    pub fn least(self) -> u32
+        ensures { result ≡ spec.least_of self }
+    {
+        match self {
+            Bound::Length | Bound::Crashes | Bound::Cache => 0,
+            Bound::Workers => 1,
+        }
+    }
+
+    /// The greatest number that it takes.
+    pub fn most(self) -> u32
+        ensures { result ≡ spec.most_of self }
+    {
+        match self {
+            Bound::Length => MOST_LETTERS,
+            Bound::Crashes => MOST_CRASHES,
+            Bound::Workers => MOST_WORKERS,
+            Bound::Cache => MOST_CACHE,
+        }
+    }
+}
+
+/// How far the words of a check or a search ask to go. The error tells the first bound whose text is no number, or not one that it takes.
+pub fn bounds_of(words: &ArgMatches<'_>, processors: u32) -> Result<Settings, Refusal>
+    requires some { 0 < processors }
+    requires few { processors ≤ MOST_WORKERS }
+    ensures ok { IfOk result (AreBoundsTold (one_text (found_of words.now)) processors) }
+    ensures err { IfErr result spec.IsBoundRefused }
+{
+    let length = bound_of(words, Bound::Length, MOST_LETTERS)?;
+    let crashes = bound_of(words, Bound::Crashes, 0)?;
+    let workers = bound_of(words, Bound::Workers, processors)?;
+    match Settings::new(length, crashes, workers, CUT, ROOM) {
+        Ok(settings) => Ok(settings),
+        Err(_) => unreachable!(),
+    }
+}
+
+/// The number that the words give for a bound, or another one where they give none.
+pub(crate) fn bound_of(words: &ArgMatches<'_>, bound: Bound, other: u32) -> Result<u32, Refusal>
+    requires { (spec.least_of bound ≤ other) × (other ≤ spec.most_of bound) }
+    ensures told { IfOk result
+        (IsBoundTold (one_text (found_of words.now) (spec.name_of bound)) other) }
+    ensures within { IfOk result
+        (λ number. (spec.least_of bound ≤ number) × (number ≤ spec.most_of bound)) }
+    ensures refused { IfErr result
+        (λ refusal. (number : ℕ)
+        → IsBoundTold (one_text (found_of words.now) (spec.name_of bound)) other number
+        → spec.least_of bound ≤ number → number ≤ spec.most_of bound → ⊥) }
+    ensures err { IfErr result (λ refusal. refusal ≡ Refusal.Bound bound) }
+{
+    match words.try_get_one::<u32>(bound.name()) {
+        Ok(Some(number)) if bound.least() <= number && number <= bound.most() => Ok(number),
+        Ok(None) => Ok(other),
+        _ => Err(Refusal::Bound(bound)),
+    }
+}
