@@ -3,6 +3,8 @@ pub mod CellLists
 pub mod Fitting
 pub mod Flows
 pub mod KeptStates
+pub mod Packed
 pub mod Places
+pub mod SparseValues
 pub mod StandingNumbers
 pub mod Wanting

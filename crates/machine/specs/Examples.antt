@@ -16,6 +16,8 @@ use Rattle.machine.specs.declared.values.Store.{Store}
 use Rattle.machine.specs.declared.states.Kept.{Kept}
 use Rattle.machine.specs.Rest.{Asks, from_place, rest_from}
 use Rattle.machine.specs.Keeping.{IsStart, LeadsTo, state_at}
+use Rattle.machine.specs.Sparse.{past_sparse, sparse, spread}
+use Rattle.machine.specs.Standings.{access_numbers, resumed_by}
 
 -- ---- register 0 is written, read into variable 0, and that is emitted
 abbrev pub write_and_read : Program
@@ -70,3 +72,20 @@ its_reply_leads_to_the_read = λ s. refl
 
 pub the_read_asks : Asks write_and_read (state_at kept_at_the_read 1)
 the_read_asks = refl
+
+-- ---- values of which most are 0 are told by a mask and the other ones
+pub second_and_fourth : sparse (0 ∷ 5 ∷ 0 ∷ 7 ∷ []) ≡ 10 ∷ 5 ∷ 7 ∷ []
+second_and_fourth = refl
+
+pub four_are_read : spread 4 (10 ∷ 5 ∷ 7 ∷ 9 ∷ []) ≡ 0 ∷ 5 ∷ 0 ∷ 7 ∷ []
+four_are_read = refl
+
+pub nine_is_behind : past_sparse 4 (10 ∷ 5 ∷ 7 ∷ 9 ∷ []) ≡ 9 ∷ []
+nine_is_behind = refl
+
+-- ---- what is told at the read, before which nothing was emitted and all values are 0: statement 1, a read of register 0 into variable 0
+pub the_read_is_told : access_numbers (state_at kept_at_the_read 1) ≡ 2 ∷ 0 ∷ 0 ∷ 8 ∷ 0 ∷ 0 ∷ []
+the_read_is_told = refl
+
+pub its_reply_is_emitted_again : resumed_by write_and_read (2 ∷ 0 ∷ 0 ∷ 8 ∷ 0 ∷ 0 ∷ []) (one 7 ∷ []) ≡ pending.Done (record { items = 7 ∷ [] })
+its_reply_is_emitted_again = refl

@@ -1,8 +1,10 @@
+pub mod Bits
 pub mod Examples
 pub mod Exits
 pub mod Keeping
 pub mod Paths
 pub mod Rest
+pub mod Sparse
 pub mod Standings
 pub mod Stores
 pub mod Telling

@@ -16,11 +16,13 @@ mod resume;
 mod run;
 mod standings;
 mod states;
+mod told_numbers;
 mod values;
 
 use arrayvec::ArrayVec;
 pub use interp::Interp;
 use regmodel::Pending;
+pub use told_numbers::{put, put_sparse};
 
 /// Numbers that tell where something stands, at most 64.
 pub type Told = ArrayVec<u32, 64>;

@@ -4,12 +4,12 @@ use Rattle.std.specs.Prelude.{nat_lt, ◌==◌, slice_set}
 use Rattle.regmodel.specs.declared.accesses.Pending.{Pending}
 use Rattle.regmodel.specs.declared.accesses.Pending.TheVariants.{Done}
 use Rattle.regmodel.specs.Reply.{Reply, Replies, value_of}
-use Rattle.machine.specs.Standings.{padded}
+use Rattle.machine.specs.Sparse.{spread}
 use Rattle.natives.specs.declared.names.NameSlots.{NameSlots}
 use Rattle.natives.specs.declared.rounds.Reading.{Reading}
 use Rattle.natives.specs.declared.names.Stage.{Stage}
 use Rattle.natives.specs.declared.names.Stage.TheVariants.{Proposes, Reads, Named, Over}
-use Rattle.natives.specs.Bits.{bit}
+use Rattle.machine.specs.Bits.{bit}
 use Rattle.natives.specs.Rounds.{after_slot, first_slot, at_slot, cells_of, from_after, number_from, reading_number}
 use Rattle.natives.specs.Names.{IsRead, rounds_from, from_round, from_reading, from_slot, name_numbers, name_rest, name_resumed}
 use Rattle.natives.proofs.NextNames.{IsChoice, rank_after, clash-past, rank-past, finish-next}
@@ -60,12 +60,12 @@ module _ (m : NameSlots) where
   -- ---- what numbers tell
 
   -- a read, with and without a clash
-  reading-told : (at rank : ℕ) (clash : Bool) (held : List ℕ) → padded 8 held ≡ m.seen → (s : Replies) → from_reading m.base m.slots m.slot m.registers m.later m.proposal m.seen (record { at = at; clash = clash; rank = rank }) s ≡ name_resumed m.base m.slots m.slot m.registers (reading_number clash ∷ m.later ∷ m.proposal ∷ at ∷ rank ∷ held) s
+  reading-told : (at rank : ℕ) (clash : Bool) (held : List ℕ) → spread 8 held ≡ m.seen → (s : Replies) → from_reading m.base m.slots m.slot m.registers m.later m.proposal m.seen (record { at = at; clash = clash; rank = rank }) s ≡ name_resumed m.base m.slots m.slot m.registers (reading_number clash ∷ m.later ∷ m.proposal ∷ at ∷ rank ∷ held) s
   reading-told at rank true held same s = ap (λ seen. from_reading m.base m.slots m.slot m.registers m.later m.proposal seen (record { at = at; clash = true; rank = rank }) s) (sym same)
   reading-told at rank false held same s = ap (λ seen. from_reading m.base m.slots m.slot m.registers m.later m.proposal seen (record { at = at; clash = false; rank = rank }) s) (sym same)
 
   -- a stage, with what the slots held
-  pub stage-told : (stage : Stage) (held : List ℕ) → padded 8 held ≡ m.seen → (s : Replies) → rest_at stage s ≡ name_resumed m.base m.slots m.slot m.registers (name_numbers m.later m.proposal stage ++ held) s
+  pub stage-told : (stage : Stage) (held : List ℕ) → spread 8 held ≡ m.seen → (s : Replies) → rest_at stage s ≡ name_resumed m.base m.slots m.slot m.registers (name_numbers m.later m.proposal stage ++ held) s
   stage-told Proposes held same s = ap (λ seen. from_round m.base m.slots m.slot m.registers (suc m.later) m.proposal (cells_of seen) s) (sym same)
   stage-told (Reads reading) held same s = reading-told reading.at reading.rank reading.clash held same s
   stage-told Named held same s = refl

@@ -10,7 +10,7 @@ use Rattle.regmodel.specs.Act.{Flow, GoesOn, Wants, Faults, exec, times, flow_pe
 use Rattle.uses.specs.Expansions.{tree_collect, tree_look}
 use Rattle.std.proofs.lemmas.Bool.{cases_lt}
 use Rattle.std.proofs.lemmas.List.{get_or-map, map-set}
-use Rattle.natives.specs.Bits.{bit}
+use Rattle.machine.specs.Bits.{bit}
 use Rattle.natives.specs.Trees.{from_past, from_look, below_reached}
 use Rattle.natives.proofs.Steps.{le_yes, lt_yes, lt_no, then_stop}
 

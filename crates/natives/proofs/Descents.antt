@@ -10,7 +10,7 @@ use Rattle.regmodel.specs.Act.{Flow, GoesOn, Wants, Faults, exec, times, flow_pe
 use Rattle.regmodel.specs.Program.{Stop}
 use Rattle.uses.specs.Expansions.{tree_after, tree_leave, tree_descend, tree_collect, expansion}
 use Rattle.uses.specs.declared.kinds.Use.TheVariants as kind
-use Rattle.natives.specs.Bits.{bit}
+use Rattle.machine.specs.Bits.{bit}
 use Rattle.natives.specs.Trees.{on_way, from_vertex, from_stop, from_past}
 use Rattle.natives.proofs.Collects.{IsTree, collect_with, turns-alike}
 use Rattle.natives.proofs.Steps.{le_yes, lt_yes, lt_no, eq_yes, eq_no, then_stop}

@@ -2,7 +2,6 @@ pub mod Choices
 pub mod Collects
 pub mod Descents
 pub mod NextNames
-pub mod Packed
 pub mod Powers
 pub mod ScanStages
 pub mod Scans

@@ -5,12 +5,12 @@ use Rattle.std.proofs.lemmas.List.{length-set, length-append, length-drop}
 use Rattle.regmodel.specs.declared.accesses.Pending.{Pending}
 use Rattle.regmodel.specs.declared.accesses.Pending.TheVariants.{Done}
 use Rattle.regmodel.specs.Reply.{Reply, Replies, one}
-use Rattle.machine.specs.Standings.{padded}
+use Rattle.machine.specs.Sparse.{spread}
 use Rattle.natives.specs.declared.scanned_names.Names.{Names}
 use Rattle.natives.specs.declared.scanned_names.Stage.{Stage}
 use Rattle.natives.specs.declared.scanned_names.Stage.TheVariants.{Proposes, Scans, Named, Over}
 use Rattle.natives.specs.declared.rounds.Reading.{Reading}
-use Rattle.natives.specs.Bits.{bit}
+use Rattle.machine.specs.Bits.{bit}
 use Rattle.natives.specs.Rounds.{after_slots, first_slot, at_slot, cells_of, from_after, number_from}
 use Rattle.natives.specs.ScannedNames.{scan_rounds, from_scan_round, names_numbers, names_rest, names_resumed}
 use Rattle.natives.proofs.NextNames.{IsChoice, finish-next, long_cells, taken}
@@ -70,7 +70,7 @@ module _ (m : Names) where
       ∙ ap (λ r. ends_round (seen_after r) (reading_after (seen_after r)) s) g
 
   -- a stage, with what the slots held
-  pub stage-told : (stage : Stage) (held : List ℕ) → padded 8 held ≡ m.seen → (s : Replies) → rest_at stage s ≡ names_resumed m.base m.slots m.slot m.registers (names_numbers m.later m.proposal stage ++ held) s
+  pub stage-told : (stage : Stage) (held : List ℕ) → spread 8 held ≡ m.seen → (s : Replies) → rest_at stage s ≡ names_resumed m.base m.slots m.slot m.registers (names_numbers m.later m.proposal stage ++ held) s
   stage-told Proposes held same s = ap (λ seen. from_scan_round m.base m.slots m.slot m.registers (suc m.later) m.proposal (cells_of seen) s) (sym same)
   stage-told Scans held same s = ap (λ seen. from_scan_round m.base m.slots m.slot m.registers (suc m.later) m.proposal (cells_of seen) (one 0 ∷ s)) (sym same)
   stage-told Named held same s = refl

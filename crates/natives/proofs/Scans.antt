@@ -9,7 +9,7 @@ use Rattle.regmodel.specs.Values.{Env, store_from}
 use Rattle.regmodel.specs.Reply.{Reply, Replies}
 use Rattle.regmodel.specs.Act.{Flow, GoesOn, Wants, Faults, exec, times, flow_pending, then_do}
 use Rattle.uses.specs.Expansions.{name_after, names_slot, names_round}
-use Rattle.natives.specs.Bits.{bit}
+use Rattle.machine.specs.Bits.{bit}
 use Rattle.natives.specs.declared.rounds.Reading.{Reading}
 use Rattle.natives.specs.Rounds.{cells_of, from_after, after_slot, after_slots, first_slot}
 use Rattle.natives.specs.ScannedNames.{scan_rounds, from_scan_round}

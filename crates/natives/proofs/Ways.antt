@@ -6,11 +6,11 @@ use Rattle.regmodel.specs.Reply.{Reply, Replies, value_of, one}
 use Rattle.natives.specs.declared.trees.Tree.{Tree}
 use Rattle.natives.specs.declared.trees.Stage.{Stage}
 use Rattle.natives.specs.declared.trees.Stage.TheVariants.{Marks, Signs, Tries, Closes, Looks, Leaves, Sees, Takes, Collected, Overfull, Over}
-use Rattle.natives.specs.Bits.{packed, unpacked}
+use Rattle.machine.specs.Bits.{packed, unpacked}
 use Rattle.natives.specs.Trees.{IsIn, below_reached, from_vertex, from_stop, from_past, from_at, tree_numbers, tree_rest, tree_resumed}
 use Rattle.natives.proofs.Collects.{IsTree, sees-unmarked, sees-marked, takes-empty, takes-value, takes-ninth}
 use Rattle.natives.proofs.Descents.{IsNode, from-open, from-right, from-down, from-stops, from_stop-past}
-use Rattle.natives.proofs.Packed.{unpacked-packed}
+use Rattle.machine.proofs.Packed.{unpacked-packed}
 use Rattle.natives.proofs.Powers.{below_within, within_last}
 
 module _ (m : Tree) where

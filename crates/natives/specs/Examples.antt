@@ -6,7 +6,7 @@ use Rattle.regmodel.specs.Reply.{one}
 use Rattle.uses.specs.Expansions.{split_program}
 use Rattle.natives.specs.declared.split.Stage.TheVariants as split
 use Rattle.natives.specs.Splits.{split_rest, split_resumed}
-use Rattle.natives.specs.Bits.{packed, unpacked}
+use Rattle.machine.specs.Bits.{packed, unpacked}
 use Rattle.natives.specs.Grids.{grid_from, grid_resumed}
 use Rattle.natives.specs.Rounds.{first_slot, after_slot, after_slots, number_from}
 use Rattle.natives.specs.Names.{from_reading, name_resumed}
@@ -92,10 +92,10 @@ split_looks = refl
 pub grid_tries : grid_resumed 0 2 1 6 (1 ∷ 0 ∷ 1 ∷ []) (one 1 ∷ []) ≡ Wants (Write 4 1)
 grid_tries = refl
 
-pub name_reads : name_resumed 0 2 0 2 (1 ∷ 98 ∷ 1 ∷ 1 ∷ 1 ∷ []) (one 0 ∷ []) ≡ Done (record { items = 1 ∷ [] })
+pub name_reads : name_resumed 0 2 0 2 (1 ∷ 98 ∷ 1 ∷ 1 ∷ 1 ∷ 0 ∷ []) (one 0 ∷ []) ≡ Done (record { items = 1 ∷ [] })
 name_reads = refl
 
-pub names_scan_now : names_resumed 0 2 1 2 (1 ∷ 98 ∷ 1 ∷ []) ((1 ∷ 1 ∷ []) ∷ []) ≡ Wants (Write 1 3)
+pub names_scan_now : names_resumed 0 2 1 2 (1 ∷ 98 ∷ 1 ∷ 1 ∷ 5 ∷ []) ((1 ∷ 1 ∷ []) ∷ []) ≡ Wants (Write 1 3)
 names_scan_now = refl
 
 pub reached_root : packed root ≡ 2

@@ -1,4 +1,3 @@
-pub mod Bits
 pub mod Examples
 pub mod Grids
 pub mod Names

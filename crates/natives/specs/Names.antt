@@ -6,8 +6,8 @@ use Rattle.regmodel.specs.Values.{Env}
 use Rattle.regmodel.specs.Act.{Flow, exec, times, then_do, flow_pending}
 use Rattle.regmodel.specs.Reply.{Replies}
 use Rattle.uses.specs.Expansions.{name_after, name_round, name_slot}
-use Rattle.machine.specs.Standings.{padded}
-use Rattle.natives.specs.Bits.{bit}
+use Rattle.machine.specs.Sparse.{spread}
+use Rattle.machine.specs.Bits.{bit}
 use Rattle.natives.specs.Rounds.{at_slot, cells_of, reading_number}
 use Rattle.natives.specs.declared.rounds.Reading.{Reading}
 use Rattle.natives.specs.declared.names.Stage.{Stage}
@@ -57,14 +57,14 @@ name_numbers later proposal (Reads reading) = reading_number reading.clash ∷ l
 name_numbers later proposal Named = 3 ∷ proposal ∷ []
 name_numbers later proposal Over = 4 ∷ []
 
--- what is pending after further replies, where it stands as these numbers tell: what the slots held comes behind those of a stage
--- in a round, without the zeros at the end
+-- what is pending after further replies, where it stands as these numbers tell: behind those of a stage in a round comes what the slots
+-- held, told by a mask and what is not 0
 abbrev pub name_resumed : ℕ → ℕ → ℕ → ℕ → List ℕ → Replies → Pending
 name_resumed base slots own registers (zero ∷ later ∷ proposal ∷ seen) s =
-    from_round base slots own registers (suc later) proposal (cells_of (padded 8 seen)) s
+    from_round base slots own registers (suc later) proposal (cells_of (spread 8 seen)) s
 name_resumed base slots own registers (suc zero ∷ later ∷ proposal ∷ at ∷ rank ∷ seen) s =
-    from_reading base slots own registers later proposal (padded 8 seen) (record { at = at; clash = false; rank = rank }) s
+    from_reading base slots own registers later proposal (spread 8 seen) (record { at = at; clash = false; rank = rank }) s
 name_resumed base slots own registers (suc (suc zero) ∷ later ∷ proposal ∷ at ∷ rank ∷ seen) s =
-    from_reading base slots own registers later proposal (padded 8 seen) (record { at = at; clash = true; rank = rank }) s
+    from_reading base slots own registers later proposal (spread 8 seen) (record { at = at; clash = true; rank = rank }) s
 name_resumed base slots own registers (suc (suc (suc zero)) ∷ proposal ∷ _) s = Done (record { items = proposal ∷ [] })
 name_resumed base slots own registers _ s = Done (record { items = [] })

@@ -6,7 +6,7 @@ use Rattle.regmodel.specs.Values.{Env}
 use Rattle.regmodel.specs.Act.{Flow, exec, times, flow_pending}
 use Rattle.regmodel.specs.Reply.{Replies, one}
 use Rattle.uses.specs.Expansions.{names_round}
-use Rattle.machine.specs.Standings.{padded}
+use Rattle.machine.specs.Sparse.{spread}
 use Rattle.natives.specs.Rounds.{at_slot, cells_of}
 use Rattle.natives.specs.declared.scanned_names.Stage.{Stage}
 use Rattle.natives.specs.declared.scanned_names.Stage.TheVariants.{Proposes, Scans, Named, Over}
@@ -34,12 +34,12 @@ names_numbers later proposal Scans = 1 ∷ later ∷ proposal ∷ []
 names_numbers later proposal Named = 2 ∷ proposal ∷ []
 names_numbers later proposal Over = 3 ∷ []
 
--- what is pending after further replies, where it stands as these numbers tell: what the slots held comes behind those of a stage
--- in a round, without the zeros at the end
+-- what is pending after further replies, where it stands as these numbers tell: behind those of a stage in a round comes what the slots
+-- held, told by a mask and what is not 0
 abbrev pub names_resumed : ℕ → ℕ → ℕ → ℕ → List ℕ → Replies → Pending
 names_resumed base slots own registers (zero ∷ later ∷ proposal ∷ seen) s =
-    from_scan_round base slots own registers (suc later) proposal (cells_of (padded 8 seen)) s
+    from_scan_round base slots own registers (suc later) proposal (cells_of (spread 8 seen)) s
 names_resumed base slots own registers (suc zero ∷ later ∷ proposal ∷ seen) s =
-    from_scan_round base slots own registers (suc later) proposal (cells_of (padded 8 seen)) (one 0 ∷ s)
+    from_scan_round base slots own registers (suc later) proposal (cells_of (spread 8 seen)) (one 0 ∷ s)
 names_resumed base slots own registers (suc (suc zero) ∷ proposal ∷ _) s = Done (record { items = proposal ∷ [] })
 names_resumed base slots own registers _ s = Done (record { items = [] })

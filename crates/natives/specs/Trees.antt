@@ -6,7 +6,7 @@ use Rattle.regmodel.specs.Values.{Env}
 use Rattle.regmodel.specs.Act.{Flow, exec, times, then_do, flow_pending}
 use Rattle.regmodel.specs.Reply.{Replies, one}
 use Rattle.uses.specs.Expansions.{tree_leave, tree_after, tree_descend, tree_collect, tree_look}
-use Rattle.natives.specs.Bits.{bit, packed, unpacked}
+use Rattle.machine.specs.Bits.{bit, packed, unpacked}
 use Rattle.natives.specs.declared.trees.Stage.{Stage}
 use Rattle.natives.specs.declared.trees.Stage.TheVariants.{Marks, Signs, Tries, Closes, Looks, Leaves, Sees, Takes, Collected, Overfull, Over}
 

@@ -11,9 +11,8 @@ ghost use Rattle.regmodel.specs.declared.limits.TheConstants.{MOST_REGISTERS, MO
 ghost use Rattle.natives.specs.Grids.{grid_from, grid_numbers};
 
 use crate::numbers::{done, done_with};
-use crate::told::put;
 use crate::{MakeFault, PAST_LIMIT};
-use machine::{Machine, Told, value_of};
+use machine::{Machine, Told, put, value_of};
 use regmodel::{Access, Pending};
 use uses::Use;
 

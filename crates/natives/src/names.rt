@@ -11,15 +11,14 @@ ghost use Rattle.natives.specs.declared.TheConstants.{PAST_LIMIT};
 ghost use Rattle.regmodel.specs.declared.limits.TheConstants.{MOST_REGISTERS, MOST_SLOTS};
 ghost use Rattle.natives.specs.declared.rounds.Reading.{Reading};
 ghost use Rattle.natives.specs.declared.names.Stage.TheVariants.{Reads};
-ghost use Rattle.natives.specs.Bits.{bit};
+ghost use Rattle.machine.specs.Bits.{bit};
 ghost use Rattle.natives.specs.Rounds.{at_slot, cells_of, from_after};
 ghost use Rattle.natives.specs.Names.{IsRead, from_reading, name_numbers, rounds_from};
 
 use crate::numbers::{done, done_with};
 use crate::rounds::{LATER, Reading, free_number};
-use crate::told::{put, used};
 use crate::{MakeFault, PAST_LIMIT};
-use machine::{Machine, Told, value_of};
+use machine::{Machine, Told, put, put_sparse, value_of};
 use regmodel::{Access, Pending};
 use uses::Use;
 
@@ -202,7 +201,7 @@ impl NameSlots {
     {
         self.put_stage(numbers)?;
         match self.stage {
-            Stage::Proposes | Stage::Reads(_) => put(&self.seen[..used(&self.seen)], numbers),
+            Stage::Proposes | Stage::Reads(_) => put_sparse(&self.seen, numbers),
             Stage::Named | Stage::Over => Some(()),
         }
     }

@@ -9,15 +9,14 @@ ghost use Rattle.uses.specs.Uses.{use_fits};
 ghost use Rattle.machine.specs.Telling.{Tells};
 ghost use Rattle.natives.specs.declared.TheConstants.{PAST_LIMIT};
 ghost use Rattle.regmodel.specs.declared.limits.TheConstants.{MOST_REGISTERS, MOST_SLOTS};
-ghost use Rattle.natives.specs.Bits.{bit};
+ghost use Rattle.machine.specs.Bits.{bit};
 ghost use Rattle.natives.specs.Rounds.{at_slot, cells_of, from_after};
 ghost use Rattle.natives.specs.ScannedNames.{scan_rounds, from_scan_round, names_numbers};
 
 use crate::numbers::{done, done_with};
 use crate::rounds::{LATER, Reading, free_number};
-use crate::told::{put, used};
 use crate::{MakeFault, PAST_LIMIT};
-use machine::{Machine, Told};
+use machine::{Machine, Told, put, put_sparse};
 use regmodel::{Access, Pending};
 use uses::Use;
 
@@ -149,7 +148,7 @@ impl Names {
     {
         self.put_stage(numbers)?;
         match self.stage {
-            Stage::Proposes | Stage::Scans => put(&self.seen[..used(&self.seen)], numbers),
+            Stage::Proposes | Stage::Scans => put_sparse(&self.seen, numbers),
             Stage::Named | Stage::Over => Some(()),
         }
     }

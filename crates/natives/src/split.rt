@@ -10,9 +10,8 @@ ghost use Rattle.regmodel.specs.declared.limits.TheConstants.{MOST_REGISTERS};
 ghost use Rattle.natives.specs.Splits.{split_stage};
 
 use crate::numbers::{done, done_with};
-use crate::told::put;
 use crate::{MakeFault, PAST_LIMIT};
-use machine::{Machine, Told, value_of};
+use machine::{Machine, Told, put, value_of};
 use regmodel::{Access, Pending};
 use uses::Use;
 

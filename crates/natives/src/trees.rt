@@ -13,9 +13,9 @@ ghost use Rattle.natives.specs.declared.trees.Stage.TheVariants.{Sees, Takes};
 ghost use Rattle.natives.specs.Trees.{IsIn, collect_numbers, tree_numbers, below_reached, from_vertex, from_past, from_at, from_next};
 
 use crate::numbers::done;
-use crate::told::{packed, put};
+use crate::told::packed;
 use crate::{MakeFault, PAST_LIMIT};
-use machine::{Machine, Told, value_of};
+use machine::{Machine, Told, put, value_of};
 use regmodel::{Access, Numbers, Pending};
 use uses::Use;
 

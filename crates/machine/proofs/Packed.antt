@@ -1,6 +1,6 @@
 -- Tests as bits of a number.
 use Rattle.std.proofs.Common.{◌≡◌, ℕ, zero, suc, ◌+◌, ◌*◌, Bool, true, false, List, [], ◌∷◌, length, refl, ap, ◌∙◌, arith}
-use Rattle.natives.specs.Bits.{bit, half, low, packed, unpacked}
+use Rattle.machine.specs.Bits.{bit, half, low, packed, unpacked}
 
 low-twice : (test : Bool) (n : ℕ) → low (n * 2 + bit test) ≡ test
 low-twice true zero = refl

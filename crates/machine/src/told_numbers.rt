@@ -1,0 +1,50 @@
+//! How numbers are told: as they are, or where most of them are 0, by a mask and the other ones.
+
+ghost use Rattle.std.specs.Prelude.{◌≡◌, ◌≤◌, ◌++◌, IfSome, length};
+ghost use Rattle.machine.specs.Sparse.{filled, mask_of, sparse};
+
+use crate::Told;
+
+/// Puts these behind the numbers, where there is room.
+pub fn put(values: &[u32], numbers: &mut Told) -> Option<()>
+    ensures { IfSome result (λ _. numbers.new.items ≡ numbers.old.items ++ values.now) }
+{
+    numbers.try_extend_from_slice(values).ok()
+}
+
+/// Puts at most 32 values of which most are 0 behind the numbers, where there is room: a number whose bit i tells whether value i
+/// is not 0, and then the values that are not 0.
+pub fn put_sparse(values: &[u32], numbers: &mut Told) -> Option<()>
+    requires { length values.now ≤ 32 }
+    ensures { IfSome result (λ _. numbers.new.items ≡ numbers.old.items ++ sparse values.now) }
+{
+    put(&[mask(values)], numbers)?;
+    put_filled(values, numbers)
+}
+
+/// Which of at most 32 values are not 0, as the bits of a number.
+fn mask(values: &[u32]) -> u32
+    requires { length values.now ≤ 32 }
+    ensures { result ≡ mask_of values.now }
+{
+    let mut mask = 0;
+    let mut from = values.len();
+    while from > 0 {
+        from -= 1;
+        mask = mask * 2 + u32::from(values[from] != 0);
+    }
+    mask
+}
+
+/// Puts the values that are not 0 behind the numbers, where there is room.
+fn put_filled(values: &[u32], numbers: &mut Told) -> Option<()>
+    ensures { IfSome result (λ _. numbers.new.items ≡ numbers.old.items ++ filled values.now) }
+{
+    let Some((value, further)) = values.split_first() else {
+        return Some(());
+    };
+    if *value != 0 {
+        put(&[*value], numbers)?;
+    }
+    put_filled(further, numbers)
+}
