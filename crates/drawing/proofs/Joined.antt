@@ -35,5 +35,5 @@ fault-in f n count {old = old} {new = new} {kept = kept} {left = left} {code = c
     subst (λ (text : List ℕ). Puts old kept new left text (Some code)) (sym parts) (fault_before (after_text before here) (joined (λ i. f (n + 1 + i)) rest))
 
 -- the table of its own widths is the drawing
-pub table-drawn : (all : Bool) (picture : Picture) (wide : List ℕ) (columns : ℕ) → wide ≡ widths picture → columns ≡ columns_shown all picture wide → table_text picture wide columns ≡ drawing_text all picture
-table-drawn all picture wide columns made shown = ap (table_text picture wide) shown ∙ ap (λ ws. table_text picture ws (columns_shown all picture ws)) made
+pub table-drawn : (all : Bool) (picture : Picture) (wide columns : List ℕ) → wide ≡ widths picture → columns ≡ columns_shown picture wide all → table_text picture wide columns ≡ drawing_text all picture
+table-drawn all picture wide columns made shown = ap (table_text picture wide) shown ∙ ap (λ ws. table_text picture ws (columns_shown picture ws all)) made

@@ -1,5 +1,6 @@
 mod Growing
 mod Joined
+mod Kept
 mod Placing
 mod Rows
 mod Wanted

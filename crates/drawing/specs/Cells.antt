@@ -24,9 +24,13 @@ abbrev pub text_at : {X : Type 0} → (X → List ℕ) → Option X → List ℕ
 text_at text (Some x) = text x
 text_at text None = []
 
+-- what a row's letter did; a mark follows where its process is at fault after it
+abbrev pub row_text : Row → List ℕ
+row_text row = deed_text row.deed ++ (if row.is_at_fault then codes " !" else [])
+
 -- of one letter's row, the cell of process p: what the letter did, where it is one of p
 abbrev pub deed_cell : ℕ → Row → List ℕ
-deed_cell p row = if row.process == p then deed_text row.deed else []
+deed_cell p row = if row.process == p then row_text row else []
 
 -- the column of the letters' numbers
 abbrev pub number_cell : Picture → ℕ → List ℕ

@@ -1,5 +1,5 @@
 -- The text of a drawing.
-use Rattle.std.specs.Prelude.{ℕ, zero, suc, ◌+◌, ◌-◌, ◌==◌, Bool, List, [], ◌++◌, length, codes, decimal, if◌then◌else◌, nat_lt, get_or}
+use Rattle.std.specs.Prelude.{ℕ, zero, suc, ◌+◌, ◌-◌, ◌==◌, Bool, List, [], ◌++◌, length, codes, decimal, if◌then◌else◌, get_or}
 use Rattle.drawing.specs.declared.layout.TheConstants.{PARTING}
 use Rattle.drawing.specs.Cells.{cell_text}
 use Rattle.drawing.specs.Layout.{columns_shown, line_count, widths}
@@ -31,29 +31,31 @@ gap_before width cell (suc column) = gap_past (gap_before width cell column) (wi
 abbrev pub line_text : (ℕ → ℕ) → (ℕ → List ℕ) → ℕ → List ℕ
 line_text width cell columns = joined (λ column. placed (gap_before width cell column) (cell column)) columns ++ codes "\n"
 
--- up to which register, where more than one is left out
-abbrev pub to_last_text : ℕ → ℕ → List ℕ
-to_last_text first registers = if first + 1 == registers then [] else codes " to r" ++ decimal (registers - 1)
-
--- which registers are left out, where some are
+-- how many of the registers are left out, where some are
 abbrev pub left_out_text : ℕ → ℕ → List ℕ
-left_out_text first registers =
-    if nat_lt first registers then codes "left out: r" ++ decimal first ++ to_last_text first registers ++ codes "; regtry show --all draws all\n" else []
+left_out_text left registers =
+    if left == 0 then [] else codes "left out: " ++ decimal left ++ codes " of " ++ decimal registers ++ codes " registers; regtry show --all draws all\n"
 
--- a line of a drawing in columns of these widths, the first so many of them
-abbrev pub table_line : Picture → List ℕ → ℕ → ℕ → List ℕ
-table_line picture wide columns line = line_text (λ column. get_or wide column 0) (cell_text picture line) columns
+-- how wide the column at a place is
+abbrev pub width_at : List ℕ → List ℕ → ℕ → ℕ
+width_at wide columns place = get_or wide (get_or columns place 0) 0
+
+-- the text of a line in the column at a place
+abbrev pub text_at : Picture → List ℕ → ℕ → ℕ → List ℕ
+text_at picture columns line place = cell_text picture line (get_or columns place 0)
+
+-- a line of a drawing in these columns, each of its width
+abbrev pub table_line : Picture → List ℕ → List ℕ → ℕ → List ℕ
+table_line picture wide columns line = line_text (width_at wide columns) (text_at picture columns line) (length columns)
 
 -- its lines
-abbrev pub table_lines : Picture → List ℕ → ℕ → List ℕ
+abbrev pub table_lines : Picture → List ℕ → List ℕ → List ℕ
 table_lines picture wide columns = joined (table_line picture wide columns) (line_count picture)
 
--- its text: the lines, and which registers are left out
-abbrev pub table_text : Picture → List ℕ → ℕ → List ℕ
-table_text picture wide columns =
-    table_lines picture wide columns
-    ++ left_out_text (columns - 1 - length picture.ends) (length picture.start)
+-- its text: the lines, and how many registers are left out
+abbrev pub table_text : Picture → List ℕ → List ℕ → List ℕ
+table_text picture wide columns = table_lines picture wide columns ++ left_out_text (length wide - length columns) (length picture.start)
 
 -- the text of a drawing, with all registers or with those that fit
 abbrev pub drawing_text : Bool → Picture → List ℕ
-drawing_text all picture = table_text picture (widths picture) (columns_shown all picture (widths picture))
+drawing_text all picture = table_text picture (widths picture) (columns_shown picture (widths picture) all)

@@ -8,8 +8,9 @@ use Rattle.regmodel.specs.Examples.{scans_two, two_writers, writer_and_reader}
 use Rattle.regmodel.specs.Replies.{value_after}
 use Rattle.drawing.specs.declared.drawings.Deed.TheVariants as deed
 use Rattle.drawing.specs.declared.drawings.Held.{Held}
+use Rattle.drawing.specs.Cells.{row_text}
 use Rattle.drawing.specs.DrawingText.{drawing_text, left_out_text}
-use Rattle.drawing.specs.Layout.{columns_within}
+use Rattle.drawing.specs.Layout.{columns_shown}
 use Rattle.drawing.specs.Pictures.{IsPictureOf, Picture, deed_by}
 use Rattle.drawing.specs.Registers.{all_held}
 
@@ -39,8 +40,8 @@ abbrev both : Picture
 both = record {
   start = kept 0 ∷ [];
   rows =
-      record { number = 1; process = 0; deed = deed.Write 0 5; registers = record { items = changed_to 5 ∷ [] } }
-      ∷ record { number = 2; process = 1; deed = deed.Read 0 5; registers = record { items = kept 5 ∷ [] } } ∷ [];
+      record { number = 1; process = 0; deed = deed.Write 0 5; is_at_fault = false; registers = record { items = changed_to 5 ∷ [] } }
+      ∷ record { number = 2; process = 1; deed = deed.Read 0 5; is_at_fault = false; registers = record { items = kept 5 ∷ [] } } ∷ [];
   ends =
       record { started = true; fate = end.Done (record { items = [] }) }
       ∷ record { started = true; fate = end.Done (record { items = 5 ∷ [] }) } ∷ [];
@@ -50,8 +51,8 @@ pub picture_of_both : IsPictureOf writer_and_reader 1 (Run 0 ∷ Run 1 ∷ []) b
 picture_of_both = record {
   start = refl;
   rows = (
-    record { number = refl; process = refl; deed = refl; registers_are = refl },
-    (record { number = refl; process = refl; deed = refl; registers_are = refl }, tt),
+    record { number = refl; process = refl; deed = refl; at_fault = refl; registers_are = refl },
+    (record { number = refl; process = refl; deed = refl; at_fault = refl; registers_are = refl }, tt),
   );
   ends = refl;
 }
@@ -60,18 +61,29 @@ pub text_of_both : drawing_text false both ≡ codes "step  process 0  process 1
 unfolding digits
 text_of_both = refl
 
+-- ---- a fault
+
+pub a_fault_is_marked : row_text (record { number = 1; process = 0; deed = deed.Write 0 5; is_at_fault = true; registers = record { items = [] } }) ≡ codes "write 0 5 !"
+unfolding digits
+a_fault_is_marked = refl
+
 -- ---- what is left out
 
--- of columns of width 9, the first two fixed, 3 fit into 31 places, and 2 stand where fewer do
-pub three_fit : columns_within (λ column. 9) 31 2 5 ≡ 3
-three_fit = refl
+-- a writer of 5 to the last of three registers
+abbrev last_of_three : Picture
+last_of_three = record {
+  start = kept 0 ∷ kept 0 ∷ kept 0 ∷ [];
+  rows = record { number = 1; process = 0; deed = deed.Write 2 5; is_at_fault = false; registers = record { items = kept 0 ∷ kept 0 ∷ changed_to 5 ∷ [] } } ∷ [];
+  ends = record { started = true; fate = end.Done (record { items = [] }) } ∷ [];
+}
 
-pub two_are_fixed : columns_within (λ column. 9) 10 2 5 ≡ 2
-two_are_fixed = refl
+-- in columns of width 30 two fit beside the letter's number: that of the process, and that of the register which changes
+pub the_one_that_changes_is_kept : columns_shown last_of_three (30 ∷ 30 ∷ 10 ∷ 30 ∷ 10 ∷ []) false ≡ 0 ∷ 1 ∷ 4 ∷ []
+the_one_that_changes_is_kept = refl
 
-pub two_left_out : left_out_text 62 64 ≡ codes "left out: r62 to r63; regtry show --all draws all\n"
+pub all_are_shown : columns_shown last_of_three (30 ∷ 30 ∷ 10 ∷ 30 ∷ 10 ∷ []) true ≡ 0 ∷ 1 ∷ 2 ∷ 3 ∷ 4 ∷ []
+all_are_shown = refl
+
+pub text_of_two_left_out : left_out_text 2 3 ≡ codes "left out: 2 of 3 registers; regtry show --all draws all\n"
 unfolding digits
-two_left_out = refl
-
-pub none_left_out : left_out_text 64 64 ≡ []
-none_left_out = refl
+text_of_two_left_out = refl

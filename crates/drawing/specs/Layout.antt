@@ -1,8 +1,9 @@
 -- How wide the columns of a drawing are, and how many are shown.
-use Rattle.std.specs.Prelude.{ℕ, zero, suc, ◌+◌, Bool, ◌||◌, List, length, map, max, nat_le, if◌then◌else◌, get_or}
-use Rattle.std.specs.List.{range_with_len}
+use Rattle.std.specs.Prelude.{ℕ, zero, suc, ◌+◌, ◌-◌, Bool, true, false, ◌||◌, not, List, filter, length, map, max, nat_le, nat_lt, Some, None, if◌then◌else◌, get_or, slice_get}
+use Rattle.std.specs.List.{list_any, range_with_len}
 use Rattle.drawing.specs.declared.layout.TheConstants.{NARROW, PARTING, WIDE}
 use Rattle.drawing.specs.Cells.{cell_text}
+use Rattle.drawing.specs.declared.drawings.Row.{Row}
 use Rattle.drawing.specs.Pictures.{Picture}
 
 -- the greatest of f 0, f 1 and so on, n of them; 0 where there is none
@@ -26,23 +27,47 @@ width_of picture column = greatest (λ line. length (cell_text picture line colu
 abbrev pub widths : Picture → List ℕ
 widths picture = map (width_of picture) (range_with_len 0 (column_count picture))
 
--- where a line of so many columns ends, with what parts each column from the next
-abbrev pub line_end : (ℕ → ℕ) → ℕ → ℕ
-line_end width zero = 0
-line_end width (suc n) = line_end width n + width n + PARTING
+-- how many columns stand in any case: those of the letters' numbers and of the processes
+abbrev pub fixed_columns : Picture → ℕ
+fixed_columns picture = 1 + length picture.ends
 
--- of so many columns those that fit into a line of so many places; the first ones, as many as are fixed, stand in any case
-abbrev pub columns_within : (ℕ → ℕ) → ℕ → ℕ → ℕ → ℕ
-columns_within width places fixed zero = 0
-columns_within width places fixed (suc n) =
-    if nat_le (suc n) fixed || nat_le (line_end width (suc n)) (places + PARTING) then suc n else columns_within width places fixed n
+-- whether a row's letter changes a register
+abbrev pub changes : ℕ → Row → Bool
+changes register row = elim (slice_get row.registers.items register) [ Some held ↦ held.changed | None ↦ false ]
+
+-- whether a letter changes a register
+abbrev pub is_changed : Picture → ℕ → Bool
+is_changed picture register = list_any (changes register) picture.rows
+
+-- the columns that are kept first where not all fit: those that stand in any case, and those of registers that change
+abbrev pub is_kept_first : Picture → ℕ → Bool
+is_kept_first picture column = nat_lt column (fixed_columns picture) || is_changed picture (column - fixed_columns picture)
+
+-- whether a column is one of those, or one of the others
+abbrev pub is_of : Picture → Bool → ℕ → Bool
+is_of picture first column = if is_kept_first picture column then first else not first
+
+-- how much of a line the first so many columns take, of those that are kept first or of the others, each with what parts it from the next
+abbrev pub room_of : Picture → List ℕ → Bool → ℕ → ℕ
+room_of picture wide first zero = 0
+room_of picture wide first (suc n) = room_of picture wide first n + (if is_of picture first n then get_or wide n 0 + PARTING else 0)
+
+-- where the line would end with a column and all those that are kept before it: of its own kind those to its left, and all that are kept first
+abbrev pub end_with : Picture → List ℕ → ℕ → ℕ
+end_with picture wide column =
+    if is_kept_first picture column then room_of picture wide true (column + 1)
+    else room_of picture wide true (length wide) + room_of picture wide false (column + 1)
 
 -- how long a line may be
 abbrev pub places_for : ℕ → ℕ
 places_for processes = if nat_le processes 2 then NARROW else WIDE
 
--- how many columns are shown: all of them, or without the last registers, which do not fit
-abbrev pub columns_shown : Bool → Picture → List ℕ → ℕ
-columns_shown all picture wide =
-    if all then column_count picture
-    else columns_within (λ column. get_or wide column 0) (places_for (length picture.ends)) (1 + length picture.ends) (column_count picture)
+-- whether a column is shown: all are, or it stands in any case, or the line has room for it and those that are kept before it
+abbrev pub is_shown : Picture → List ℕ → Bool → ℕ → Bool
+is_shown picture wide all column =
+    all || nat_lt column (fixed_columns picture)
+    || nat_le (end_with picture wide column) (places_for (length picture.ends) + PARTING)
+
+-- the columns that are shown
+abbrev pub columns_shown : Picture → List ℕ → Bool → List ℕ
+columns_shown picture wide all = filter (is_shown picture wide all) (range_with_len 0 (length wide))

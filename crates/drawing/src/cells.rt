@@ -3,7 +3,6 @@
 ghost use Rattle.std.specs.Prelude.{◌≡◌, ◌≤◌, ◌<◌, ◌+◌, ◌++◌, [], codes, decimal, length};
 ghost use Rattle.texts.specs.OutcomeText.{end_text, fate_text};
 ghost use Rattle.drawing.specs.Cells as texts;
-ghost use Rattle.drawing.specs.DrawingText.{left_out_text, to_last_text};
 ghost use Rattle.drawing.specs.Layout.{column_count, line_count};
 
 use crate::drawings::{Deed, Drawing, Held, Row};
@@ -77,7 +76,8 @@ impl Cell {
 
 /// What a letter did.
 fn deed_cell(deed: Deed) -> Cell
-    ensures { result ≡ texts.deed_text deed }
+    ensures text { result ≡ texts.deed_text deed }
+    ensures long { length result ≤ 30 }
 {
     match deed {
         Deed::Read(r, value) => Cell::new()
@@ -96,6 +96,18 @@ fn deed_cell(deed: Deed) -> Cell
             .with(b" ")
             .with_number(u32::from(count)),
         Deed::Crash => Cell::new().with(b"crash"),
+    }
+}
+
+/// What a row's letter did, and a mark where its process is at fault after it.
+fn row_cell(row: &Row) -> Cell
+    ensures { result ≡ texts.row_text row.now }
+{
+    let cell = deed_cell(row.deed);
+    if row.is_at_fault {
+        cell.with(b" !")
+    } else {
+        cell
     }
 }
 
@@ -136,33 +148,6 @@ fn end_cell(end: &ProcEnd) -> Cell
     } else {
         cell.with(b" idle")
     }
-}
-
-/// Which registers are left out, where some are.
-pub(crate) fn left_out_cell(first: usize, registers: usize) -> Cell
-    requires { registers ≤ 64 }
-    ensures { result ≡ left_out_text first registers }
-{
-    if first >= registers {
-        return Cell::new();
-    }
-    let from = Cell::new().with(b"left out: r").with_number(first as u32);
-    let last = to_last(from, first, registers);
-    last.with(b"; regtry show --all draws all\n")
-}
-
-/// The same, and up to which register, where more than one is left out.
-fn to_last(from: Cell, first: usize, registers: usize) -> Cell
-    requires some { first < registers }
-    requires few { registers ≤ 64 }
-    requires room { length from ≤ 30 }
-    ensures text { result ≡ from ++ to_last_text first registers }
-    ensures long { length result ≤ length from + 15 }
-{
-    if first + 1 == registers {
-        return from;
-    }
-    from.with(b" to r").with_number(registers as u32 - 1)
 }
 
 impl Drawing {
@@ -224,7 +209,7 @@ impl Drawing {
             return Cell::new();
         }
         match self.rows().get(line - 2) {
-            Some(row) if usize::from(row.process) == p => deed_cell(row.deed),
+            Some(row) if usize::from(row.process) == p => row_cell(row),
             Some(_) => Cell::new(),
             None => match self.ends().get(p) {
                 Some(end) => end_cell(end),

@@ -38,8 +38,24 @@ pub struct Row {
     pub process: u8,
     /// What the letter did.
     pub deed: Deed,
+    /// Whether its process is at fault after it.
+    pub is_at_fault: bool,
     /// What each register holds after it, registers from 0.
     pub registers: ArrayVec<Held, 64>,
+}
+
+impl Row {
+    ghost use Rattle.drawing.specs.Layout as layout;
+
+    /// Whether its letter changes a register.
+    pub(crate) fn changes(&self, register: usize) -> bool
+        ensures { result ≡ layout.changes register self.now }
+    {
+        match self.registers.get(register) {
+            Some(held) => held.changed,
+            None => false,
+        }
+    }
 }
 
 /// What is drawn of a schedule: what each register holds before its first letter, a row a letter, and how each process stands
@@ -97,6 +113,13 @@ impl Drawing {
         ensures few { length result.now ≤ 64 }
     {
         self.rows.as_slice()
+    }
+
+    /// How all processes stand at the end.
+    pub fn outcome(&self) -> &Outcome
+        ensures { result.now ≡ self.now.ends }
+    {
+        &self.outcome
     }
 
     /// How each process stands at the end, processes from 0.

@@ -1,6 +1,7 @@
 //! How wide the columns of a drawing are, and how many are shown.
 
-ghost use Rattle.std.specs.Prelude.{◌≡◌, ◌≤◌, ◌<◌, ◌*◌, get_or, length};
+ghost use Rattle.std.specs.Prelude.{◌≡◌, ◌≤◌, ◌<◌, ◌*◌, All, length};
+ghost use Rattle.drawing.specs.declared.cells.TheConstants.{MOST_COLUMNS};
 ghost use Rattle.drawing.specs.Layout as layout;
 
 use crate::cells::MOST_COLUMNS;
@@ -33,6 +34,7 @@ fn width_of(drawing: &Drawing, column: usize) -> u8
 pub(crate) fn widths_of(drawing: &Drawing) -> ArrayVec<u8, MOST_COLUMNS>
     ensures widths { result.items ≡ layout.widths drawing.now }
     ensures each { length result.items ≡ layout.column_count drawing.now }
+    ensures few { length result.items ≤ MOST_COLUMNS }
 {
     let mut widths = ArrayVec::new();
     for column in 0..drawing.columns() {
@@ -41,48 +43,86 @@ pub(crate) fn widths_of(drawing: &Drawing) -> ArrayVec<u8, MOST_COLUMNS>
     widths
 }
 
-/// Where a line of columns of these widths ends, with what parts each column from the next.
-fn line_end(widths: &[u8]) -> usize
-    requires { length widths.now ≤ MOST_COLUMNS }
-    ensures { result ≡ layout.line_end (λ column. get_or widths.now column 0) (length widths.now) }
+/// Whether a column is one of those that are kept first where not all fit: those of the letters' numbers and of the processes, and those of
+/// registers that a letter changes.
+fn is_kept_first(drawing: &Drawing, column: usize) -> bool
+    ensures { result ≡ layout.is_kept_first drawing.now column }
 {
-    let mut end = 0;
-    for width in widths {
-        end += usize::from(*width) + PARTING;
-    }
-    end
+    let fixed = fixed_columns(drawing);
+    column < fixed || is_changed(drawing, column - fixed)
 }
 
-/// How many of the columns are shown: all of them, or without the last registers, which do not fit.
-pub(crate) fn columns_shown(drawing: &Drawing, widths: &[u8], all: bool) -> usize
-    requires each { length widths.now ≡ layout.column_count drawing.now }
+/// Whether a letter changes a register.
+fn is_changed(drawing: &Drawing, register: usize) -> bool
+    ensures { result ≡ layout.is_changed drawing.now register }
+{
+    drawing.rows().iter().any(|row| row.changes(register))
+}
+
+/// How many columns stand in any case: those of the letters' numbers and of the processes.
+fn fixed_columns(drawing: &Drawing) -> usize
+    ensures value { result ≡ layout.fixed_columns drawing.now }
+    ensures few { result ≤ MOST_COLUMNS }
+{
+    1 + drawing.ends().len()
+}
+
+/// How much of a line the first so many columns take, of those that are kept first or of the others, each with what parts it from the next.
+fn room_of(drawing: &Drawing, widths: &[u8], first: bool, columns: usize) -> usize
+    requires there { columns ≤ length widths.now }
     requires few { length widths.now ≤ MOST_COLUMNS }
-    ensures value { result ≡ layout.columns_shown all drawing.now widths.now }
-    ensures few { result ≤ length widths.now }
+    ensures value { result ≡ layout.room_of drawing.now widths.now first columns }
+    ensures few { result ≤ 257 * MOST_COLUMNS }
+{
+    let mut room = 0;
+    for column in 0..columns {
+        if is_kept_first(drawing, column) == first {
+            room += usize::from(widths[column]) + PARTING;
+        }
+    }
+    room
+}
+
+/// Where the line would end with a column and all those that are kept before it.
+fn end_with(drawing: &Drawing, widths: &[u8], column: usize) -> usize
+    requires there { column < length widths.now }
+    requires few { length widths.now ≤ MOST_COLUMNS }
+    ensures { result ≡ layout.end_with drawing.now widths.now column }
+{
+    if is_kept_first(drawing, column) {
+        return room_of(drawing, widths, true, column + 1);
+    }
+    room_of(drawing, widths, true, widths.len()) + room_of(drawing, widths, false, column + 1)
+}
+
+/// Whether a column is shown.
+fn is_shown(drawing: &Drawing, widths: &[u8], all: bool, column: usize) -> bool
+    requires there { column < length widths.now }
+    requires few { length widths.now ≤ MOST_COLUMNS }
+    ensures { result ≡ layout.is_shown drawing.now widths.now all column }
 {
     let processes = drawing.ends().len();
     let places = if processes <= 2 { NARROW } else { WIDE };
-    if all {
-        drawing.columns()
-    } else {
-        columns_within(widths, places, 1 + processes)
-    }
+    all || column < fixed_columns(drawing) || end_with(drawing, widths, column) <= places + PARTING
 }
 
-/// Of these columns those that fit into a line of so many places; the first ones, as many as are fixed, stand in any case.
-fn columns_within(widths: &[u8], places: usize, fixed: usize) -> usize
+/// The columns that are shown, rising: all of them, or without registers that do not fit, of which those that change are kept first.
+pub(crate) fn columns_shown(
+    drawing: &Drawing,
+    widths: &[u8],
+    all: bool,
+) -> ArrayVec<u8, MOST_COLUMNS>
+    requires each { length widths.now ≡ layout.column_count drawing.now }
     requires few { length widths.now ≤ MOST_COLUMNS }
-    requires short { places ≤ WIDE }
-    ensures value { result
-        ≡ layout.columns_within (λ column. get_or widths.now column 0) places fixed
-        (length widths.now) }
-    ensures few { result ≤ length widths.now }
+    ensures value { result.items ≡ layout.columns_shown drawing.now widths.now all }
+    ensures there { All (λ column. column < length widths.now) result.items }
+    ensures few { length result.items ≤ MOST_COLUMNS }
 {
-    let mut columns = widths.len();
-    let mut end = line_end(widths);
-    while columns > fixed && end > places + PARTING {
-        columns -= 1;
-        end -= usize::from(widths[columns]) + PARTING;
+    let mut shown = ArrayVec::new();
+    for column in 0..widths.len() {
+        if is_shown(drawing, widths, all, column) {
+            shown.push(column as u8);
+        }
     }
-    columns
+    shown
 }

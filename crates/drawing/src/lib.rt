@@ -12,4 +12,4 @@ mod writing;
 
 pub use drawings::{Deed, Drawing, Held, Row};
 pub use following::draw;
-pub use writing::{Drawn, write_drawing};
+pub use writing::Drawn;

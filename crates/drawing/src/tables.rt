@@ -1,34 +1,56 @@
 //! The lines of a drawing, in columns.
 
-ghost use Rattle.std.specs.Prelude.{◌≤◌, length};
-ghost use Rattle.drawing.specs.DrawingText.{table_line, table_lines, table_text};
+ghost use Rattle.std.specs.Prelude.{◌≤◌, ◌<◌, All, length};
+ghost use Rattle.drawing.specs.DrawingText.{left_out_text, table_line, table_lines, table_text};
 ghost use Rattle.drawing.specs.declared.cells.TheConstants.{MOST_COLUMNS};
 
-use crate::cells::{MOST_COLUMNS, left_out_cell};
+use crate::cells::MOST_COLUMNS;
 use crate::drawings::Drawing;
 use crate::gaps::{Placed, gap_past};
 use std::io::Write;
 use texts::{Block, Text, WriteFault};
 
-/// A drawing in columns of these widths, the first so many of them.
+/// A drawing in these columns, rising, each of its width.
 #[derive(Clone, Copy)]
 pub(crate) struct Table<'a> {
     pub(crate) drawing: &'a Drawing,
     pub(crate) widths: &'a [u8],
-    pub(crate) columns: usize,
-    ghost there: { columns ≤ length widths.now },
-    ghost few: { length widths.now ≤ MOST_COLUMNS },
+    pub(crate) columns: &'a [u8],
+    ghost few: { length columns.now ≤ MOST_COLUMNS },
+    ghost wide: { length widths.now ≤ MOST_COLUMNS },
+    ghost there: { All (λ column. column < length widths.now) columns.now },
 }
 
-/// The lines, and which registers are left out.
+/// The lines, and how many registers are left out.
 impl Text for Table<'_> {
-    ghost text = { λ t. table_text t.drawing.now t.widths.now t.columns };
+    ghost text = { λ t. table_text t.drawing.now t.widths.now t.columns.now };
 
     fn put<W: Write>(&self, out: &mut W, block: &mut Block) -> Result<(), WriteFault> {
-        let processes = self.drawing.ends().len();
-        let shown = self.columns.saturating_sub(1 + processes);
-        let left_out = left_out_cell(shown, self.drawing.start().len());
-        (Lines(*self), left_out.bytes()).put(out, block)
+        let left_out = LeftOut {
+            left: self.widths.len().saturating_sub(self.columns.len()),
+            registers: self.drawing.start().len(),
+        };
+        (Lines(*self), left_out).put(out, block)
+    }
+}
+
+/// How many of the registers are left out, where some are.
+#[derive(Clone, Copy)]
+struct LeftOut {
+    left: usize,
+    registers: usize,
+}
+
+impl Text for LeftOut {
+    ghost text = { λ l. left_out_text l.left l.registers };
+
+    fn put<W: Write>(&self, out: &mut W, block: &mut Block) -> Result<(), WriteFault> {
+        if self.left == 0 {
+            return Ok(());
+        }
+        let (left, registers) = (self.left as u64, self.registers as u64);
+        let all = " registers; regtry show --all draws all\n";
+        ("left out: ", left, " of ", registers, all).put(out, block)
     }
 }
 
@@ -37,7 +59,7 @@ impl Text for Table<'_> {
 struct Lines<'a>(Table<'a>);
 
 impl Text for Lines<'_> {
-    ghost text = { λ l. table_lines l.0.drawing.now l.0.widths.now l.0.columns };
+    ghost text = { λ l. table_lines l.0.drawing.now l.0.widths.now l.0.columns.now };
 
     fn put<W: Write>(&self, out: &mut W, block: &mut Block) -> Result<(), WriteFault> {
         let table = self.0;
@@ -56,13 +78,14 @@ struct TableLine<'a> {
 }
 
 impl Text for TableLine<'_> {
-    ghost text = { λ l. table_line l.table.drawing.now l.table.widths.now l.table.columns l.line };
+    ghost text = { λ l. table_line l.table.drawing.now l.table.widths.now l.table.columns.now l.line };
 
     fn put<W: Write>(&self, out: &mut W, block: &mut Block) -> Result<(), WriteFault> {
         let table = self.table;
         let widths = table.widths;
         let mut gap = 0;
-        for column in 0..table.columns {
+        for place in 0..table.columns.len() {
+            let column = usize::from(table.columns[place]);
             let cell = table.drawing.cell(self.line, column);
             Placed { gap, cell: &cell }.put(out, block)?;
             gap = gap_past(gap, widths[column], &cell);

@@ -1,25 +1,16 @@
 //! The text of a drawing. No call takes memory.
 
-ghost use Rattle.texts.specs.Appending.{Wrote};
 ghost use Rattle.drawing.specs.DrawingText.{drawing_text};
 
 use crate::drawings::Drawing;
 use crate::layout::{columns_shown, widths_of};
 use crate::tables::Table;
 use std::io::Write;
-use texts::{Block, Text, WriteFault, write};
+use texts::{Block, Text, WriteFault};
 
-/// Writes the text of a drawing: a header, a line with what each register holds at the start, a line a letter, and a line with how each
-/// process stands at the end. A line is at most 80 places long where there are at most two processes, else 132, as far as leaving out the last
-/// registers can bring that about; a last line says which are left out. With `all` none is. After a fault the writer has taken a
-/// beginning of the text.
-pub fn write_drawing<W: Write>(drawing: &Drawing, all: bool, out: &mut W) -> Result<(), WriteFault>
-    ensures { Wrote W.contents out.old out.new (drawing_text all drawing.now) result }
-{
-    write(&Drawn { drawing, all }, out)
-}
-
-/// A drawing, with all registers or with those that fit.
+/// The text of a drawing: a header, a line with what each register holds at the start, a line a letter, and a line with how each
+/// process stands at the end. A line is at most 80 places long where there are at most two processes, else 132, as far as leaving out
+/// registers can bring that about, first of those that no letter changes, and each time the last one; a last line says how many are left out.
 #[derive(Clone, Copy)]
 pub struct Drawn<'a> {
     /// The drawing.
@@ -37,7 +28,7 @@ impl Text for Drawn<'_> {
         let table = Table {
             drawing: self.drawing,
             widths: widths.as_slice(),
-            columns,
+            columns: columns.as_slice(),
         };
         table.put(out, block)
     }

@@ -1,5 +1,5 @@
 -- The line of the first check that an outcome breaks, and that a schedule has no letter that is refused.
-use Rattle.std.proofs.Common.{◌≡◌, ℕ, suc, ◌<◌, Bool, true, false, cond, not, List, ◌++◌, length, get_or, take, drop, drop-cons, Option, Some, None, IfSome, MatchOption, slice_get, refl, ap, sym, subst, ◌∙◌}
+use Rattle.std.proofs.Common.{◌≡◌, ℕ, suc, ◌<◌, Bool, true, false, cond, List, ◌++◌, length, get_or, take, drop, drop-cons, Option, Some, None, IfSome, MatchOption, slice_get, refl, ap, sym, subst, ◌∙◌}
 use Rattle.std.specs.Prelude.{nat_lt}
 use Rattle.std.specs.List.{position, position_or_len}
 use Rattle.std.proofs.lemmas.Bool.{ltb-true}
@@ -10,13 +10,13 @@ use Rattle.regmodel.specs.declared.clauses.Clause.TheVariants as clause
 use Rattle.regmodel.specs.declared.letters.Letter.{Letter}
 use Rattle.regmodel.specs.declared.letters.Letter.TheVariants.{Run}
 use Rattle.regmodel.specs.declared.outcomes.ProcEnd.{ProcEnd}
-use Rattle.regmodel.specs.Judging.{meets}
 use Rattle.regmodel.specs.Program.{Program}
 use Rattle.regmodel.specs.Schedules.{IsSchedule, is_possible}
 use Rattle.explanations.specs.Checks.{ChecksAt, check_lines}
 use Rattle.reglang.specs.Contents.{Contents}
 use Rattle.reglang.specs.Grammar.{Spells}
 use Rattle.verdict.specs.Breaches.{IsBrokenLine}
+use Rattle.verdict.specs.Demands.{breaks}
 
 first_there : (t : Bool) (i n place : ℕ) → nat_lt i n ≡ t → Some place ≡ cond t (Some i) None → place < n
 first_there true i n place h e = let same : place ≡ i = cc in subst (λ k. k < n) (sym same) (ltb-true i n h)
@@ -25,10 +25,10 @@ first_there false i n place h e = absurd cc
 place_there : {X : Type 0} (test : X → Bool) (xs : List X) (place : ℕ) → Some place ≡ position test xs → place < length xs
 place_there test xs place e = first_there (nat_lt (position_or_len test xs) (length xs)) (position_or_len test xs) (length xs) place refl e
 
-line_is : (text : List ℕ) (clauses : List Clause) (ends : List ProcEnd) (place : ℕ) (own : Clause) (line : Option ℕ) → Some place ≡ position (λ clause. not (meets clause ends)) clauses → line ≡ slice_get (check_lines text) place → slice_get clauses place ≡ Some own →
-    MatchOption line ⊥ (ChecksAt text own) → MatchOption line ⊥ (IsBrokenLine text clauses ends)
-line_is text clauses ends place own None first number there none = none
-line_is text clauses ends place own (Some line) first number there says = record {
+line_is : (text : List ℕ) (clauses : List Clause) (asks : Bool) (ends : List ProcEnd) (place : ℕ) (own : Clause) (line : Option ℕ) → Some place ≡ position (breaks asks ends) clauses → line ≡ slice_get (check_lines text) place → slice_get clauses place ≡ Some own →
+    MatchOption line ⊥ (ChecksAt text own) → MatchOption line ⊥ (IsBrokenLine text clauses asks ends)
+line_is text clauses asks ends place own None first number there none = none
+line_is text clauses asks ends place own (Some line) first number there says = record {
   place = place;
   first = sym first;
   number = sym number;
@@ -37,12 +37,12 @@ line_is text clauses ends place own (Some line) first number there says = record
   says = says;
 }
 
--- the line of the first clause that is broken, in a text that spells a source
-pub broken_line_is : (text : List ℕ) (source : Contents) (ends : List ProcEnd) (place : ℕ) (line : Option ℕ) → Some place ≡ position (λ clause. not (meets clause ends)) source.clauses → line ≡ slice_get (check_lines text) place → Spells text source →
-    ((s : Contents) → Spells text s → IfSome (slice_get s.clauses place) (λ own. MatchOption line ⊥ (ChecksAt text own))) → MatchOption line ⊥ (IsBrokenLine text source.clauses ends)
-broken_line_is text source ends place line first number spelled says =
-    let there = slice_get-get_or source.clauses place clause.NoFault (place_there (λ own. not (meets own ends)) source.clauses place first) in
-    line_is text source.clauses ends place (get_or source.clauses place clause.NoFault) line first number there
+-- the line of the first clause asked that is broken, in a text that spells a source
+pub broken_line_is : (text : List ℕ) (source : Contents) (asks : Bool) (ends : List ProcEnd) (place : ℕ) (line : Option ℕ) → Some place ≡ position (breaks asks ends) source.clauses → line ≡ slice_get (check_lines text) place → Spells text source →
+    ((s : Contents) → Spells text s → IfSome (slice_get s.clauses place) (λ own. MatchOption line ⊥ (ChecksAt text own))) → MatchOption line ⊥ (IsBrokenLine text source.clauses asks ends)
+broken_line_is text source asks ends place line first number spelled says =
+    let there = slice_get-get_or source.clauses place clause.NoFault (place_there (breaks asks ends) source.clauses place first) in
+    line_is text source.clauses asks ends place (get_or source.clauses place clause.NoFault) line first number there
     (subst (λ found. IfSome found (λ own. MatchOption line ⊥ (ChecksAt text own))) there (says source spelled))
 
 -- a schedule has no letter that is not possible after those before it

@@ -1,3 +1,4 @@
+mod Beginnings
 mod Breaking
 mod Causes
 mod GapRows

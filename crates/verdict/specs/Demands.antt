@@ -1,11 +1,29 @@
 -- What a check demands of an outcome, and what it looks for.
-use Rattle.std.specs.Prelude.{◌&&◌, ◌||◌, Bool, true, false, List, [], ◌∷◌}
+use Rattle.std.specs.Prelude.{◌&&◌, ◌||◌, Bool, true, false, not, List, [], ◌∷◌, filter}
 use Rattle.regmodel.specs.declared.clauses.Clause.{Clause}
-use Rattle.regmodel.specs.declared.clauses.Clause.TheVariants.{NoFault}
+use Rattle.regmodel.specs.declared.clauses.Clause.TheVariants.{Ended, NoFault}
 use Rattle.regmodel.specs.declared.outcomes.ProcEnd.{ProcEnd}
 use Rattle.regmodel.specs.Judging.{meets, meets_all}
 use Rattle.verdict.specs.declared.demands.Asked.{Asked}
 use Rattle.verdict.specs.declared.demands.Asked.TheVariants.{Checks, Faults, Nothing}
+
+-- the clause that no process may be running
+abbrev pub is_ended : Clause → Bool
+is_ended Ended = true
+is_ended _ = false
+
+-- each clause is asked, but `ended` may be left out
+abbrev pub is_asked : Bool → Clause → Bool
+is_asked asks_ended clause = asks_ended || not (is_ended clause)
+
+-- the clauses that are asked: all of them, or all but `ended`
+abbrev pub clauses_asked : Bool → List Clause → List Clause
+clauses_asked true clauses = clauses
+clauses_asked false clauses = filter (λ clause. not (is_ended clause)) clauses
+
+-- an outcome breaks a clause that is asked
+abbrev pub breaks : Bool → List ProcEnd → Clause → Bool
+breaks asks_ended ends clause = is_asked asks_ended clause && not (meets clause ends)
 
 -- an outcome meets what a check demands where it meets all clauses, and no process is at fault unless that is allowed
 abbrev pub meets_demands : List Clause → Bool → List ProcEnd → Bool

@@ -4,7 +4,7 @@ use Rattle.regmodel.specs.declared.clauses.Clause.TheVariants as clause
 use Rattle.regmodel.specs.declared.outcomes.End.{End}
 use Rattle.regmodel.specs.declared.outcomes.End.TheVariants as end
 use Rattle.regmodel.specs.declared.outcomes.ProcEnd.{ProcEnd}
-use Rattle.verdict.specs.Demands.{meets_demands}
+use Rattle.verdict.specs.Demands.{clauses_asked, meets_demands}
 use Rattle.verdict.specs.FaultText.{reason_text}
 use Rattle.verdict.specs.Faults.{first_fault}
 use Rattle.verdict.specs.Gaps.{want_of}
@@ -25,6 +25,13 @@ allowed = refl
 -- a clause is asked also where faults are allowed
 pub allowed_but_running : meets_demands (clause.Ended ∷ []) true (idle end.Running ∷ []) ≡ false
 allowed_but_running = refl
+
+-- `ended` alone is left out
+pub not_asked_to_end : meets_demands (clauses_asked false (clause.Ended ∷ clause.Distinct ∷ [])) false (idle end.Running ∷ []) ≡ true
+not_asked_to_end = refl
+
+pub asked_for_no_fault : meets_demands (clauses_asked false (clause.Ended ∷ clause.NoFault ∷ [])) true (idle (end.Fault 2) ∷ []) ≡ false
+asked_for_no_fault = refl
 
 -- a process is done in the second outcome, but none has a name
 pub nameless : want_of clause.Distinct ((idle end.Crashed ∷ []) ∷ (idle (end.Done (record { items = [] })) ∷ []) ∷ []) ≡ Some want.Name

@@ -14,6 +14,6 @@ reason_text code =
 abbrev pub fault_text : ProcessFault → List ℕ
 fault_text fault = codes "process " ++ decimal fault.process ++ codes " is at fault: " ++ reason_text fault.code
 
--- the same beside a check that is broken, where a process is at fault
+-- that it is so at the end of a schedule, where a process is at fault
 abbrev pub fault_line : Option ProcessFault → List ℕ
 fault_line fault = elim fault [ Some f ↦ codes "At its end " ++ fault_text f ++ codes ".\n" | None ↦ [] ]

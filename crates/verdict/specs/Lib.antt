@@ -5,6 +5,7 @@ pub mod FaultText
 pub mod Faults
 pub mod Gaps
 pub mod Indents
+pub mod Onsets
 pub mod ShellWords
 pub mod VerdictText
 pub mod Verdicts

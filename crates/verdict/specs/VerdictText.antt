@@ -1,5 +1,5 @@
 -- Whether a source holds, in words.
-use Rattle.std.specs.Prelude.{ℕ, ◌==◌, Bool, false, if◌then◌else◌, List, [], ◌++◌, length, codes, decimal}
+use Rattle.std.specs.Prelude.{ℕ, ◌==◌, Bool, false, if◌then◌else◌, List, [], ◌++◌, length, Option, Some, None, codes, decimal}
 use Rattle.std.specs.List.{flat_map, list_any}
 use Rattle.regmodel.specs.declared.limits.TheConstants.{MOST_LETTERS}
 use Rattle.regmodel.specs.Judging.{is_running}
@@ -8,6 +8,7 @@ use Rattle.report.specs.PlainReport.{Findings}
 use Rattle.regmodel.specs.ScheduleText.{schedule_text}
 use Rattle.explanations.specs.Checks.{line_at}
 use Rattle.drawing.specs.DrawingText.{drawing_text}
+use Rattle.explanations.specs.Origins.{line_told, path_told}
 use Rattle.explanations.specs.Shown.{shown}
 use Rattle.verdict.specs.FaultText.{fault_line, fault_text}
 use Rattle.verdict.specs.Indents.{without_indent}
@@ -40,28 +41,45 @@ letters_text n = counted n (codes "letter") (codes "s")
 abbrev pub crashes_text : ℕ → List ℕ
 crashes_text n = if n == 0 then codes "no crashes" else counted n (codes "crash") (codes "es")
 
--- a check line without its indent, and its number
+-- the file that a line comes from, where a line before it tells another one than that of the text
+abbrev pub of_file_text : List ℕ → List ℕ
+of_file_text path = if length path == 0 then [] else codes " of " ++ path
+
+-- a check line without its indent, and where it comes from
 abbrev pub check_text : List ℕ → ℕ → List ℕ
-check_text text line = without_indent (shown (line_at line text)) ++ codes " (line " ++ decimal line ++ codes ")"
+check_text text line =
+    without_indent (shown (line_at line text)) ++ codes " (line " ++ decimal (line_told text line) ++ of_file_text (path_told [] text line) ++ codes ")"
 
 -- the check line that is broken, and the process at fault beside it; or that process alone
 abbrev pub cause_text : List ℕ → Cause → List ℕ
 cause_text text (Check line fault) = check_text text line ++ codes "\n" ++ fault_line fault
 cause_text text (Fault fault) = fault_text fault ++ codes "\n"
 
--- that a schedule of so many letters fails, and why
-abbrev pub failing_text : List ℕ → List ℕ → ℕ → Cause → List ℕ
-failing_text path text letters cause =
-    path ++ codes ": a schedule of " ++ letters_text letters ++ codes " fails: " ++ cause_text text cause ++ codes "\n"
+-- that a schedule fails; and that no shorter one does, where the shortest one was asked for
+abbrev pub fails_text : Bool → List ℕ
+fails_text is_shortest = if is_shortest then codes " fails, and no shorter one: " else codes " fails: "
+
+-- that it fails from this letter on, where there is one
+abbrev pub from_step_text : ℕ → List ℕ
+from_step_text letter = if letter == 0 then [] else codes "It fails from step " ++ decimal letter ++ codes " on.\n"
+
+-- from which letter on each beginning fails, where that comes about by a letter
+abbrev pub onset_text : Option ℕ → List ℕ
+onset_text onset = elim onset [ Some letter ↦ from_step_text letter | None ↦ [] ]
+
+-- that a schedule of so many letters fails, why, and from which letter on
+abbrev pub failing_text : List ℕ → List ℕ → Bool → ℕ → Cause → Option ℕ → List ℕ
+failing_text path text is_shortest letters cause onset =
+    path ++ codes ": a schedule of " ++ letters_text letters ++ fails_text is_shortest ++ cause_text text cause ++ onset_text onset ++ codes "\n"
 
 -- the command that replays a schedule, as it is to be typed in a shell
 abbrev pub replay_text : List ℕ → Schedule → List ℕ
 replay_text path w = codes "\nregtry replay " ++ operand_text path ++ codes " '" ++ schedule_text w ++ codes "'\n"
 
 -- that a schedule fails and why, the schedule as a drawing, and the command that replays it
-abbrev pub breach_text : List ℕ → List ℕ → Breach → List ℕ
-breach_text path text breach =
-    failing_text path text (length breach.schedule) breach.cause ++ drawing_text false breach.drawing ++ replay_text path breach.schedule
+abbrev pub breach_text : List ℕ → List ℕ → Bool → Breach → List ℕ
+breach_text path text is_shortest breach =
+    failing_text path text is_shortest (length breach.schedule) breach.cause breach.onset ++ drawing_text false breach.drawing ++ replay_text path breach.schedule
 
 -- whether schedules were cut off: some process still wants an access after as many letters as there may be
 abbrev pub is_cut_off : Findings → Bool
@@ -127,7 +145,7 @@ abbrev pub held_text : List ℕ → List ℕ → Reach → Asked → List Gap �
 held_text path text reach asked gaps =
     holding_text path reach ++ asked_text asked ++ gaps_text text gaps ++ caution_text reach.cut_off reach.length
 
--- what is told of a source in the file of this path
-abbrev pub verdict_text : List ℕ → List ℕ → Verdict → List ℕ
-verdict_text path text (Fails breach) = breach_text path text breach
-verdict_text path text (Holds held) = held_text path text (reach_of held.exploration) held.asked held.gaps.items
+-- what is told of a source in the file of this path, where the least failing schedule was asked for, or the shortest one
+abbrev pub verdict_text : List ℕ → List ℕ → Bool → Verdict → List ℕ
+verdict_text path text is_shortest (Fails breach) = breach_text path text is_shortest breach
+verdict_text path text is_shortest (Holds held) = held_text path text (reach_of held.exploration) held.asked held.gaps.items

@@ -11,12 +11,14 @@ ghost use Rattle.reglang.specs.Grammar.{Spells};
 ghost use Rattle.reglang.specs.Sources.{contents_of, registers_of, source_programs};
 ghost use Rattle.drawing.specs.Pictures.{IsPictureOf};
 ghost use Rattle.verdict.specs.Breaches.{IsBreachOf, IsBrokenLine, IsCauseOf};
-ghost use Rattle.verdict.specs.Demands.{meets_demands};
+ghost use Rattle.verdict.specs.Demands.{clauses_asked, meets_demands};
 ghost use Rattle.verdict.specs.Verdicts.{IsVerdictFor};
+ghost use Rattle.world.specs.Sound.{IsSameWorld, IsSoundWorld, budget_of, letters_of, register_count_of, world_programs};
 
-use crate::demands::{Asked, asked_of};
+use crate::demands::{Asked, asked_of, first_broken};
 use crate::faults::{ProcessFault, first_fault};
 use crate::gaps::{Gap, gaps_of};
+use crate::onsets::onset_of;
 use arrayvec::ArrayVec;
 use drawing::{Drawing, draw};
 use explanations::check_line;
@@ -48,6 +50,9 @@ pub struct Breach {
     pub schedule: Prefix,
     /// Why it fails.
     pub cause: Cause,
+    /// From which letter on each of its beginnings breaks a check but `ended`, or has a process at fault, counted from 1; 0 where that with no
+    /// letter does. None where it does not so itself.
+    pub onset: Option<u64>,
     /// What is drawn of it.
     pub drawing: Drawing,
 }
@@ -105,7 +110,7 @@ pub fn verdict_on(
 {
     match checked {
         Checked::Fails(least) => {
-            Verdict::Fails(breach_for(text, source, machines, settings, &least))
+            Verdict::Fails(breach_for(text, source, machines, settings, true, &least))
         }
         Checked::Holds(exploration) => {
             let clauses = source.clauses().list();
@@ -118,22 +123,25 @@ pub fn verdict_on(
     }
 }
 
-/// What the least failing schedule breaks, where one fails.
-fn breach_for(
+/// What the least failing schedule breaks, which there is; `ended` may be left out. The machines, one a process, lead to its drawing. Takes
+/// no memory.
+pub fn breach_for(
     text: &[u8],
     source: &Source,
     machines: Vec<Box<dyn Machine + Send>>,
     settings: Settings,
+    asks_ended: bool,
     least: &Least,
 ) -> Breach
     requires machines { map program machines.items ≡ source_programs source.now }
     requires spelled { Spells text.now (contents_of source.now) }
     requires least { (allows_faults : Bool)
         × IsPlainLeast (source_programs source.now) settings.length settings.crashes
-        (meets_demands (contents_of source.now).clauses allows_faults) least.now }
+        (meets_demands (clauses_asked asks_ended (contents_of source.now).clauses) allows_faults)
+        least.now }
     requires fails { is_some least.now.least ≡ true }
     ensures { IfSome least.now.least
-        (λ l. IsBreachOf text.now (contents_of source.now) l.0 l.1 result) }
+        (λ l. IsBreachOf text.now (contents_of source.now) asks_ended l.0 l.1 result) }
 {
     the_first_refused_is_a_schedule();
     let Some((schedule, outcome)) = least.least() else {
@@ -144,18 +152,20 @@ fn breach_for(
         source,
         machines,
         settings.crashes(),
+        asks_ended,
         schedule,
         outcome,
     )
 }
 
-/// What a schedule of a source breaks that fails, whether or not faults are allowed. The machines, one a process, lead to the drawing. Takes
-/// no memory.
+/// What a schedule of a source breaks that fails, whether or not faults are allowed; `ended` may be left out. The machines, one a process,
+/// lead to the drawing. Takes no memory.
 fn breach_of(
     text: &[u8],
     source: &Source,
     machines: Vec<Box<dyn Machine + Send>>,
     crashes: u32,
+    asks_ended: bool,
     schedule: &Prefix,
     outcome: &Outcome,
 ) -> Breach
@@ -164,40 +174,46 @@ fn breach_of(
     requires spelled { Spells text.now (contents_of source.now) }
     requires refused { (allows_faults : Bool)
         × IsRefusedWith (source_programs source.now) crashes
-        (meets_demands (contents_of source.now).clauses allows_faults) schedule.now outcome.now }
-    ensures { IsBreachOf text.now (contents_of source.now) schedule.now outcome.now result }
+        (meets_demands (clauses_asked asks_ended (contents_of source.now).clauses) allows_faults)
+        schedule.now outcome.now }
+    ensures { IsBreachOf text.now (contents_of source.now) asks_ended schedule.now outcome.now
+        result }
 {
+    let mut world = World::new(machines, source.registers(), crashes);
+    let drawing = drawing_of(&mut world, schedule);
     Breach {
         schedule: schedule.copy(),
-        cause: cause_of(text, source, outcome),
-        drawing: drawing_of(source, machines, crashes, schedule),
+        cause: cause_of(text, source, asks_ended, outcome),
+        onset: onset_of(&mut world, source.clauses()),
+        drawing,
     }
 }
 
-/// Why a schedule with this outcome fails.
-fn cause_of(text: &[u8], source: &Source, outcome: &Outcome) -> Cause
+/// Why a schedule with this outcome fails; `ended` may be left out.
+fn cause_of(text: &[u8], source: &Source, asks_ended: bool, outcome: &Outcome) -> Cause
     requires spelled { Spells text.now (contents_of source.now) }
     requires refused { (allows_faults : Bool)
-        × (meets_demands (contents_of source.now).clauses allows_faults outcome.now ≡ false) }
-    ensures { IsCauseOf text.now (contents_of source.now).clauses outcome.now result }
+        × (meets_demands (clauses_asked asks_ended (contents_of source.now).clauses) allows_faults
+        outcome.now ≡ false) }
+    ensures { IsCauseOf text.now (contents_of source.now).clauses asks_ended outcome.now result }
 {
     let fault = first_fault(outcome);
-    if let Some(line) = broken_line(text, source, outcome) {
+    if let Some(line) = broken_line(text, source, asks_ended, outcome) {
         return Cause::Check { line, fault };
     }
     let Some(fault) = fault else { unreachable!() };
     Cause::Fault(fault)
 }
 
-/// The line of the first check of a source that an outcome breaks. None where it breaks none.
-fn broken_line(text: &[u8], source: &Source, outcome: &Outcome) -> Option<u64>
+/// The line of the first check of a source that is asked and that an outcome breaks; `ended` may be left out. None where it breaks none.
+fn broken_line(text: &[u8], source: &Source, asks_ended: bool, outcome: &Outcome) -> Option<u64>
     requires { Spells text.now (contents_of source.now) }
     ensures line { IfSome result
-        (IsBrokenLine text.now (contents_of source.now).clauses outcome.now) }
+        (IsBrokenLine text.now (contents_of source.now).clauses asks_ended outcome.now) }
     ensures none { IsNone result
-        → meets_all (contents_of source.now).clauses outcome.now ≡ true }
+        → meets_all (clauses_asked asks_ended (contents_of source.now).clauses) outcome.now ≡ true }
 {
-    let Some(place) = source.clauses().first_broken(outcome) else {
+    let Some(place) = first_broken(source.clauses().list(), asks_ended, outcome) else {
         return None;
     };
     let Some(line) = check_line(text, place) else {
@@ -206,21 +222,17 @@ fn broken_line(text: &[u8], source: &Source, outcome: &Outcome) -> Option<u64>
     Some(line)
 }
 
-/// What is drawn of a schedule of a source.
-pub(crate) fn drawing_of(
-    source: &Source,
-    machines: Vec<Box<dyn Machine + Send>>,
-    crashes: u32,
-    schedule: &Prefix,
-) -> Drawing
-    requires machines { map program machines.items ≡ source_programs source.now }
-    requires few { crashes ≤ MOST_CRASHES }
-    requires schedule { IsSchedule (source_programs source.now) crashes schedule.now }
-    ensures { IsPictureOf (source_programs source.now) (registers_of source.now) schedule.now
-        result }
+/// What is drawn of a schedule. The world stands there then.
+pub(crate) fn drawing_of(world: &mut World, schedule: &Prefix) -> Drawing
+    requires at { IsSoundWorld program rest world.old }
+    requires schedule { IsSchedule (world_programs program world.old) (budget_of world.old)
+        schedule.now }
+    ensures same { IsSameWorld program rest world.old world.new }
+    ensures drawn { IsPictureOf (world_programs program world.old) (register_count_of world.old)
+        schedule.now result }
+    ensures letters { letters_of world.new ≡ schedule.now }
 {
-    let mut world = World::new(machines, source.registers(), crashes);
-    match draw(&mut world, schedule) {
+    match draw(world, schedule) {
         Ok(drawing) => drawing,
         Err(_) => unreachable!(),
     }

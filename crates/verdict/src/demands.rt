@@ -1,10 +1,11 @@
 //! What a check demands of an outcome, and what it looks for.
 
-ghost use Rattle.std.specs.Prelude.{◌≡◌};
-ghost use Rattle.std.specs.List.{list_any};
-ghost use Rattle.regmodel.specs.Judging.{is_faulty};
-ghost use Rattle.verdict.specs.Demands.{asked_of};
+ghost use Rattle.std.specs.Prelude.{◌≡◌, false};
+ghost use Rattle.std.specs.List.{list_any, position};
+ghost use Rattle.regmodel.specs.Judging.{is_faulty, meets};
+ghost use Rattle.verdict.specs.Demands.{asked_of, breaks, clauses_asked};
 
+use arrayvec::ArrayVec;
 use regmodel::{Clause, Clauses, End, Judge, Outcome};
 
 /// What a check looks for.
@@ -21,7 +22,7 @@ pub enum Asked {
 /// The judge of a check: an outcome is good where it meets all clauses, and no process is at fault unless that is allowed.
 #[derive(Clone, Copy, Debug)]
 pub struct Demands<'a> {
-    /// The clauses of the source.
+    /// The clauses that are asked.
     pub clauses: &'a Clauses,
     /// Whether a process may be at fault.
     pub allows_faults: bool,
@@ -51,6 +52,43 @@ fn some_faulty(outcome: &Outcome) -> bool
         .ends()
         .iter()
         .any(|end| matches!(end.fate, End::Fault(_)))
+}
+
+/// These clauses without `ended`, which no schedule meets that is cut off with a process still running.
+pub fn without_ended(clauses: &Clauses) -> Clauses
+    ensures { result ≡ clauses_asked false clauses.now }
+{
+    let mut asked: ArrayVec<Clause, 16> = ArrayVec::try_from(clauses.list()).unwrap();
+    asked.retain(|clause| !matches!(clause, Clause::Ended));
+    Clauses::new(asked)
+}
+
+/// The place of the first clause that is asked and that an outcome breaks, counted from 0; `ended` may be left out.
+pub(crate) fn first_broken(clauses: &[Clause], asks_ended: bool, outcome: &Outcome) -> Option<usize>
+    ensures { result ≡ position (breaks asks_ended outcome.now) clauses.now }
+{
+    clauses
+        .iter()
+        .position(|clause| breaks(*clause, asks_ended, outcome))
+}
+
+/// Whether an outcome breaks a clause, and that clause is asked; `ended` may be left out.
+fn breaks(clause: Clause, asks_ended: bool, outcome: &Outcome) -> bool
+    ensures { result ≡ breaks asks_ended outcome.now clause }
+{
+    if !asks_ended && matches!(clause, Clause::Ended) {
+        return false;
+    }
+    !meets(clause, outcome)
+}
+
+/// Whether an outcome meets a clause.
+fn meets(clause: Clause, outcome: &Outcome) -> bool
+    ensures { result ≡ meets clause outcome.now }
+{
+    let mut alone = ArrayVec::new();
+    alone.push(clause);
+    Clauses::new(alone).holds(outcome)
 }
 
 /// What a check with these clauses looks for.

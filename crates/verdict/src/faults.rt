@@ -28,6 +28,21 @@ impl Text for ProcessFault {
     }
 }
 
+/// The process at fault at the end of a schedule, where there is one.
+#[derive(Clone, Copy)]
+pub struct FaultLine(pub Option<ProcessFault>);
+
+impl Text for FaultLine {
+    ghost text = { λ line. spec.fault_line line.0 };
+
+    fn put<W: Write>(&self, out: &mut W, block: &mut Block) -> Result<(), WriteFault> {
+        match self.0 {
+            Some(fault) => ("At its end ", fault, ".\n").put(out, block),
+            None => Ok(()),
+        }
+    }
+}
+
 /// Why a process is at fault with this code.
 fn reason_of(code: u8) -> &'static str
     ensures { result.now ≡ spec.reason_text code }

@@ -1,37 +1,47 @@
 //! Whether a source holds, in words. No call takes memory.
 
 ghost use Rattle.texts.specs.Appending.{Wrote};
-ghost use Rattle.verdict.specs.FaultText.{fault_line};
 ghost use Rattle.verdict.specs.VerdictText as spec;
 ghost use Rattle.verdict.specs.VerdictText.{verdict_text};
 
 use crate::breaches::{Breach, Cause, Verdict};
 use crate::counts::{Bounds, Counted, Letters};
 use crate::demands::Asked;
-use crate::faults::ProcessFault;
+use crate::faults::FaultLine;
 use crate::gaps::{Gap, Want};
 use crate::indents::without_indent;
 use crate::reaches::{Reach, reach_of};
 use crate::replays::ReplayCommand;
 use drawing::Drawn;
-use explanations::shown_line;
+use explanations::{origin_of, shown_line};
 use regmodel::limits::MOST_LETTERS;
 use std::io::Write;
 use texts::{Block, Text, WriteFault, write};
 
 /// Writes whether the source holds that the text in the file of this path spells: the schedule that fails, the check that it breaks and the
 /// process at fault, its drawing and the command that replays it; or how much was tried, what was looked for where there is no check line,
-/// which checks no outcome could break, and whether schedules were cut off. After a fault the writer has taken a beginning of it.
+/// which checks no outcome could break, and whether schedules were cut off. Where the shortest one was asked for, that no shorter one fails.
+/// After a fault the writer has taken a beginning of it.
 pub fn write_verdict<W: Write>(
     path: &[u8],
     text: &[u8],
     verdict: &Verdict,
+    is_shortest: bool,
     out: &mut W,
 ) -> Result<(), WriteFault>
-    ensures { Wrote W.contents out.old out.new (verdict_text path.now text.now verdict.now) result }
+    ensures { Wrote W.contents out.old out.new
+        (verdict_text path.now text.now is_shortest verdict.now) result }
 {
     match verdict {
-        Verdict::Fails(breach) => write(&Failing { path, text, breach }, out),
+        Verdict::Fails(breach) => {
+            let failing = Failing {
+                path,
+                text,
+                breach,
+                is_shortest,
+            };
+            write(&failing, out)
+        }
         Verdict::Holds(held) => {
             let reach = reach_of(&held.exploration);
             let gaps = GapLines {
@@ -52,10 +62,11 @@ struct Failing<'a> {
     path: &'a [u8],
     text: &'a [u8],
     breach: &'a Breach,
+    is_shortest: bool,
 }
 
 impl Text for Failing<'_> {
-    ghost text = { λ f. spec.breach_text f.path.now f.text.now f.breach.now };
+    ghost text = { λ f. spec.breach_text f.path.now f.text.now f.is_shortest f.breach.now };
 
     fn put<W: Write>(&self, out: &mut W, block: &mut Block) -> Result<(), WriteFault> {
         let breach = self.breach;
@@ -68,12 +79,30 @@ impl Text for Failing<'_> {
             drawing: &breach.drawing,
             all: false,
         };
-        let fails = (self.path, ": a schedule of ", letters, " fails: ");
+        let fails = Fails(self.is_shortest);
+        let failing = (self.path, ": a schedule of ", letters, fails);
         let replay = ReplayCommand {
             path: self.path,
             schedule: &breach.schedule,
         };
-        (fails, cause, "\n", drawing, replay).put(out, block)
+        let onset = Onset(breach.onset);
+        let told = (failing, cause, onset, "\n");
+        (told, drawing, replay).put(out, block)
+    }
+}
+
+/// That a schedule fails; and that no shorter one does, where the shortest one was asked for.
+#[derive(Clone, Copy)]
+struct Fails(bool);
+
+impl Text for Fails {
+    ghost text = { λ f. spec.fails_text f.0 };
+
+    fn put<W: Write>(&self, out: &mut W, block: &mut Block) -> Result<(), WriteFault> {
+        if self.0 {
+            return " fails, and no shorter one: ".put(out, block);
+        }
+        " fails: ".put(out, block)
     }
 }
 
@@ -101,7 +130,7 @@ impl Text for Caused<'_> {
     }
 }
 
-/// A check line without its indent, and its number.
+/// A check line without its indent, and where it comes from.
 #[derive(Clone, Copy)]
 struct CheckLine<'a> {
     text: &'a [u8],
@@ -113,22 +142,53 @@ impl Text for CheckLine<'_> {
 
     fn put<W: Write>(&self, out: &mut W, block: &mut Block) -> Result<(), WriteFault> {
         let check = without_indent(shown_line(self.text, self.line));
-        (check, " (line ", self.line, ")").put(out, block)
+        let origin = origin_of(&[], self.text, self.line);
+        (check, " (line ", origin.line, OfFile(origin.path), ")").put(out, block)
     }
 }
 
-/// The process at fault beside a check that is broken, where there is one.
+/// The file that a line comes from, where a line before it tells another one than that of the text.
 #[derive(Clone, Copy)]
-struct FaultLine(Option<ProcessFault>);
+struct OfFile<'a>(&'a [u8]);
 
-impl Text for FaultLine {
-    ghost text = { λ line. fault_line line.0 };
+impl Text for OfFile<'_> {
+    ghost text = { λ file. spec.of_file_text file.0.now };
+
+    fn put<W: Write>(&self, out: &mut W, block: &mut Block) -> Result<(), WriteFault> {
+        if self.0.is_empty() {
+            return Ok(());
+        }
+        (" of ", self.0).put(out, block)
+    }
+}
+
+/// From which letter on each beginning of a schedule fails, where that comes about by a letter.
+#[derive(Clone, Copy)]
+struct Onset(Option<u64>);
+
+impl Text for Onset {
+    ghost text = { λ onset. spec.onset_text onset.0 };
 
     fn put<W: Write>(&self, out: &mut W, block: &mut Block) -> Result<(), WriteFault> {
         match self.0 {
-            Some(fault) => ("At its end ", fault, ".\n").put(out, block),
+            Some(letter) => FromStep(letter).put(out, block),
             None => Ok(()),
         }
+    }
+}
+
+/// That it fails from this letter on, where there is one.
+#[derive(Clone, Copy)]
+struct FromStep(u64);
+
+impl Text for FromStep {
+    ghost text = { λ step. spec.from_step_text step.0 };
+
+    fn put<W: Write>(&self, out: &mut W, block: &mut Block) -> Result<(), WriteFault> {
+        if self.0 == 0 {
+            return Ok(());
+        }
+        ("It fails from step ", self.0, " on.\n").put(out, block)
     }
 }
 

@@ -16,6 +16,7 @@ use reglang::Source;
 use regmodel::laws::the_first_refused_is_a_schedule;
 use regmodel::{Outcome, Prefix, Settings};
 use report::Least;
+use world::World;
 
 /// A schedule that leads to an outcome that was looked for.
 #[derive(Debug, Drop)]
@@ -72,9 +73,10 @@ fn way_for(
     let Some((schedule, outcome)) = least.least() else {
         return None;
     };
+    let mut world = World::new(machines, source.registers(), crashes);
     Some(Way {
         schedule: schedule.copy(),
         outcome: outcome.copy(),
-        drawing: drawing_of(source, machines, crashes, schedule),
+        drawing: drawing_of(&mut world, schedule),
     })
 }

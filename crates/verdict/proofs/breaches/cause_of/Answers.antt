@@ -1,8 +1,9 @@
 use Rattle.std.proofs.Common.{sym, ◌∙◌}
 use Rattle.reglang.specs.Sources.{contents_of}
+use Rattle.verdict.specs.Demands.{clauses_asked}
 use Rattle.verdict.proofs.Causes.{some_cause}
 use Rattle.verdict.proofs.breaches.cause_of.Goals as goal
 
 pub unreachable-requires : goal.unreachable-requires
 unreachable-requires c =
-    some_cause (contents_of c.args.source.now).clauses c.requires.refused.0 c.args.outcome.now (sym c.first_fault-fault.ensures ∙ cc) (c.broken_line.ensures.none cc) c.requires.refused.1
+    some_cause (clauses_asked c.args.asks_ended (contents_of c.args.source.now).clauses) c.requires.refused.0 c.args.outcome.now (sym c.first_fault-fault.ensures ∙ cc) (c.broken_line.ensures.none cc) c.requires.refused.1
