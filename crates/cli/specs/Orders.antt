@@ -8,6 +8,7 @@ use Rattle.patterns.specs.PatternText.{pattern_text}
 use Rattle.regmodel.specs.Settings.{Bounds}
 use Rattle.regmodel.specs.declared.limits.TheConstants.{MOST_LETTERS}
 use Rattle.regmodel.specs.ScheduleText.{schedule_text}
+use Rattle.explorer.specs.declared.effort.Effort.{Effort}
 use Rattle.cli.specs.Bounds.{IsBoundTold}
 use Rattle.cli.specs.NumberTexts.{IsNumberText}
 use Rattle.cli.specs.declared.orders.Task.{Task}
@@ -16,19 +17,19 @@ use Rattle.cli.specs.declared.orders.Task.TheVariants.{Check, Explore, Least, Fi
 
 -- to replay the schedule of this text
 abbrev pub IsReplayOf : List ℕ → Task → Type 0
-IsReplayOf text (Check effort native allows_faults) = ⊥
+IsReplayOf text (Check effort native allows_faults shortest) = ⊥
 IsReplayOf text (Explore effort native) = ⊥
-IsReplayOf text (Least settings native) = ⊥
-IsReplayOf text (Find settings native patterns) = ⊥
+IsReplayOf text (Least effort native) = ⊥
+IsReplayOf text (Find effort native patterns) = ⊥
 IsReplayOf text (Replay schedule) = schedule_text schedule ≡ text
 IsReplayOf text (Show schedule all) = ⊥
 
 -- to draw the schedule of this text, with all registers or with those that fit
 abbrev pub IsShowOf : List ℕ → Bool → Task → Type 0
-IsShowOf text all (Check effort native allows_faults) = ⊥
+IsShowOf text all (Check effort native allows_faults shortest) = ⊥
 IsShowOf text all (Explore effort native) = ⊥
-IsShowOf text all (Least settings native) = ⊥
-IsShowOf text all (Find settings native patterns) = ⊥
+IsShowOf text all (Least effort native) = ⊥
+IsShowOf text all (Find effort native patterns) = ⊥
 IsShowOf text all (Replay schedule) = ⊥
 IsShowOf text all (Show schedule with_all) = (schedule_text schedule ≡ text) × (with_all ≡ all)
 
@@ -64,6 +65,10 @@ pub record AreBoundsTold (told : List ℕ → Option (List ℕ)) (processors : �
   pub cut : settings.cut ≡ CUT
   pub room : settings.room ≡ ROOM
 
+-- so it is with a check or a search; the megabytes in which states are remembered are those of the words, or else CACHE
+abbrev pub IsEffortTold : (List ℕ → Option (List ℕ)) → ℕ → Effort → Type 0
+IsEffortTold told processors effort = AreBoundsTold told processors effort.settings × IsBoundTold (told (codes "cache")) CACHE effort.cache
+
 -- the megabytes in which states are remembered are those of the words, or else so many; there is a limit
 abbrev pub IsCacheTold : (List ℕ → Option (List ℕ)) → ℕ → ℕ → Type 0
 IsCacheTold told other cache = IsNumberTold (told (codes "cache")) other cache × (cache ≤ MOST_CACHE)
@@ -74,31 +79,31 @@ IsNativeTold told native = (text : Bool) × IsFlagTold (told (codes "text")) tex
 
 -- to explore as the words tell, for a report or for the least failing schedule alone
 abbrev pub IsExploration : (List ℕ → Option (List ℕ)) → Task → Type 0
-IsExploration told (Check effort native allows_faults) = ⊥
+IsExploration told (Check effort native allows_faults shortest) = ⊥
 IsExploration told (Explore effort native) =
     AreSettingsTold told effort.settings × IsCacheTold told 0 effort.cache × IsNativeTold told native × IsFlagTold (told (codes "least")) false
-IsExploration told (Least settings native) =
-    AreSettingsTold told settings × IsNativeTold told native × IsFlagTold (told (codes "least")) true
-IsExploration told (Find settings native patterns) = ⊥
+IsExploration told (Least effort native) =
+    AreSettingsTold told effort.settings × IsCacheTold told 0 effort.cache × IsNativeTold told native × IsFlagTold (told (codes "least")) true
+IsExploration told (Find effort native patterns) = ⊥
 IsExploration told (Replay schedule) = ⊥
 IsExploration told (Show schedule all) = ⊥
 
 -- whether use lines run as native machines
 abbrev pub is_native : Task → Bool
-is_native (Check effort native allows_faults) = native
+is_native (Check effort native allows_faults shortest) = native
 is_native (Explore effort native) = native
-is_native (Least settings native) = native
-is_native (Find settings native patterns) = native
+is_native (Least effort native) = native
+is_native (Find effort native patterns) = native
 is_native (Replay schedule) = false
 is_native (Show schedule all) = false
 
--- to check as the words tell, and say in words what fails
+-- to check as the words tell, and say in words what fails first, or what fails with the fewest letters
 abbrev pub IsCheck : (List ℕ → Option (List ℕ)) → ℕ → Task → Type 0
-IsCheck told processors (Check effort native allows_faults) =
-    AreBoundsTold told processors effort.settings × IsBoundTold (told (codes "cache")) CACHE effort.cache × IsNativeTold told native × IsFlagTold (told (codes "allow-faults")) allows_faults
+IsCheck told processors (Check effort native allows_faults shortest) =
+    IsEffortTold told processors effort × IsNativeTold told native × IsFlagTold (told (codes "allow-faults")) allows_faults × IsFlagTold (told (codes "shortest")) shortest
 IsCheck told processors (Explore effort native) = ⊥
-IsCheck told processors (Least settings native) = ⊥
-IsCheck told processors (Find settings native patterns) = ⊥
+IsCheck told processors (Least effort native) = ⊥
+IsCheck told processors (Find effort native patterns) = ⊥
 IsCheck told processors (Replay schedule) = ⊥
 IsCheck told processors (Show schedule all) = ⊥
 
@@ -108,19 +113,19 @@ texts_told found = elim (option_map raw_values (matched_of found (codes "PATTERN
 
 -- to look as far as the words tell for outcomes that match one of the patterns of these texts
 abbrev pub IsFind : (List ℕ → Option (List ℕ)) → ℕ → List (List ℕ) → Task → Type 0
-IsFind told processors texts (Check effort native allows_faults) = ⊥
+IsFind told processors texts (Check effort native allows_faults shortest) = ⊥
 IsFind told processors texts (Explore effort native) = ⊥
-IsFind told processors texts (Least settings native) = ⊥
-IsFind told processors texts (Find settings native patterns) =
-    AreBoundsTold told processors settings × IsNativeTold told native × (map pattern_text patterns.items ≡ texts)
+IsFind told processors texts (Least effort native) = ⊥
+IsFind told processors texts (Find effort native patterns) =
+    IsEffortTold told processors effort × IsNativeTold told native × (map pattern_text patterns.items ≡ texts)
 IsFind told processors texts (Replay schedule) = ⊥
 IsFind told processors texts (Show schedule all) = ⊥
 
 -- how many lists of machines it takes: one for each worker, and one more where a schedule that is found is to be drawn
 abbrev pub lists_of : Task → ℕ
-lists_of (Check effort native allows_faults) = effort.settings.workers + 1
+lists_of (Check effort native allows_faults shortest) = effort.settings.workers + 1
 lists_of (Explore effort native) = effort.settings.workers
-lists_of (Least settings native) = settings.workers
-lists_of (Find settings native patterns) = settings.workers + 1
+lists_of (Least effort native) = effort.settings.workers
+lists_of (Find effort native patterns) = effort.settings.workers + 1
 lists_of (Replay schedule) = 1
 lists_of (Show schedule all) = 1

@@ -1,11 +1,27 @@
 -- What is told of a letter that is refused.
-use Rattle.std.specs.Prelude.{◌≡◌, ℕ, ◌<◌, false, List, length, take, IfSome, slice_get}
+use Rattle.std.specs.Prelude.{◌≡◌, ℕ, ◌<◌, false, List, length, take, IfSome, Option, slice_get}
+use Rattle.std.specs.Option.{option_map}
 use Rattle.regmodel.specs.declared.letters.Letter.{Letter}
+use Rattle.regmodel.specs.declared.outcomes.End.{End}
+use Rattle.regmodel.specs.declared.outcomes.ProcEnd.{ProcEnd}
+use Rattle.regmodel.specs.Letters.{process_of}
+use Rattle.regmodel.specs.Outcomes.{outcome_of}
 use Rattle.regmodel.specs.Program.{Program}
 use Rattle.regmodel.specs.Schedules.{IsSchedule, is_possible}
+use Rattle.cli.specs.declared.standings.RefusedLetter.{RefusedLetter}
 
--- the place is that of the first letter that is not possible after those before it
-pub record IsLetterRefused (programs : List Program) (crashes : ℕ) (w : List Letter) (place : ℕ) : Type 0 where
-  pub there : place < length w
-  pub before : IsSchedule programs crashes (take place w)
-  pub impossible : IfSome (slice_get w place) (λ a. is_possible programs crashes (take place w) a ≡ false)
+-- how a process stands, where there is one
+abbrev pub fate_of : List ProcEnd → ℕ → Option End
+fate_of ends p = option_map (λ end. end.fate) (slice_get ends p)
+
+-- the process of the letter at the place, and how it stands, where all stand so
+pub record IsHindranceAt (ends : List ProcEnd) (w : List Letter) (refused : RefusedLetter) : Type 0 where
+  pub process : IfSome (slice_get w refused.place) (λ a. refused.process ≡ process_of a)
+  pub fate : refused.fate ≡ fate_of ends refused.process
+
+-- the place is that of the first letter that is not possible after those before it; its process, and how that stands there
+pub record IsLetterRefused (programs : List Program) (crashes : ℕ) (w : List Letter) (refused : RefusedLetter) : Type 0 where
+  pub there : refused.place < length w
+  pub before : IsSchedule programs crashes (take refused.place w)
+  pub impossible : IfSome (slice_get w refused.place) (λ a. is_possible programs crashes (take refused.place w) a ≡ false)
+  pub hindrance : IsHindranceAt (outcome_of programs (take refused.place w)) w refused

@@ -18,6 +18,6 @@ status_of File = 2
 status_of LongFile = 2
 status_of (Source rejection) = 2
 status_of Memory = 3
-status_of (Letter place) = 2
+status_of (Letter refused) = 2
 status_of (Run code) = 3
 status_of Write = 3

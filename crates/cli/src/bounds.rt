@@ -18,8 +18,8 @@ const CUT: u32 = 3;
 /// How many pieces each worker of a check may put up for the others.
 const ROOM: u32 = 64;
 
-/// In how many megabytes a check remembers states, unless its words say.
-pub const CACHE: u32 = 0;
+/// In how many megabytes a check or a search remembers states, unless its words say.
+pub const CACHE: u32 = 128;
 
 /// The most megabytes in which states are remembered.
 pub const MOST_CACHE: u32 = 65536;
@@ -33,7 +33,7 @@ pub enum Bound {
     Crashes,
     /// The workers, at least one.
     Workers,
-    /// The megabytes in which a check remembers states.
+    /// The megabytes in which states are remembered.
     Cache,
 }
 

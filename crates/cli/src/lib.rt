@@ -13,6 +13,7 @@ mod progress;
 mod refusals;
 mod runs;
 mod searches;
+mod shortest;
 mod standings;
 mod wording;
 

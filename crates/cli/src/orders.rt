@@ -7,7 +7,8 @@ ghost use Rattle.regmodel.specs.declared.letters.Letter.{Letter};
 ghost use Rattle.regmodel.specs.declared.limits.TheConstants.{MOST_WORKERS};
 ghost use Rattle.regmodel.specs.Prefixes.{FitsPrefix};
 ghost use Rattle.regmodel.specs.ScheduleText.{schedule_text};
-ghost use Rattle.cli.specs.Orders.{IsCheck, IsExploration, IsFind, IsFlagTold, IsNativeTold, IsNumberTold, IsReplayOf, IsShowOf, texts_told};
+ghost use Rattle.cli.specs.Bounds.{IsBoundRefused};
+ghost use Rattle.cli.specs.Orders.{IsCheck, IsEffortTold, IsExploration, IsFind, IsFlagTold, IsNativeTold, IsNumberTold, IsReplayOf, IsShowOf, texts_told};
 ghost use Rattle.cli.specs.Inputs.{IsTextOf};
 ghost use Rattle.cli.specs.PatternTexts.{AreTextsOf};
 ghost use Rattle.cli.specs.Statuses.{status_of};
@@ -33,11 +34,13 @@ const CACHE_SETTING: u8 = 7;
 /// What to do with a source.
 #[derive(Debug, Drop)]
 pub enum Task {
-    /// Check it this far, and say in words what fails; a process at fault fails it unless that is allowed.
+    /// Check it this far, and say in words what fails: the least failing schedule, or the least of the shortest; a process at fault fails
+    /// it unless that is allowed.
     Check {
         effort: Effort,
         native: bool,
         allows_faults: bool,
+        shortest: bool,
     },
     /// Explore it this far, with native machines for use lines or with interpreters alone.
     Explore {
@@ -46,12 +49,12 @@ pub enum Task {
     },
     /// Look for its least failing schedule alone, as far and with the same machines.
     Least {
-        settings: Settings,
+        effort: Effort,
         native: bool,
     },
     /// Look this far for the least schedule whose outcome matches one of these patterns.
     Find {
-        settings: Settings,
+        effort: Effort,
         native: bool,
         patterns: Vec<Pattern>,
     },
@@ -76,8 +79,8 @@ impl Task {
         match self {
             Task::Check { effort, .. } => effort.settings.workers() + 1,
             Task::Explore { effort, .. } => effort.settings.workers(),
-            Task::Least { settings, .. } => settings.workers(),
-            Task::Find { settings, .. } => settings.workers() + 1,
+            Task::Least { effort, .. } => effort.settings.workers(),
+            Task::Find { effort, .. } => effort.settings.workers() + 1,
             Task::Replay { .. } | Task::Show { .. } => 1,
         }
     }
@@ -222,22 +225,35 @@ fn subject_of<'a>(words: &ArgMatches<'a>, refusal: &Refusal) -> &'a str {
     }
 }
 
-/// How far the words of `check` ask to check, and whether they allow faults.
+/// How far the words of `check` ask to check, whether they allow faults, and whether they ask for the shortest failing schedule.
 fn check_of(words: &ArgMatches<'_>, processors: u32) -> Result<Task, Refusal>
     requires some { 0 < processors }
     requires few { processors ≤ MOST_WORKERS }
     ensures ok { IfOk result (IsCheck (one_text (found_of words.now)) processors) }
     ensures err { IfErr result (λ refusal. status_of refusal ≡ 2) }
 {
-    let settings = bounds_of(words, processors)?;
-    let cache = bound_of(words, Bound::Cache, CACHE)?;
+    let effort = effort_of(words, processors)?;
     let native = is_native(words);
     let allows_faults = has_flag(words, "allow-faults");
+    let shortest = has_flag(words, "shortest");
     Ok(Task::Check {
-        effort: Effort { settings, cache },
+        effort,
         native,
         allows_faults,
+        shortest,
     })
+}
+
+/// How far the words of a check or a search ask to go, and in how many megabytes states are remembered.
+fn effort_of(words: &ArgMatches<'_>, processors: u32) -> Result<Effort, Refusal>
+    requires some { 0 < processors }
+    requires few { processors ≤ MOST_WORKERS }
+    ensures ok { IfOk result (IsEffortTold (one_text (found_of words.now)) processors) }
+    ensures err { IfErr result IsBoundRefused }
+{
+    let settings = bounds_of(words, processors)?;
+    let cache = bound_of(words, Bound::Cache, CACHE)?;
+    Ok(Effort { settings, cache })
 }
 
 /// How far the words of `find` ask to look, and for which outcomes. Standard input cannot be both the source and the patterns.
@@ -260,7 +276,7 @@ fn find_of<R: Read + Drop, F: Fn(&str) -> Option<R>>(
     ensures err { IfErr result
         (λ refusal. (status_of refusal ≡ 2) ⊎ (refusal ≡ Refusal.Memory)) }
 {
-    let settings = bounds_of(words, processors)?;
+    let effort = effort_of(words, processors)?;
     let native = is_native(words);
     let texts = pattern_words(words);
     if is_standard(words.get_str("FILE").unwrap_or("")) && are_standard(texts) {
@@ -268,7 +284,7 @@ fn find_of<R: Read + Drop, F: Fn(&str) -> Option<R>>(
     }
     let patterns = patterns_told(alloc, texts, opener)?;
     Ok(Task::Find {
-        settings,
+        effort,
         native,
         patterns,
     })
@@ -295,15 +311,15 @@ fn exploration_of(words: &ArgMatches<'_>) -> Result<Task, Refusal>
     );
     let cache = number_of(words, "cache");
     let native = is_native(words);
-    match settings {
-        Ok(_) if cache > MOST_CACHE => Err(Refusal::Setting(CACHE_SETTING)),
-        Ok(settings) if has_flag(words, "least") => Ok(Task::Least { settings, native }),
-        Ok(settings) => Ok(Task::Explore {
-            effort: Effort { settings, cache },
-            native,
-        }),
-        Err(fault) => Err(Refusal::Setting(fault.code)),
+    let effort = match settings {
+        Ok(_) if cache > MOST_CACHE => return Err(Refusal::Setting(CACHE_SETTING)),
+        Ok(settings) => Effort { settings, cache },
+        Err(fault) => return Err(Refusal::Setting(fault.code)),
+    };
+    if has_flag(words, "least") {
+        return Ok(Task::Least { effort, native });
     }
+    Ok(Task::Explore { effort, native })
 }
 
 /// To replay the schedule of this text.

@@ -4,6 +4,7 @@ ghost use Rattle.std.specs.Prelude.{◌≡◌, ◌⊎◌};
 ghost use Rattle.cli.specs.Statuses.{status_of};
 
 use crate::bounds::Bound;
+use crate::standings::RefusedLetter;
 use reglang::Rejection;
 use regmodel::OutOfMemory;
 use std::alloc::{AllocError, AllocFailed};
@@ -52,9 +53,9 @@ pub enum Refusal {
     /// A request for memory was refused.
     #[error("memory")]
     Memory,
-    /// A letter that is not possible where it stands, by its place from 0.
-    #[error("letter {0}")]
-    Letter(usize),
+    /// A letter that is not possible where it stands.
+    #[error("letter {}", .0.place)]
+    Letter(RefusedLetter),
     /// An exploration without a report.
     #[error("run {0}")]
     Run(u8),

@@ -1,18 +1,19 @@
 //! Where one schedule leads, and what it does on its way.
 
-ghost use Rattle.std.specs.Prelude.{◌≡◌, IfErr, IfOk, map};
+ghost use Rattle.std.specs.Prelude.{◌≡◌, ◌<◌, IfErr, IfOk, length, map};
 ghost use Rattle.regmodel.specs.Outcomes.{outcome_of};
 ghost use Rattle.regmodel.specs.Schedules.{IsSchedule};
 ghost use Rattle.reglang.specs.Sources.{source_programs, registers_of};
 ghost use Rattle.drawing.specs.Pictures.{IsPictureOf};
 ghost use Rattle.world.specs.Registers.{values_after};
-ghost use Rattle.cli.specs.Standings.{IsLetterRefused};
+ghost use Rattle.world.specs.Sound.{IsSoundWorld, letters_of, world_programs};
+ghost use Rattle.cli.specs.Standings.{IsHindranceAt, IsLetterRefused};
 
 use arrayvec::ArrayVec;
 use drawing::{Drawing, draw};
 use machine::Machine;
 use reglang::Source;
-use regmodel::{Outcome, Prefix};
+use regmodel::{End, Outcome, Prefix};
 use world::{BadLetter, World};
 
 /// How many processes may crash in a schedule that is replayed or drawn.
@@ -27,6 +28,17 @@ pub struct Standing {
     pub registers: ArrayVec<u32, 64>,
 }
 
+/// A letter that is not possible where it stands.
+#[derive(Debug, Drop)]
+pub struct RefusedLetter {
+    /// Its place in the schedule, from 0.
+    pub place: usize,
+    /// Its process.
+    pub process: u8,
+    /// How that process stands there; None where the source has no such process.
+    pub fate: Option<End>,
+}
+
 /// Where a schedule leads the machines of a source, one a process; any number of processes may crash. The first letter that
 /// is not possible is refused. Each machine is ended and dropped once, also then. Takes no memory.
 // In a frame of its own, which other orders do not touch.
@@ -35,7 +47,7 @@ pub fn standing_after(
     source: &Source,
     machines: Vec<Box<dyn Machine + Send>>,
     schedule: &Prefix,
-) -> Result<Standing, BadLetter>
+) -> Result<Standing, RefusedLetter>
     requires { map program machines.items ≡ source_programs source.now }
     ensures schedule { IfOk result
         (λ standing. IsSchedule (source_programs source.now) 8 schedule.now) }
@@ -45,7 +57,7 @@ pub fn standing_after(
         (λ standing. standing.registers.items
         ≡ values_after (source_programs source.now) schedule.now (registers_of source.now)) }
     ensures refused { IfErr result
-        (λ letter. IsLetterRefused (source_programs source.now) 8 schedule.now letter.place) }
+        (IsLetterRefused (source_programs source.now) 8 schedule.now) }
 {
     let mut world = World::new(machines, source.registers(), CRASHES);
     match world.replay(schedule) {
@@ -53,7 +65,7 @@ pub fn standing_after(
             outcome: world.outcome(),
             registers: ArrayVec::try_from(world.registers()).unwrap(),
         }),
-        Err(letter) => Err(letter),
+        Err(bad) => Err(refused_at(&world, schedule, bad)),
     }
 }
 
@@ -65,15 +77,40 @@ pub fn drawing_of(
     source: &Source,
     machines: Vec<Box<dyn Machine + Send>>,
     schedule: &Prefix,
-) -> Result<Drawing, BadLetter>
+) -> Result<Drawing, RefusedLetter>
     requires { map program machines.items ≡ source_programs source.now }
     ensures schedule { IfOk result
         (λ drawing. IsSchedule (source_programs source.now) 8 schedule.now) }
     ensures drawn { IfOk result
         (IsPictureOf (source_programs source.now) (registers_of source.now) schedule.now) }
     ensures refused { IfErr result
-        (λ letter. IsLetterRefused (source_programs source.now) 8 schedule.now letter.place) }
+        (IsLetterRefused (source_programs source.now) 8 schedule.now) }
 {
     let mut world = World::new(machines, source.registers(), CRASHES);
-    draw(&mut world, schedule)
+    match draw(&mut world, schedule) {
+        Ok(drawing) => Ok(drawing),
+        Err(bad) => Err(refused_at(&world, schedule, bad)),
+    }
+}
+
+/// What is told of a letter that is not possible where the world stands.
+fn refused_at(world: &World, schedule: &Prefix, bad: BadLetter) -> RefusedLetter
+    requires at { IsSoundWorld program rest world.now }
+    requires there { bad.place < length schedule.now }
+    ensures place { result.place ≡ bad.place }
+    ensures hindrance { IsHindranceAt
+        (outcome_of (world_programs program world.now) (letters_of world.now)) schedule.now
+        result }
+{
+    let process = schedule.letters()[bad.place].process();
+    let outcome = world.outcome();
+    let fate = match outcome.ends().get(usize::from(process)) {
+        Some(end) => Some(end.fate.clone().unwrap()),
+        None => None,
+    };
+    RefusedLetter {
+        place: bad.place,
+        process,
+        fate,
+    }
 }

@@ -4,7 +4,9 @@ ghost use Rattle.std.specs.Prelude.{◌≡◌, ◌⊎◌};
 ghost use Rattle.cli.specs.Statuses.{status_of};
 
 use crate::refusals::Refusal;
+use crate::standings::RefusedLetter;
 use explanations::write_explanation;
+use regmodel::End;
 use std::io;
 use std::io::Write;
 
@@ -71,13 +73,25 @@ fn write_words<E: Write>(subject: &str, refusal: &Refusal, err: &mut E) -> io::R
         Refusal::LongFile => writeln!(err, "{subject}: the file is longer than 1048576 bytes"),
         Refusal::Source(_) => Ok(()),
         Refusal::Memory => writeln!(err, "memory ran out"),
-        Refusal::Letter(place) => writeln!(
+        Refusal::Letter(refused) => writeln!(
             err,
-            "{subject}: letter {} of the schedule is not possible there: its process is not in the source, has crashed, or wants no access",
-            place.saturating_add(1)
+            "{subject}: letter {} of the schedule is not possible there: {}",
+            refused.place.saturating_add(1),
+            hindrance(refused)
         ),
         Refusal::Run(code) => writeln!(err, "{subject}: {}", run_fault(*code)),
         Refusal::Write => writeln!(err, "the answer could not be written"),
+    }
+}
+
+/// Why a letter is not possible, by how its process stands.
+fn hindrance(refused: &RefusedLetter) -> &'static str {
+    match &refused.fate {
+        None => "the source has no such process",
+        Some(End::Crashed) => "its process has crashed",
+        Some(End::Done(_)) => "its process is done",
+        Some(End::Fault(_)) => "its process is at fault",
+        Some(End::Running) => "its process cannot take that letter",
     }
 }
 

@@ -58,11 +58,11 @@ const BOUNDS: [(&str, &str, &str); 3] = [
 
 /// What the help of an exploration says of the memory for states.
 const CACHE: &str =
-    "In how many megabytes states are remembered: 0 to 65536. What follows a state that was met before is counted and not tried again, which gives the same report in fewer steps; --least does not do so. The workers share the megabytes [default: 0]";
+    "In how many megabytes states are remembered: 0 to 65536. What follows a state that was met before is counted and not tried again, which gives the same report in fewer steps. The workers share the megabytes [default: 0]";
 
-/// What the help of a check says of it.
+/// What the help of a check or a search says of it.
 const CHECK_CACHE: &str =
-    "In how many megabytes states are remembered, as by explore: 0 to 65536 [default: 0]";
+    "In how many megabytes states are remembered, as by explore: 0 to 65536 [default: 128]";
 
 /// What the help says of the statuses.
 const STATUSES: &str = "Statuses:
@@ -98,6 +98,8 @@ ninth number. With --allow-faults only a check that is broken counts.
 Where a schedule fails, it prints the least one that does: the first check that its outcome breaks and the line of
 that check, the lowest process at fault and why, the schedule as a drawing (see regtry show --help), and the command that
 replays it.
+The least schedule is often not the shortest. With --shortest the lengths 0, 1, 2 and so on are tried one after another, and the
+least schedule of the first length at which one fails is printed. Below the greatest length a check for `ended` is left out.
 Where none fails, it prints how much was tried, and whether schedules were cut off at the greatest length with a process
 still running: longer ones were not tried then. It says what was looked for where there is no check line, and which check no
 outcome could break, since no process ever had a name or was done.
@@ -192,6 +194,7 @@ fn check<'a>(alloc: Global) -> Result<Command<'a>, AllocError> {
     command
         .arg(bound(alloc, "cache", "MB", CHECK_CACHE))?
         .arg(allow_faults(alloc))?
+        .arg(shortest(alloc))?
         .arg(text(alloc))?
         .arg(progress(alloc))
 }
@@ -228,7 +231,10 @@ fn find<'a>(alloc: Global) -> Result<Command<'a>, AllocError> {
     for (name, value, help) in BOUNDS {
         command = command.arg(bound(alloc, name, value, help))?;
     }
-    command.arg(text(alloc))?.arg(progress(alloc))
+    command
+        .arg(bound(alloc, "cache", "MB", CHECK_CACHE))?
+        .arg(text(alloc))?
+        .arg(progress(alloc))
 }
 
 /// The words of `replay`.
@@ -282,6 +288,16 @@ fn allow_faults<'a>(alloc: Global) -> Arg<'a> {
         .action(ArgAction::SetTrue)
         .help(
             "Let no schedule fail for a process at fault alone, but only for a check that it breaks",
+        )
+}
+
+/// The flag that asks for the shortest failing schedule.
+fn shortest<'a>(alloc: Global) -> Arg<'a> {
+    Arg::new(alloc, "shortest")
+        .long("shortest")
+        .action(ArgAction::SetTrue)
+        .help(
+            "Tell the least of the shortest schedules that fail, in place of the least of all: lengths are tried from 0 on, up to --length",
         )
 }
 

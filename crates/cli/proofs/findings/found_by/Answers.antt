@@ -1,5 +1,5 @@
 use Rattle.std.proofs.Common.{◌≡◌, map}
-use Rattle.reglang.specs.Sources.{contents_of, source_programs}
+use Rattle.reglang.specs.Sources.{source_programs}
 use Rattle.explorer.proofs.Growing.{last_has}
 use Rattle.cli.proofs.findings.found_by.Goals as goal
 
