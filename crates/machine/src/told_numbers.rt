@@ -1,13 +1,14 @@
 //! How numbers are told: as they are, or where most of them are 0, by a mask and the other ones.
 
-ghost use Rattle.std.specs.Prelude.{◌≡◌, ◌≤◌, ◌++◌, IfSome, length};
+ghost use Rattle.std.specs.Prelude.{◌≡◌, ◌+◌, ◌≤◌, ◌++◌, IfSome, IsSome, length};
 ghost use Rattle.machine.specs.Sparse.{filled, mask_of, sparse};
 
 use crate::Told;
 
 /// Puts these behind the numbers, where there is room.
 pub fn put(values: &[u32], numbers: &mut Told) -> Option<()>
-    ensures { IfSome result (λ _. numbers.new.items ≡ numbers.old.items ++ values.now) }
+    ensures behind { IfSome result (λ _. numbers.new.items ≡ numbers.old.items ++ values.now) }
+    ensures room { length numbers.old.items + length values.now ≤ 64 → IsSome result }
 {
     numbers.try_extend_from_slice(values).ok()
 }
@@ -16,7 +17,9 @@ pub fn put(values: &[u32], numbers: &mut Told) -> Option<()>
 /// is not 0, and then the values that are not 0.
 pub fn put_sparse(values: &[u32], numbers: &mut Told) -> Option<()>
     requires { length values.now ≤ 32 }
-    ensures { IfSome result (λ _. numbers.new.items ≡ numbers.old.items ++ sparse values.now) }
+    ensures behind { IfSome result
+        (λ _. numbers.new.items ≡ numbers.old.items ++ sparse values.now) }
+    ensures room { length numbers.old.items + length (sparse values.now) ≤ 64 → IsSome result }
 {
     put(&[mask(values)], numbers)?;
     put_filled(values, numbers)
@@ -38,7 +41,9 @@ fn mask(values: &[u32]) -> u32
 
 /// Puts the values that are not 0 behind the numbers, where there is room.
 fn put_filled(values: &[u32], numbers: &mut Told) -> Option<()>
-    ensures { IfSome result (λ _. numbers.new.items ≡ numbers.old.items ++ filled values.now) }
+    ensures behind { IfSome result
+        (λ _. numbers.new.items ≡ numbers.old.items ++ filled values.now) }
+    ensures room { length numbers.old.items + length (filled values.now) ≤ 64 → IsSome result }
 {
     let Some((value, further)) = values.split_first() else {
         return Some(());

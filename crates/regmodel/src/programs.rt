@@ -135,7 +135,8 @@ impl Prog {
     ghost use Rattle.regmodel.specs.OfProg.{program_of};
 
     /// The program of these statements over so many registers. None where a limit is passed: 1 to 64 registers, numbers
-    /// up to 1000000000, variables 0 to 15, cells 0 to 31, scans of registers that are there into cells that are there, 200 statements, 3 nested repeats, 16 open blocks.
+    /// up to 1000000000, variables 0 to 15, cells 0 to 31, scans of registers that are there into cells that are there,
+    /// 200 statements, 3 nested repeats, 16 open blocks.
     pub fn new(registers: u32, body: Vec<Stmt>) -> Option<Prog>
         ensures value { IfSome result
             (λ p. program_of p ≡ record { registers = registers; body = block_of body.items }) }

@@ -12,7 +12,7 @@ returns-in-Proposes c =
     let stage = names_numbers m.later m.proposal m.stage in
     let held = sparse m.seen in
     let whole : spread 8 held ≡ m.seen = subst (λ n. spread n held ≡ m.seen) m.eight (spread-all m.seen) in
-    IfSome_then c.put_sparse.result c.put_sparse.ensures (λ _ last. record {
+    IfSome_then c.put_sparse.result c.put_sparse.ensures.behind (λ _ last. record {
       told = stage ++ held;
       behind = last ∙ (ap (λ ns. ns ++ held) c.in_ok-put_stage.ensures ∙ append_assoc c.args.numbers.now.items stage held);
       same = stage-told m m.stage held whole;

@@ -10,6 +10,6 @@ returns c = λ told.
     let m = c.args.self.now in
     record {
       told = c.number.result ∷ [];
-      behind = where_some c.put.result c.put.ensures (sym c.is_some.ensures ∙ told);
+      behind = where_some c.put.result c.put.ensures.behind (sym c.is_some.ensures ∙ told);
       same = λ s. sym (ap (λ stage. split_rest (expansion (kind.Split m.base m.id) m.registers) stage s) c.number.ensures);
     }
