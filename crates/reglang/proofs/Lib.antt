@@ -8,6 +8,7 @@ mod Frames
 mod Joins
 mod Leads
 mod LineWords
+mod Memory
 mod Programs
 mod ReadAgain
 mod Says

@@ -1,5 +1,5 @@
 -- Reading by whole values answers just the source that a text spells, or its first fault.
-use Rattle.std.proofs.Common.{◌≡◌, ◌≢◌, ℕ, suc, ◌+◌, Bool, true, false, List, [], ◌∷◌, ◌++◌, length, Option, Some, None, Result, Ok, Err, refl, ap, sym, subst, ◌∙◌, arith}
+use Rattle.std.proofs.Common.{◌≡◌, ◌≢◌, ℕ, suc, ◌+◌, Bool, true, false, List, [], ◌∷◌, ◌++◌, length, get_or, take, Option, Some, None, Result, Ok, Err, refl, ap, sym, subst, ◌∙◌, arith}
 use Rattle.std.specs.Prelude.{◌≤◌, ◌&&◌, if◌then◌else◌, IfSome, max, is_none, IsOk}
 use Rattle.std.specs.List.{AllByRecursion}
 use Rattle.std.proofs.lemmas.Bool.{lt-ltb}
@@ -85,6 +85,8 @@ line_not_taken reading code line more h =
 pub record IsLeft (text : List ℕ) (reading : Reading) (n : ℕ) (rest : List ℕ) : Type 0 where
   pub same : read_from Empty 0 (lines text) ≡ read_from reading n (lines rest)
   pub faultless : are_faultless at_start (lines text) ≡ are_faultless (context_of reading) (lines rest)
+  pub passed : (k : ℕ) → are_faultless at_start (take (n + k) (lines text)) ≡ are_faultless (context_of reading) (take k (lines rest))
+  pub there : (k : ℕ) → get_or (lines text) (n + k) [] ≡ get_or (lines rest) k []
 
 -- the first line of what is left, and what comes after it
 pub record IsCut (rest line after : List ℕ) : Type 0 where
@@ -99,6 +101,14 @@ left_next text rest line after reading next n h c e = record {
   faultless =
       h.faultless ∙ (ap (are_faultless (context_of reading)) c.cut
       ∙ line_taken reading next line (lines after) (subst (StepsRead reading (read_line line)) e (steps_read reading (read_line line))));
+  passed = λ k.
+      let further : n + 1 + k ≡ n + suc k = omega arith in
+      ap (λ m. are_faultless at_start (take m (lines text))) further
+      ∙ (h.passed (suc k) ∙ (ap (λ ls. are_faultless (context_of reading) (take (suc k) ls)) c.cut
+      ∙ line_taken reading next line (take k (lines after)) (subst (StepsRead reading (read_line line)) e (steps_read reading (read_line line)))));
+  there = λ k.
+      let further : n + 1 + k ≡ n + suc k = omega arith in
+      ap (λ m. get_or (lines text) m []) further ∙ (h.there (suc k) ∙ ap (λ ls. get_or ls (suc k) []) c.cut);
 }
 
 pub left_refused : (text rest line after : List ℕ) (reading : Reading) (n : ℕ) (refusal : LineRefusal) (fault : ReadFault) → IsLeft text reading n rest → IsCut rest line after → IsRefusalOf (take_if_said reading (read_line line)) refusal → IsFaultOf (n + 1) refusal fault → fault.code ≢ 9 → read_from Empty 0 (lines text) ≡ Err fault

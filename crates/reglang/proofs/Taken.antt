@@ -22,7 +22,7 @@ added before frames block n fits statement next room h told = rw (room, h, told)
 -- an answer that only memory may refuse
 pub answered : (expected : Result Reading ℕ) (next : Reading) (result : Result Draft LineRefusal) → IfOk result (λ draft. reading_of draft ≡ next) → IfErr result (λ r. r ≡ refusal.Memory) → expected ≡ Ok next → Answers expected result
 answered expected next (Ok draft) ok err e = e ∙ ap Ok (sym ok)
-answered expected next (Err refusal.Memory) ok err e = tt
+answered expected next (Err refusal.Memory) ok err e = rw e refl
 answered expected next (Err (refusal.Fault code)) ok err e = absurd cc
 
 pub left_repeat : (before : Contents) (frames outside : List Frame) (block : Block) (n : ℕ) (count : Expr) (outer ended : Block) → frames ≡ Turn count outer ∷ outside → ended ≡ program.Repeat count block Stop → leave_repeat before frames block n ≡ Ok (Inside before outside (outer ⊕ ended) n)

@@ -1,5 +1,5 @@
 -- Inside the crate: reading by whole values: what was read so far, and what one line more makes of it.
-use Rattle.std.specs.Prelude.{◌≡◌, ℕ, suc, ◌+◌, ◌<◌, ◌≤◌, Bool, true, false, ◌&&◌, if◌then◌else◌, List, [], ◌∷◌, ◌++◌, length, map, reverse, max, All, Option, Some, None, Result, Ok, Err, IfOk, MatchResult, nat_lt}
+use Rattle.std.specs.Prelude.{◌≡◌, ℕ, suc, ◌+◌, ◌<◌, ◌≤◌, Bool, true, false, ◌&&◌, if◌then◌else◌, List, [], ◌∷◌, ◌++◌, length, map, reverse, max, All, Option, Some, None, Result, Ok, Err, IfOk, IsOk, MatchResult, nat_lt}
 use Rattle.regmodel.specs.declared.clauses.Clause.{Clause}
 use Rattle.regmodel.specs.declared.programs.Expr.{Expr}
 use Rattle.regmodel.specs.declared.limits.TheConstants.{MOST_CHECKS, MOST_OPEN_BLOCKS, MOST_OPEN_REPEATS, MOST_PROCESSES, MOST_REGISTERS, MOST_STATEMENTS}
@@ -290,10 +290,15 @@ reading_of (draft.Between parts) = Between (contents_before parts)
 reading_of (draft.Inside process) = inside_of process
 reading_of (draft.Used parts kind) = Used (contents_before parts) kind
 
--- the refusal has the code that is expected, unless it is for memory
+-- the refusal has the code that is expected; memory is refused only where a line is taken
 abbrev pub IsRefusalOf : Result Reading ℕ → LineRefusal → Type 0
 IsRefusalOf expected (refusal.Fault code) = expected ≡ Err code
-IsRefusalOf expected refusal.Memory = Unit {0}
+IsRefusalOf expected refusal.Memory = IsOk expected
+
+-- memory is refused only where a line may ask for it
+abbrev pub IsWantOf : Bool → LineRefusal → Type 0
+IsWantOf may_ask (refusal.Fault code) = Unit {0}
+IsWantOf may_ask refusal.Memory = may_ask ≡ true
 
 -- the fault of a line that was refused; its own stands for memory
 abbrev pub IsFaultOf : ℕ → LineRefusal → ReadFault → Type 0

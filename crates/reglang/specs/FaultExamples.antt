@@ -1,6 +1,7 @@
 -- Worked examples: the first faults of texts, and a text that spells a source.
 use Rattle.std.specs.Prelude.{◌≡◌, ℕ, Bool, true, false, List, [], ◌∷◌, ◌++◌, Option, Some, None, codes, refl}
-use Rattle.reglang.specs.Faults.{are_faultless, at_start, first_fault}
+use Rattle.reglang.specs.Faults.{are_faultless, asks, at_start, first_fault}
+use Rattle.reglang.specs.Forms.{read_line}
 use Rattle.reglang.specs.Lines.{lines}
 use Rattle.reglang.specs.declared.reader.ReadFault.{ReadFault}
 
@@ -120,3 +121,16 @@ fi_missing = refl
 
 pub process_before_registers : are_all_faultless (codes "process" ▹ codes "end" ▹ []) ≡ false
 process_before_registers = refl
+
+-- memory may be refused at a statement and at the end of a process, and not where one begins, nor at a line that is skipped
+pub statement_asks : asks (read_line (codes "halt")) ≡ true
+statement_asks = refl
+
+pub end_asks : asks (read_line (codes "end")) ≡ true
+end_asks = refl
+
+pub process_asks_not : asks (read_line (codes "process")) ≡ false
+process_asks_not = refl
+
+pub comment_asks_not : asks (read_line (codes "# halt")) ≡ false
+comment_asks_not = refl

@@ -1,5 +1,5 @@
 -- The first fault of a text.
-use Rattle.std.specs.Prelude.{◌≡◌, ◌≢◌, ℕ, suc, ◌≤◌, Bool, true, false, not, ◌&&◌, if◌then◌else◌, List, [], ◌∷◌, ◌++◌, length, max, Option, Some, None, IfSome, is_some, is_none, unwrap_or, option_map, Result, Ok, Err, nat_lt}
+use Rattle.std.specs.Prelude.{◌≡◌, ◌≢◌, ℕ, suc, ◌-◌, ◌≤◌, Bool, true, false, not, ◌&&◌, if◌then◌else◌, List, [], ◌∷◌, ◌++◌, length, max, get_or, take, Option, Some, None, IfSome, is_some, is_none, unwrap_or, option_map, Result, Ok, Err, nat_lt}
 use Rattle.regmodel.specs.declared.limits.TheConstants.{MOST_CHECKS, MOST_OPEN_BLOCKS, MOST_OPEN_REPEATS, MOST_PROCESSES, MOST_REGISTERS, MOST_STATEMENTS}
 use Rattle.reglang.specs.declared.refusals.TheConstants.{MISPLACED, NO_CLAUSE, NO_MEMORY, NO_REGISTERS, PAST_LIMIT}
 use Rattle.regmodel.specs.Limits.{target_fits, operand_fits, expr_fits, scan_fits}
@@ -234,6 +234,26 @@ are_faultless context [] = true
 are_faultless context (line ∷ lines) =
     is_none (fault_of_line context (read_line line)) && are_faultless (context_after_lines (line_said (read_line line)) context) lines
 
+-- ---- where memory may be asked for
+
+-- a line that may ask for memory: a statement, or one that parts or ends a block or ends a process
+abbrev pub may_ask : Line → Bool
+may_ask (line.Registers n) = false
+may_ask line.Process = false
+may_ask (line.Use kind) = false
+may_ask (line.Check clause) = false
+may_ask _ = true
+
+-- whether it is one that says such a line
+abbrev pub asks : Result (Option Line) ℕ → Bool
+asks (Ok (Some line)) = may_ask line
+asks (Ok None) = false
+asks (Err code) = false
+
+-- the line of a text with this number, counted from 1
+abbrev pub line_at : ℕ → List ℕ → List ℕ
+line_at number text = get_or (lines text) (number - 1) []
+
 -- ---- the first of them
 
 -- where a line stands that comes after these lines
@@ -276,6 +296,15 @@ IsUnspelled text fault = fault.code ≢ NO_MEMORY → (source : Contents) → Sp
 -- no fault stands on a line before
 abbrev pub HasNoneBefore : List ℕ → ReadFault → Type 0
 HasNoneBefore text fault = IfSome (first_fault text) (λ first. fault.line ≤ first.line)
+
+-- memory is refused on a line that may ask for it, where neither it nor a line before has a fault
+pub record RunsOut (text : List ℕ) (number : ℕ) : Type 0 where
+  pub asked : asks (read_line (line_at number text)) ≡ true
+  pub faultless : are_faultless at_start (take number (lines text)) ≡ true
+
+-- so it is where this fault is that of memory
+abbrev pub WantsMemory : List ℕ → ReadFault → Type 0
+WantsMemory text fault = fault.code ≡ NO_MEMORY → RunsOut text fault.line
 
 -- it is told to be that of the end just where no line has one, unless memory was refused
 abbrev pub TellsEnd : List ℕ → Rejection → Type 0

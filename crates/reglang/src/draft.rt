@@ -1,7 +1,9 @@
 //! The part of a text that was read so far.
 
+ghost use Rattle.std.specs.Prelude.{IfErr, false};
 ghost use Rattle.reglang.specs.Drafts as spec;
-ghost use Rattle.reglang.specs.Drafts.{Answers, AnswersAtEnd, ReadingFits, reading_of, take_line};
+ghost use Rattle.reglang.specs.Drafts.{Answers, AnswersAtEnd, IsWantOf, ReadingFits, reading_of, take_line};
+ghost use Rattle.reglang.specs.Faults.{may_ask};
 
 use crate::forms::Line;
 use crate::open_process::OpenProcess;
@@ -29,7 +31,8 @@ impl Draft {
     /// Takes the next line of the text.
     pub fn take(self, alloc: Global, line: Line) -> Result<Draft, LineRefusal>
         requires { ReadingFits (reading_of self) }
-        ensures { Answers (take_line (reading_of self) line) result }
+        ensures answers { Answers (take_line (reading_of self) line) result }
+        ensures memory { IfErr result (IsWantOf (may_ask line)) }
     {
         match self {
             Draft::Empty => begin(alloc, line),
@@ -54,7 +57,8 @@ impl Draft {
 
 /// Takes the first line of the text.
 fn begin(alloc: Global, line: Line) -> Result<Draft, LineRefusal>
-    ensures { Answers (spec.begin line) result }
+    ensures answers { Answers (spec.begin line) result }
+    ensures memory { IfErr result (IsWantOf false) }
 {
     match line {
         Line::Registers(n) => {

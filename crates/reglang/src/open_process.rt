@@ -1,9 +1,10 @@
 //! A process of a text, up to its end.
 
-ghost use Rattle.std.specs.Prelude.{◌≡◌, ◌<◌, [], count_by, IfErr};
+ghost use Rattle.std.specs.Prelude.{◌≡◌, ◌<◌, [], count_by, false, IfErr};
 ghost use Rattle.regmodel.specs.Program.{Stop};
-ghost use Rattle.reglang.specs.Drafts.{Answers, Inside, Reads, ReadingFits, add_to, contents_before};
+ghost use Rattle.reglang.specs.Drafts.{Answers, Inside, IsWantOf, Reads, ReadingFits, add_to, contents_before};
 ghost use Rattle.reglang.specs.Drafts.{entered, inside_of, is_turn, may_enter, open_with, pushed, take_line};
+ghost use Rattle.reglang.specs.Faults.{may_ask};
 ghost use Rattle.reglang.specs.declared.forms.Line.TheVariants as line;
 
 use crate::draft::Draft;
@@ -64,7 +65,8 @@ impl OpenProcess {
     /// Takes a line of the process.
     pub fn take(self, alloc: Global, line: Line) -> Result<Draft, LineRefusal>
         requires { ReadingFits (inside_of self) }
-        ensures { Answers (take_line (inside_of self) line) result }
+        ensures answers { Answers (take_line (inside_of self) line) result }
+        ensures memory { IfErr result (IsWantOf (may_ask line)) }
     {
         match line {
             Line::Set(to, value) => self.add(to.fits() && value.fits(), Stmt::Assign(to, value)),
@@ -237,7 +239,8 @@ impl OpenProcess {
 
     /// Lets the process be what a use line stands for.
     fn stand_for(self, kind: Use) -> Result<Draft, LineRefusal>
-        ensures { Answers (take_line (inside_of self) (line.Use kind)) result }
+        ensures answers { Answers (take_line (inside_of self) (line.Use kind)) result }
+        ensures memory { IfErr result (IsWantOf false) }
     {
         if self.statements > 0 {
             return Err(LineRefusal::Fault(MISPLACED));

@@ -1,8 +1,8 @@
 //! The reader of texts.
 
 ghost use Rattle.std.specs.Prelude.{◌<◌, ◌≤◌, IfErr, IfOk};
-ghost use Rattle.reglang.specs.Drafts.{Answers, IsFaultOf, ReadingFits, reading_of, take_if_said};
-ghost use Rattle.reglang.specs.Faults.{HasNoneBefore, IsFirst, IsUnspelled, TellsEnd, TellsMemory, last_line};
+ghost use Rattle.reglang.specs.Drafts.{Answers, IsFaultOf, IsWantOf, ReadingFits, reading_of, take_if_said};
+ghost use Rattle.reglang.specs.Faults.{HasNoneBefore, IsFirst, IsUnspelled, TellsEnd, TellsMemory, WantsMemory, asks, last_line};
 ghost use Rattle.reglang.specs.Forms as forms;
 ghost use Rattle.reglang.specs.Grammar.{Spells};
 ghost use Rattle.reglang.specs.Sources.{contents_of};
@@ -37,7 +37,8 @@ pub struct Rejection {
 }
 
 /// Reads the source of a text, in one pass. A refused text has the code of its first fault, 1 to 8, and its line; code 9 is
-/// answered only where a request for memory was refused, with the line then being read, and no line before it has a fault.
+/// answered only where a request for memory was refused, with the line then being read: a statement, or a line that parts or
+/// ends a block or ends a process. Neither it nor a line before it has a fault then.
 pub fn read_source(alloc: Global, text: &[u8]) -> Result<Source, ReadFault>
     ensures spelled { IfOk result (λ source. Spells text.now (contents_of source)) }
     ensures first_fault { IfErr result (IsFirst text.now) }
@@ -45,6 +46,7 @@ pub fn read_source(alloc: Global, text: &[u8]) -> Result<Source, ReadFault>
     ensures no_fault_before { IfErr result (HasNoneBefore text.now) }
     ensures first_line { IfErr result (λ fault. 0 < fault.line) }
     ensures last_line { IfErr result (λ fault. fault.line ≤ last_line text.now) }
+    ensures memory { IfErr result (WantsMemory text.now) }
 {
     match read_text(alloc, text) {
         Ok(source) => Ok(source),
@@ -63,6 +65,7 @@ pub fn read_text(alloc: Global, text: &[u8]) -> Result<Source, Rejection>
     ensures last_line { IfErr result (λ rejection. rejection.fault.line ≤ last_line text.now) }
     ensures of_end { IfErr result (TellsEnd text.now) }
     ensures of_memory { IfErr result TellsMemory }
+    ensures memory { IfErr result (λ rejection. WantsMemory text.now rejection.fault) }
 {
     let mut draft = Draft::Empty;
     let mut rest = text;
@@ -95,7 +98,8 @@ pub fn read_text(alloc: Global, text: &[u8]) -> Result<Source, Rejection>
 /// Takes the next line of the text.
 fn next(alloc: Global, draft: Draft, line: &[u8]) -> Result<Draft, LineRefusal>
     requires { ReadingFits (reading_of draft) }
-    ensures { Answers (take_if_said (reading_of draft) (forms.read_line line.now)) result }
+    ensures answers { Answers (take_if_said (reading_of draft) (forms.read_line line.now)) result }
+    ensures memory { IfErr result (IsWantOf (asks (forms.read_line line.now))) }
 {
     match read_line(line) {
         Ok(Some(line)) => draft.take(alloc, line),

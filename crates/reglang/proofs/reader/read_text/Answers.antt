@@ -1,18 +1,19 @@
 use Rattle.std.proofs.Common.{◌≡◌, Err, length, max, ◌∙◌, ap, arith, sym}
 use Rattle.reglang.specs.Drafts.{reading_of}
 use Rattle.reglang.proofs.Fits.{read_on_fits}
+use Rattle.reglang.proofs.Memory.{ran_out}
 use Rattle.reglang.proofs.Spelled.{IsCut, left_next, left_refused, left_ended, line_refused, line_at_fault, end_at_fault, end_without_memory, no_fault_before, read_spells, read_fails}
 use Rattle.reglang.proofs.reader.read_text.Goals as goal
 
 pub returns-in-Err-clause-first_fault : goal.returns-in-Err-clause-first_fault
 returns-in-Err-clause-first_fault c = λ other.
     let cut : IsCut c.loop-bytes.rest.now c.in-Some.bytes.now c.in-Some.after.now = record { cut = c.in-Some.ensures.0 } in
-    (read_fails c.args.text.now _ (left_refused _ _ _ _ _ _ c.in-Err.refusal _ c.loop-bytes.invariant.left cut c.in-Err.ensures c.fault.ensures other)).0
+    (read_fails c.args.text.now _ (left_refused _ _ _ _ _ _ c.in-Err.refusal _ c.loop-bytes.invariant.left cut c.in-Err.ensures.answers c.fault.ensures other)).0
 
 pub returns-in-Err-clause-not_spelled : goal.returns-in-Err-clause-not_spelled
 returns-in-Err-clause-not_spelled c = λ other.
     let cut : IsCut c.loop-bytes.rest.now c.in-Some.bytes.now c.in-Some.after.now = record { cut = c.in-Some.ensures.0 } in
-    (read_fails c.args.text.now _ (left_refused _ _ _ _ _ _ c.in-Err.refusal _ c.loop-bytes.invariant.left cut c.in-Err.ensures c.fault.ensures other)).1
+    (read_fails c.args.text.now _ (left_refused _ _ _ _ _ _ c.in-Err.refusal _ c.loop-bytes.invariant.left cut c.in-Err.ensures.answers c.fault.ensures other)).1
 
 pub loop-bytes-preserved : goal.loop-bytes-preserved
 loop-bytes-preserved c =
@@ -22,8 +23,8 @@ loop-bytes-preserved c =
     let short = c.loop-bytes.invariant.short in
     let fewer = ap length cut.cut in
     record {
-      fits = read_on_fits _ _ c.in-Some.bytes.now c.loop-bytes.invariant.fits c.in-Ok.ensures;
-      left = left_next _ _ _ _ _ _ _ c.loop-bytes.invariant.left cut c.in-Ok.ensures;
+      fits = read_on_fits _ _ c.in-Some.bytes.now c.loop-bytes.invariant.fits c.in-Ok.ensures.answers;
+      left = left_next _ _ _ _ _ _ _ c.loop-bytes.invariant.left cut c.in-Ok.ensures.answers;
       counted = omega arith;
       short = omega arith;
     }
@@ -54,10 +55,18 @@ returns-in-Err-finish-clause-no_fault_before c =
 pub returns-in-Err-clause-of_end : goal.returns-in-Err-clause-of_end
 returns-in-Err-clause-of_end c = λ other.
     let cut : IsCut c.loop-bytes.rest.now c.in-Some.bytes.now c.in-Some.after.now = record { cut = c.in-Some.ensures.0 } in
-    sym (line_at_fault _ _ _ _ _ _ c.in-Err.refusal _ c.loop-bytes.invariant.left cut c.in-Err.ensures c.fault.ensures other)
+    sym (line_at_fault _ _ _ _ _ _ c.in-Err.refusal _ c.loop-bytes.invariant.left cut c.in-Err.ensures.answers c.fault.ensures other)
 
 pub returns-in-Err-finish-clause-of_end : goal.returns-in-Err-finish-clause-of_end
 returns-in-Err-finish-clause-of_end c = λ other. sym (end_at_fault _ _ _ _ c.loop-bytes.invariant.left c.in_default.ensures)
+
+pub returns-in-Err-clause-memory : goal.returns-in-Err-clause-memory
+returns-in-Err-clause-memory c =
+    let cut : IsCut c.loop-bytes.rest.now c.in-Some.bytes.now c.in-Some.after.now = record { cut = c.in-Some.ensures.0 } in
+    ran_out _ _ _ _ _ _ c.in-Err.refusal _ c.loop-bytes.invariant.left cut c.in-Err.ensures.answers c.in-Err.ensures.memory c.fault.ensures
+
+pub returns-in-Err-finish-clause-memory : goal.returns-in-Err-finish-clause-memory
+returns-in-Err-finish-clause-memory c = λ e. absurd (end_without_memory (reading_of c.loop-bytes.draft) c.in-Err-finish.code c.in-Err-finish.ensures e)
 
 pub returns-in-Err-finish-clause-of_memory : goal.returns-in-Err-finish-clause-of_memory
 returns-in-Err-finish-clause-of_memory c = λ e. absurd (end_without_memory (reading_of c.loop-bytes.draft) c.in-Err-finish.code c.in-Err-finish.ensures e)
