@@ -1,5 +1,5 @@
 -- What a looker runs, and what it does on further replies.
-use Rattle.std.specs.Prelude.{ℕ, List, [], ◌∷◌}
+use Rattle.std.specs.Prelude.{◌≢◌, ◌<◌, ℕ, [], ◌∷◌}
 use Rattle.regmodel.specs.declared.accesses.Pending.{Pending}
 use Rattle.regmodel.specs.declared.accesses.Pending.TheVariants.{Done}
 use Rattle.regmodel.specs.declared.programs.Expr.TheVariants.{One}
@@ -14,6 +14,10 @@ use Rattle.calling.specs.declared.looker.Stage.TheVariants.{Looks, Saw, Ended}
 -- it reads this register and emits what it read
 abbrev pub looking : ℕ → ℕ → Program
 looking registers register = record { registers = registers; body = Read (target.Var 0) (operand.Number register) (Emit (One (operand.Var 0)) Stop) }
+
+-- it is the program of no looker
+abbrev pub IsNoLooker : Program → Type 0
+IsNoLooker program = (registers register : ℕ) → register < registers → program ≢ looking registers register
 
 -- at its read what its program does from its start; then it is done
 abbrev pub looker_rest : Program → Stage → Replies → Pending

@@ -1,10 +1,28 @@
 //! A machine made by hand: it reads one register, and emits what it read.
 
-ghost use Rattle.std.specs.Prelude.{◌≡◌, ◌<◌, ◌≤◌, IfSome};
+ghost use Rattle.std.specs.Prelude.{◌≡◌, ◌<◌, ◌≤◌, IfNone, IfSome};
 ghost use Rattle.regmodel.specs.OfProg.{program_of};
+ghost use Rattle.calling.specs.Statements as spec;
 
 use machine::{Machine, value_of};
 use regmodel::{Access, Expr, Numbers, Operand, Pending, Prog, Stmt, Target};
+
+/// The register that a statement reads into the first variable; None where it is another one.
+fn register_read(stmt: &Stmt) -> Option<u32>
+    ensures { result ≡ spec.register_read stmt.now }
+{
+    match stmt {
+        Stmt::Read(Target::Var(0), Operand::Number(register)) => Some(*register),
+        _ => None,
+    }
+}
+
+/// Whether a statement emits what is in the first variable.
+fn emits_it(stmt: &Stmt) -> bool
+    ensures { result ≡ spec.emits_it stmt.now }
+{
+    matches!(stmt, Stmt::Emit(Expr::One(Operand::Var(0))))
+}
 
 /// Where a looker stands.
 #[derive(Clone, Copy)]
@@ -28,22 +46,26 @@ pub struct Looker {
 }
 
 impl Looker {
-    /// The looker of a program, at its start; None where the program is another one.
+    ghost use Rattle.calling.specs.Lookers.{IsNoLooker};
+
+    /// The looker of a program, at its start; None where the program is another one, or reads a register that is not there.
     pub fn of(prog: &Prog) -> Option<Looker>
-        ensures { IfSome result (λ m. ⟦<Looker as Machine>⟧.program m ≡ program_of prog.now) }
+        ensures some { IfSome result (λ m. ⟦<Looker as Machine>⟧.program m ≡ program_of prog.now) }
+        ensures none { IfNone result (IsNoLooker (program_of prog.now)) }
     {
         let registers = prog.registers();
-        match prog.body() {
-            [
-                Stmt::Read(Target::Var(0), Operand::Number(register)),
-                Stmt::Emit(Expr::One(Operand::Var(0))),
-            ] if *register < registers => Some(Looker {
-                register: *register as u8,
-                registers,
-                stage: Stage::Looks,
-            }),
-            _ => None,
+        let [first, last] = prog.body() else {
+            return None;
+        };
+        let register = register_read(first)?;
+        if register >= registers || !emits_it(last) {
+            return None;
         }
+        Some(Looker {
+            register: register as u8,
+            registers,
+            stage: Stage::Looks,
+        })
     }
 }
 
