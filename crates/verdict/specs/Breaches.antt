@@ -14,6 +14,7 @@ use Rattle.verdict.specs.Onsets.{IsOnset}
 use Rattle.verdict.specs.declared.breaches.Breach.{Breach}
 use Rattle.verdict.specs.declared.breaches.Cause.{Cause}
 use Rattle.verdict.specs.declared.breaches.Cause.TheVariants.{Check, Fault}
+use Rattle.verdict.specs.declared.demands.Strictness.{Strictness}
 
 -- the line of the first clause that is asked and that an outcome breaks
 pub record IsBrokenLine (text : List ℕ) (clauses : List Clause) (asks_ended : Bool) (ends : List ProcEnd) (line : ℕ) : Type 0 where
@@ -29,9 +30,9 @@ abbrev pub IsCauseOf : List ℕ → List Clause → Bool → List ProcEnd → Ca
 IsCauseOf text clauses asks_ended ends (Check line fault) = IsBrokenLine text clauses asks_ended ends line × (fault ≡ first_fault 0 ends)
 IsCauseOf text clauses asks_ended ends (Fault fault) = (meets_all (clauses_asked asks_ended clauses) ends ≡ true) × (first_fault 0 ends ≡ Some fault)
 
--- the schedule, why and from where on it fails, and the drawing; `ended` may be left out
-pub record IsBreachOf (text : List ℕ) (source : Contents) (asks_ended : Bool) (w : Schedule) (ends : List ProcEnd) (breach : Breach) : Type 0 where
+-- the schedule, why and from where on it fails when judged so strictly, and the drawing
+pub record IsBreachOf (text : List ℕ) (source : Contents) (strictness : Strictness) (w : Schedule) (ends : List ProcEnd) (breach : Breach) : Type 0 where
   pub schedule : breach.schedule ≡ w
-  pub cause : IsCauseOf text source.clauses asks_ended ends breach.cause
-  pub onset : IsOnset (programs_in source) (meets_demands (clauses_asked false source.clauses) false) w breach.onset
+  pub cause : IsCauseOf text source.clauses strictness.asks_ended ends breach.cause
+  pub onset : IsOnset (programs_in source) (meets_demands (clauses_asked false source.clauses) strictness.allows_faults) w breach.onset
   pub drawing : IsPictureOf (programs_in source) source.registers w breach.drawing

@@ -6,6 +6,7 @@ use Rattle.regmodel.specs.declared.outcomes.ProcEnd.{ProcEnd}
 use Rattle.regmodel.specs.Judging.{meets, meets_all}
 use Rattle.verdict.specs.declared.demands.Asked.{Asked}
 use Rattle.verdict.specs.declared.demands.Asked.TheVariants.{Checks, Faults, Nothing}
+use Rattle.verdict.specs.declared.demands.Strictness.{Strictness}
 
 -- the clause that no process may be running
 abbrev pub is_ended : Clause → Bool
@@ -28,6 +29,10 @@ breaks asks_ended ends clause = is_asked asks_ended clause && not (meets clause 
 -- an outcome meets what a check demands where it meets all clauses, and no process is at fault unless that is allowed
 abbrev pub meets_demands : List Clause → Bool → List ProcEnd → Bool
 meets_demands clauses allows_faults ends = meets_all clauses ends && (allows_faults || meets NoFault ends)
+
+-- an outcome meets what is demanded of a schedule that is judged so strictly
+abbrev pub demands_of : Strictness → List Clause → List ProcEnd → Bool
+demands_of strictness clauses = meets_demands (clauses_asked strictness.asks_ended clauses) strictness.allows_faults
 
 -- what is looked for: what clauses ask; without a clause faults alone, or nothing where they are allowed
 abbrev pub asked_of : List Clause → Bool → Asked

@@ -11,11 +11,11 @@ ghost use Rattle.reglang.specs.Grammar.{Spells};
 ghost use Rattle.reglang.specs.Sources.{contents_of, registers_of, source_programs};
 ghost use Rattle.drawing.specs.Pictures.{IsPictureOf};
 ghost use Rattle.verdict.specs.Breaches.{IsBreachOf, IsBrokenLine, IsCauseOf};
-ghost use Rattle.verdict.specs.Demands.{clauses_asked, meets_demands};
+ghost use Rattle.verdict.specs.Demands.{clauses_asked, demands_of, meets_demands};
 ghost use Rattle.verdict.specs.Verdicts.{IsVerdictFor};
 ghost use Rattle.world.specs.Sound.{IsSameWorld, IsSoundWorld, budget_of, letters_of, register_count_of, world_programs};
 
-use crate::demands::{Asked, asked_of, first_broken};
+use crate::demands::{Asked, Strictness, asked_of, first_broken};
 use crate::faults::{ProcessFault, first_fault};
 use crate::gaps::{Gap, gaps_of};
 use crate::onsets::onset_of;
@@ -50,8 +50,8 @@ pub struct Breach {
     pub schedule: Prefix,
     /// Why it fails.
     pub cause: Cause,
-    /// From which letter on each of its beginnings breaks a check but `ended`, or has a process at fault, counted from 1; 0 where that with no
-    /// letter does. None where it does not so itself.
+    /// From which letter on each of its beginnings breaks a check but `ended`, or has a process at fault where that is not allowed, counted
+    /// from 1; 0 where that with no letter does. None where it does not so itself.
     pub onset: Option<u64>,
     /// What is drawn of it.
     pub drawing: Drawing,
@@ -110,7 +110,11 @@ pub fn verdict_on(
 {
     match checked {
         Checked::Fails(least) => {
-            Verdict::Fails(breach_for(text, source, machines, settings, true, &least))
+            let strictness = Strictness {
+                asks_ended: true,
+                allows_faults,
+            };
+            Verdict::Fails(breach_for(text, source, machines, settings, strictness, &least))
         }
         Checked::Holds(exploration) => {
             let clauses = source.clauses().list();
@@ -123,25 +127,23 @@ pub fn verdict_on(
     }
 }
 
-/// What the least failing schedule breaks, which there is; `ended` may be left out. The machines, one a process, lead to its drawing. Takes
-/// no memory.
+/// What the least schedule breaks that fails when judged so strictly, which there is. The machines, one a process, lead to its drawing.
+/// Takes no memory.
 pub fn breach_for(
     text: &[u8],
     source: &Source,
     machines: Vec<Box<dyn Machine + Send>>,
     settings: Settings,
-    asks_ended: bool,
+    strictness: Strictness,
     least: &Least,
 ) -> Breach
     requires machines { map program machines.items ≡ source_programs source.now }
     requires spelled { Spells text.now (contents_of source.now) }
-    requires least { (allows_faults : Bool)
-        × IsPlainLeast (source_programs source.now) settings.length settings.crashes
-        (meets_demands (clauses_asked asks_ended (contents_of source.now).clauses) allows_faults)
-        least.now }
+    requires least { IsPlainLeast (source_programs source.now) settings.length settings.crashes
+        (demands_of strictness (contents_of source.now).clauses) least.now }
     requires fails { is_some least.now.least ≡ true }
     ensures { IfSome least.now.least
-        (λ l. IsBreachOf text.now (contents_of source.now) asks_ended l.0 l.1 result) }
+        (λ l. IsBreachOf text.now (contents_of source.now) strictness l.0 l.1 result) }
 {
     the_first_refused_is_a_schedule();
     let Some((schedule, outcome)) = least.least() else {
@@ -152,53 +154,49 @@ pub fn breach_for(
         source,
         machines,
         settings.crashes(),
-        asks_ended,
-        schedule,
-        outcome,
+        strictness,
+        (schedule, outcome),
     )
 }
 
-/// What a schedule of a source breaks that fails, whether or not faults are allowed; `ended` may be left out. The machines, one a process,
-/// lead to the drawing. Takes no memory.
+/// What a schedule of a source with this outcome breaks that fails when judged so strictly. The machines, one a process, lead to the
+/// drawing. Takes no memory.
 fn breach_of(
     text: &[u8],
     source: &Source,
     machines: Vec<Box<dyn Machine + Send>>,
     crashes: u32,
-    asks_ended: bool,
-    schedule: &Prefix,
-    outcome: &Outcome,
+    strictness: Strictness,
+    failing: (&Prefix, &Outcome),
 ) -> Breach
     requires machines { map program machines.items ≡ source_programs source.now }
     requires few { crashes ≤ MOST_CRASHES }
     requires spelled { Spells text.now (contents_of source.now) }
-    requires refused { (allows_faults : Bool)
-        × IsRefusedWith (source_programs source.now) crashes
-        (meets_demands (clauses_asked asks_ended (contents_of source.now).clauses) allows_faults)
-        schedule.now outcome.now }
-    ensures { IsBreachOf text.now (contents_of source.now) asks_ended schedule.now outcome.now
-        result }
+    requires refused { IsRefusedWith (source_programs source.now) crashes
+        (demands_of strictness (contents_of source.now).clauses) failing.0.now failing.1.now }
+    ensures { IsBreachOf text.now (contents_of source.now) strictness failing.entry.0.now
+        failing.entry.1.now result }
 {
+    let (schedule, outcome) = failing;
     let mut world = World::new(machines, source.registers(), crashes);
     let drawing = drawing_of(&mut world, schedule);
     Breach {
         schedule: schedule.copy(),
-        cause: cause_of(text, source, asks_ended, outcome),
-        onset: onset_of(&mut world, source.clauses()),
+        cause: cause_of(text, source, strictness, outcome),
+        onset: onset_of(&mut world, source.clauses(), strictness.allows_faults),
         drawing,
     }
 }
 
-/// Why a schedule with this outcome fails; `ended` may be left out.
-fn cause_of(text: &[u8], source: &Source, asks_ended: bool, outcome: &Outcome) -> Cause
+/// Why a schedule with this outcome fails when judged so strictly.
+fn cause_of(text: &[u8], source: &Source, strictness: Strictness, outcome: &Outcome) -> Cause
     requires spelled { Spells text.now (contents_of source.now) }
-    requires refused { (allows_faults : Bool)
-        × (meets_demands (clauses_asked asks_ended (contents_of source.now).clauses) allows_faults
-        outcome.now ≡ false) }
-    ensures { IsCauseOf text.now (contents_of source.now).clauses asks_ended outcome.now result }
+    requires refused { demands_of strictness (contents_of source.now).clauses outcome.now ≡ false }
+    ensures { IsCauseOf text.now (contents_of source.now).clauses strictness.asks_ended outcome.now
+        result }
 {
     let fault = first_fault(outcome);
-    if let Some(line) = broken_line(text, source, asks_ended, outcome) {
+    if let Some(line) = broken_line(text, source, strictness.asks_ended, outcome) {
         return Cause::Check { line, fault };
     }
     let Some(fault) = fault else { unreachable!() };

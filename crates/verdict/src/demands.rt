@@ -19,6 +19,15 @@ pub enum Asked {
     Checks,
 }
 
+/// How strictly a schedule is judged.
+#[derive(Clone, Copy, PartialEq, Eq, Debug)]
+pub struct Strictness {
+    /// Whether `ended` is asked, where a check asks it.
+    pub asks_ended: bool,
+    /// Whether a process may be at fault.
+    pub allows_faults: bool,
+}
+
 /// The judge of a check: an outcome is good where it meets all clauses, and no process is at fault unless that is allowed.
 #[derive(Clone, Copy, Debug)]
 pub struct Demands<'a> {

@@ -16,7 +16,7 @@ mod telling;
 mod ways;
 
 pub use breaches::{Breach, Cause, Held, Verdict, breach_for, verdict_on};
-pub use demands::{Asked, Demands, without_ended};
+pub use demands::{Asked, Demands, Strictness, without_ended};
 pub use faults::{FaultLine, ProcessFault, first_fault};
 pub use gaps::{Gap, Want};
 pub use leading::write_discovery;

@@ -11,18 +11,19 @@ use regmodel::{Clauses, Judge};
 use world::World;
 
 /// From which letter on each beginning of the schedule where the world stands fails, counted from 1; 0 where that with no letter does. A
-/// process at fault fails it, too, but `ended` is not asked. None where the schedule itself does not fail so. The world stands at a
-/// beginning of the schedule then.
-pub(crate) fn onset_of(world: &mut World, clauses: &Clauses) -> Option<u64>
+/// process at fault fails it, too, unless that is allowed, but `ended` is not asked. None where the schedule itself does not fail so. The
+/// world stands at a beginning of the schedule then.
+pub(crate) fn onset_of(world: &mut World, clauses: &Clauses, allows_faults: bool) -> Option<u64>
     requires { IsSoundWorld program rest world.old }
     ensures same { IsSameWorld program rest world.old world.new }
     ensures onset { IsOnset (world_programs program world.old)
-        (meets_demands (clauses_asked false clauses.now) false) (letters_of world.old) result }
+        (meets_demands (clauses_asked false clauses.now) allows_faults) (letters_of world.old)
+        result }
 {
     let asked = without_ended(clauses);
     let judge = Demands {
         clauses: &asked,
-        allows_faults: false,
+        allows_faults,
     };
     if judge.holds(&world.outcome()) {
         return None;

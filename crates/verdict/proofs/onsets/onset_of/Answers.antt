@@ -14,7 +14,7 @@ returns-then-holds-2-clause-onset g c =
     record {
       there = kept.there;
       refused = kept.refused;
-      accepted = λ some. found-at (meets_demands (clauses_asked false c.args.clauses.now) false) _ _ (letters_of c.args.world.now) _ _ c.loop-onset.onset (c.loop-onset.onset - 1) _ same kept.at c.back_to.ensures.back (omega arith) told ∙ c.if-holds-2.true;
+      accepted = λ some. found-at (meets_demands (clauses_asked false c.args.clauses.now) c.args.allows_faults) _ _ (letters_of c.args.world.now) _ _ c.loop-onset.onset (c.loop-onset.onset - 1) _ same kept.at c.back_to.ensures.back (omega arith) told ∙ c.if-holds-2.true;
     }
 
 pub loop-onset-preserved : goal.loop-onset-preserved
@@ -22,7 +22,7 @@ loop-onset-preserved g c =
     let kept = c.loop-onset.invariant in
     let told = rw (c.without_ended-asked.ensures, c.outcome-in-loop-onset.ensures) at c.holds-in-loop-onset.ensures in
     let same = c.back_to.ensures.same.programs ∙ kept.same.programs in
-    let here = found-at (meets_demands (clauses_asked false c.args.clauses.now) false) _ _ (letters_of c.args.world.now) _ _ c.loop-onset.onset (c.loop-onset.onset - 1) _ same kept.at c.back_to.ensures.back (omega arith) told ∙ c.if-holds-2.false in
+    let here = found-at (meets_demands (clauses_asked false c.args.clauses.now) c.args.allows_faults) _ _ (letters_of c.args.world.now) _ _ c.loop-onset.onset (c.loop-onset.onset - 1) _ same kept.at c.back_to.ensures.back (omega arith) told ∙ c.if-holds-2.false in
     record {
       same = record {
         programs = same;
@@ -32,7 +32,7 @@ loop-onset-preserved g c =
       };
       at = c.back_to.ensures.back ∙ (ap (take (c.loop-onset.onset - 1)) kept.at ∙ take-take (c.loop-onset.onset - 1) c.loop-onset.onset (letters_of c.args.world.now) (omega arith));
       there = omega (arith, kept.there);
-      refused = one-less (λ k. meets_demands (clauses_asked false c.args.clauses.now) false (outcome_of _ (take k (letters_of c.args.world.now))) ≡ false) c.loop-onset.onset (length (letters_of c.args.world.now)) kept.refused here;
+      refused = one-less (λ k. meets_demands (clauses_asked false c.args.clauses.now) c.args.allows_faults (outcome_of _ (take k (letters_of c.args.world.now))) ≡ false) c.loop-onset.onset (length (letters_of c.args.world.now)) kept.refused here;
     }
 
 pub returns-clause-onset : goal.returns-clause-onset
