@@ -8,6 +8,8 @@ mod numbers;
 mod reading;
 mod standings;
 
+pub use cuts::cut_at;
 pub use matching::NoneOf;
+pub use numbers::number_of;
 pub use reading::{BadPattern, read_pattern};
 pub use standings::{Pattern, Standing};

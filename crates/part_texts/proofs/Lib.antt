@@ -1,0 +1,5 @@
+pub mod JustOnes
+pub mod NoLines
+pub mod ReadTexts
+pub mod SameLines
+pub mod SameParts

@@ -1,0 +1,95 @@
+-- Beginnings of texts, and lines that are read one after another.
+use Rattle.std.proofs.Common.{◌≡◌, ◌≢◌, ℕ, ◌+◌, ◌<◌, Bool, true, false, List, [], ◌∷◌, ◌++◌, length, take, drop, Option, Some, None, Result, Ok, Err, IfErr, IfSome, IfNone, refl, ap, sym, subst, ◌∙◌, append_assoc, codes, decimal, arith, length-append}
+use Rattle.std.specs.Option.{MatchOption}
+use Rattle.std.specs.Str.{bytes_eq}
+use Rattle.std.specs.Cmp.Lexicographic.{bytes_decides}
+use Rattle.std.specs.Io.KnownBytes.{Consumes}
+use Rattle.std.specs.List.{flat_map}
+use Rattle.std.proofs.lemmas.Grind.{flat_map-append}
+use Rattle.regmodel.specs.Settings.{Bounds}
+use Rattle.regmodel.specs.declared.outcomes.ProcEnd.{ProcEnd}
+use Rattle.texts.specs.NumberText.{number_line}
+use Rattle.texts.specs.OutcomeText.{outcome_line}
+use Rattle.part_texts.specs.declared.faults.Cause.{Cause}
+use Rattle.part_texts.specs.declared.faults.Cause.TheVariants.{Unreadable}
+use Rattle.part_texts.specs.PlainHead.{PlainHead, head_of}
+use Rattle.part_texts.specs.PartText.{bounds_text, head_text, number_text}
+use Rattle.part_texts.specs.Streams.{ReadsOn}
+use Rattle.std.proofs.KnownBytes.{Consumes-trans}
+use Rattle.std.proofs.lemmas.List.{append-nil, take-append-drop}
+
+-- ---- beginnings
+
+pub prefix_then : (n : ℕ) (text word rest : List ℕ) → take n text ≡ word → rest ≡ drop n text → word ++ rest ≡ text
+prefix_then n text word rest e d = ap (λ w. w ++ rest) (sym e) ∙ ap (λ r. take n text ++ r) d ∙ take-append-drop n text
+
+-- what is left behind a word at the beginning of a text
+pub begins_with : {B : Type 0} (text word : List ℕ) (now : B → List ℕ) (r : Option B) → MatchOption r (bytes_eq (take (length word) text) word ≡ false) (λ x. (bytes_eq (take (length word) text) word ≡ true) × (now x ≡ drop (length word) text) × (length (now x) + length word ≡ length text)) → IfSome r (λ x. word ++ now x ≡ text)
+begins_with text word now None h = tt
+begins_with text word now (Some x) h = prefix_then (length word) text word (now x) ((bytes_decides (take (length word) text) word).0 h.0) h.1
+
+take-front : (word rest : List ℕ) → take (length word) (word ++ rest) ≡ word
+take-front [] rest = refl
+take-front (b ∷ word) rest = ap (λ w. b ∷ w) (take-front word rest)
+
+clash : (t : Bool) → t ≡ true → t ≡ false → ⊥
+clash true h k = cc
+clash false h k = cc
+
+pub begins_not : {B : Type 0} (text word : List ℕ) (now : B → List ℕ) (r : Option B) → MatchOption r (bytes_eq (take (length word) text) word ≡ false) (λ x. (bytes_eq (take (length word) text) word ≡ true) × (now x ≡ drop (length word) text) × (length (now x) + length word ≡ length text)) → IfNone r ((rest : List ℕ) → word ++ rest ≢ text)
+begins_not text word now None h = λ rest e. clash (bytes_eq (take (length word) text) word) ((bytes_decides (take (length word) text) word).1 (ap (take (length word)) (sym e) ∙ take-front word rest)) h
+begins_not text word now (Some x) h = tt
+
+-- ---- what is read one after another
+
+-- where something was read, something was left
+pub some_left : (a b : Option (List ℕ)) (x : List ℕ) → Consumes a b x → 0 < length x → a ≡ Some [] → ⊥
+some_left None b x p some e = cc
+some_left (Some u) None x p some e = p
+some_left (Some u) (Some v) x p some e =
+    let none : u ≡ [] = inside u e in
+    omega (arith, some, ap length (sym p ∙ none), length-append x v)
+  where
+    inside : (u : List ℕ) → Some u ≡ Some [] → u ≡ []
+    inside u h = cc
+
+-- a line was read
+pub line_left : (a b : Option (List ℕ)) (line : List ℕ) → Consumes a b (line ++ 10 ∷ []) → a ≡ Some [] → ⊥
+line_left a b line p e = some_left a b (line ++ 10 ∷ []) p (omega (arith, length-append line (10 ∷ []))) e
+
+-- where something was left, an error says nothing of an empty text
+pub not_at_end : {X : Type 0} (a : Option (List ℕ)) (r : Result X Cause) → (a ≡ Some [] → ⊥) → IfErr r (λ cause. a ≡ Some [] → cause ≡ Unreadable)
+not_at_end a (Ok x) h = tt
+not_at_end a (Err cause) h = λ e. absurd (h e)
+
+-- a line is read, and then what goes on after it
+pub line_then : (a b c : Option (List ℕ)) (line text : List ℕ) → Consumes a b (line ++ 10 ∷ []) → ReadsOn b c line text → Consumes a c text
+line_then a b c line text p q = subst (Consumes a c) (append_assoc line (10 ∷ []) q.rest ∙ q.parts) (Consumes-trans a b c (line ++ 10 ∷ []) q.rest p q.taken)
+
+pub three_read : (a b c d : Option (List ℕ)) (x y z : List ℕ) → Consumes a b x → Consumes b c y → Consumes c d z → Consumes a d (x ++ y ++ z)
+three_read a b c d x y z p q r = Consumes-trans a c d (x ++ y) z (Consumes-trans a b c x y p q) r
+
+-- ---- the lines of a head
+
+pub head_read : (a b c : Option (List ℕ)) (line first bounds size source : List ℕ) → line ++ 10 ∷ [] ≡ first → Consumes a b bounds → Consumes b c (size ++ source) → ReadsOn a c line (first ++ bounds ++ size ++ source)
+head_read a b c line first bounds size source e p q = record {
+  rest = bounds ++ (size ++ source);
+  parts =
+      sym (append_assoc line (10 ∷ []) (bounds ++ (size ++ source))) ∙ ap (λ s. s ++ (bounds ++ (size ++ source))) e
+      ∙ sym (append_assoc first bounds (size ++ source)) ∙ sym (append_assoc (first ++ bounds) size source);
+  taken = Consumes-trans a b c bounds (size ++ source) p q;
+}
+
+pub whole_head : (a b c : Option (List ℕ)) (line : List ℕ) (number count p q processes : ℕ) (bounds : Bounds) (source : List ℕ) (head : PlainHead) → codes "part " ++ decimal number ++ codes " of " ++ decimal count ≡ line → p ≡ number → q ≡ count → Consumes a b (bounds_text processes bounds.length bounds.crashes bounds.cut) → Consumes b c (number_line (codes "source") (length source) ++ source) → head ≡ head_of p q processes bounds source → ReadsOn a c line (head_text head)
+whole_head a b c line number count p q processes bounds source head e hp hq r s same =
+    let first : line ++ 10 ∷ [] ≡ number_text p q = ap (λ l. l ++ 10 ∷ []) (sym e) ∙ ap (λ n. number_text n count) (sym hp) ∙ ap (λ n. number_text p n) (sym hq) in
+    subst (λ h. ReadsOn a c line (head_text h)) (sym same) (head_read a b c line (number_text p q) (bounds_text processes bounds.length bounds.crashes bounds.cut) (number_line (codes "source") (length source)) source first r s)
+
+-- ---- the lines of outcomes
+
+pub more_outcomes : (a b c : Option (List ℕ)) (v w : List (List ProcEnd)) (o : List ProcEnd) → w ≡ v ++ o ∷ [] → Consumes a b (flat_map outcome_line v) → Consumes b c (outcome_line o) → Consumes a c (flat_map outcome_line w)
+more_outcomes a b c v w o e p q =
+    let text : flat_map outcome_line w ≡ flat_map outcome_line v ++ outcome_line o = ap (flat_map outcome_line) e ∙ flat_map-append outcome_line v (o ∷ []) ∙ ap (λ t. flat_map outcome_line v ++ t) (append-nil (outcome_line o)) in
+    subst (λ t. Consumes a c t) (sym text) (Consumes-trans a b c (flat_map outcome_line v) (outcome_line o) p q)
+
+-- ---- the lines of what is found

@@ -1,0 +1,39 @@
+-- The parts that can be read.
+use Rattle.std.specs.Prelude.{◌≡◌, ℕ, ◌^◌, ◌<◌, true, List, Option, IfSome, All, AllPairs, length}
+use Rattle.std.specs.List.{list_all}
+use Rattle.std.specs.declared.cmp.Ordering.TheVariants.{Less}
+use Rattle.regmodel.specs.Letters.{Schedule}
+use Rattle.regmodel.specs.Outcomes.{outcome_cmp}
+use Rattle.regmodel.specs.Prefixes.{FitsPrefix}
+use Rattle.regmodel.specs.declared.outcomes.ProcEnd.{ProcEnd}
+use Rattle.patterns.specs.PatternText.{end_fits}
+use Rattle.part_texts.specs.PlainHead.{FitsHead}
+use Rattle.part_texts.specs.declared.parts.Found.{Found}
+use Rattle.part_texts.specs.declared.parts.Found.TheVariants.{Explored, Least}
+use Rattle.part_texts.specs.declared.parts.PartReport.{PartReport}
+
+-- an outcome of so many processes, each as it can stand
+pub record FitsOutcome (processes : ℕ) (ends : List ProcEnd) : Type 0 where
+  pub count : length ends ≡ processes
+  pub fit : list_all (λ end. end_fits end.fate) ends ≡ true
+
+-- a schedule, and such an outcome
+pub record FitsFailing (processes : ℕ) (failing : Schedule × List ProcEnd) : Type 0 where
+  pub schedule : FitsPrefix failing.0
+  pub outcome : FitsOutcome processes failing.1
+
+-- the same, where there is one
+abbrev pub FitsLeast : ℕ → Option (Schedule × List ProcEnd) → Type 0
+FitsLeast processes least = IfSome least (FitsFailing processes)
+
+-- numbers below 2 ^ 64, and outcomes in strictly rising order
+abbrev pub FitsFound : ℕ → Found → Type 0
+FitsFound processes (Explored s) =
+    (s.tried < 2 ^ 64) × (length s.outcomes < 2 ^ 64) × All (FitsOutcome processes) s.outcomes
+    × AllPairs (λ a b. outcome_cmp a b ≡ Less) s.outcomes × FitsLeast processes s.least
+FitsFound processes (Least least) = FitsLeast processes least
+
+-- each number is within its range, and each outcome is one of as many processes as there are
+pub record FitsPart (report : PartReport) : Type 0 where
+  pub head : FitsHead report.head
+  pub found : FitsFound report.head.processes report.found

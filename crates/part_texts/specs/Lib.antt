@@ -1,0 +1,6 @@
+pub mod Examples
+pub mod FitsPart
+pub mod PartText
+pub mod PlainHead
+pub mod Standings
+pub mod Streams

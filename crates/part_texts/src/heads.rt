@@ -1,0 +1,131 @@
+//! What a part of an exploration is a part of.
+
+ghost use Rattle.std.specs.Prelude.{◌≡◌, ◌↔◌, IfSome, IsSome};
+ghost use Rattle.part_texts.specs.PlainHead.{FitsHead, head_of};
+
+use regmodel::Settings;
+use regmodel::limits::MOST_PROCESSES;
+use report::Part;
+use std::marker::Model;
+
+/// The most bytes of a source.
+pub const MOST_SOURCE_BYTES: usize = 1_048_576;
+
+/// Which part of which exploration something is told of: the part, the number of processes, the bounds of the exploration and its source.
+/// Each number is within its range. A clause sees them as a record.
+#[derive(Debug, Drop)]
+pub struct PartHead {
+    part: Part,
+    processes: u32,
+    settings: Settings,
+    source: Vec<u8>,
+}
+
+impl Model for PartHead {
+    ghost use Rattle.part_texts.specs.PlainHead.{PlainHead, FitsHead, head_of};
+
+    ghost Value = { PlainHead };
+
+    ghost view = { λ h. head_of h.part.number h.part.count h.processes h.settings h.source.items };
+
+    ghost invariant = { λ h. FitsHead (head_of h.part.number h.part.count h.processes h.settings h.source.items) };
+}
+
+impl PartHead {
+    ghost use Rattle.std.specs.Prelude.{◌≡◌, ◌↔◌, IfSome, IsSome, IsTrue};
+    ghost use Rattle.part_texts.specs.PlainHead.{AreOfOne, FitsHead, head_of};
+
+    /// The head of a part of the exploration of so many processes by these settings, and of this source. None where there are 0 or more
+    /// than 8 processes, or more than 1048576 bytes of source.
+    pub fn new(part: Part, processes: u32, settings: Settings, source: Vec<u8>) -> Option<PartHead>
+        ensures value { IfSome result (λ head. head
+            ≡ head_of part.number part.count processes settings source.items) }
+        ensures fits { IsSome result
+            ↔ FitsHead (head_of part.number part.count processes settings source.items) }
+    {
+        let _length = settings.length();
+        if processes == 0 || processes as usize > MOST_PROCESSES {
+            return None;
+        }
+        if source.len() > MOST_SOURCE_BYTES {
+            return None;
+        }
+        Some(PartHead {
+            part,
+            processes,
+            settings,
+            source,
+        })
+    }
+
+    /// The number of the part, from 1 on.
+    pub fn number(&self) -> u32
+        ensures { result ≡ self.now.number }
+    {
+        self.part.number()
+    }
+
+    /// How many parts there are, 1 to 65536.
+    pub fn count(&self) -> u32
+        ensures { result ≡ self.now.count }
+    {
+        self.part.count()
+    }
+
+    /// How many processes there are, 1 to 8.
+    pub fn processes(&self) -> u32
+        ensures { result ≡ self.now.processes }
+    {
+        self.processes
+    }
+
+    /// How many letters a schedule had at most, 0 to 64.
+    pub fn length(&self) -> u32
+        ensures { result ≡ self.now.length }
+    {
+        self.settings.length()
+    }
+
+    /// How many processes could crash, 0 to 8.
+    pub fn crashes(&self) -> u32
+        ensures { result ≡ self.now.crashes }
+    {
+        self.settings.crashes()
+    }
+
+    /// Below which length a piece was split, 0 to 16.
+    pub fn cut(&self) -> u32
+        ensures { result ≡ self.now.cut }
+    {
+        self.settings.cut()
+    }
+
+    /// The same three numbers as settings, which also say by how many workers it is explored.
+    pub fn settings(&self) -> Settings
+        ensures length { result.length ≡ self.now.length }
+        ensures crashes { result.crashes ≡ self.now.crashes }
+        ensures cut { result.cut ≡ self.now.cut }
+    {
+        self.settings
+    }
+
+    /// Whether two parts are of one exploration: but for their numbers, all is the same.
+    pub fn is_of_same(&self, other: &PartHead) -> bool
+        ensures { IsTrue result ↔ AreOfOne self.now other.now }
+    {
+        if self.count() != other.count() || self.processes() != other.processes() {
+            return false;
+        }
+        if self.length() != other.length() || self.crashes() != other.crashes() {
+            return false;
+        }
+        self.cut() == other.cut() && self.source() == other.source()
+    }
+
+    /// The bytes of the source, at most 1048576.
+    pub fn source(&self) -> &[u8]
+        ensures { result.now ≡ self.now.source }
+    {
+        self.source.as_slice()
+    }
+}

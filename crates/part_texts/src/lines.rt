@@ -1,0 +1,82 @@
+//! What stands on a line. No call takes memory.
+
+ghost use Rattle.std.specs.Prelude.{◌≡◌, ◌≢◌, ◌<◌, ◌≤◌, ◌^◌, ◌++◌, ◌==◌, ℕ, IfNone, IfSome, List, codes, decimal, length, not, true};
+ghost use Rattle.std.specs.List.{prefix_len};
+ghost use Rattle.patterns.specs.Cuts.{begins_at, has_no};
+ghost use Rattle.regmodel.specs.declared.limits.TheConstants.{MOST_PROCESSES};
+ghost use Rattle.regmodel.specs.declared.outcomes.ProcEnd.{ProcEnd};
+ghost use Rattle.report.specs.declared.parts.TheConstants.{MOST_PARTS};
+ghost use Rattle.texts.specs.OutcomeText.{outcome_text};
+ghost use Rattle.part_texts.specs.FitsPart.{FitsOutcome};
+
+use crate::numbers::number_of;
+use crate::outcomes::read_outcome;
+use regmodel::Outcome;
+
+/// What follows a word at the beginning of a text. None where it does not begin so.
+pub(crate) fn after<'a>(text: &'a [u8], word: &[u8]) -> Option<&'a [u8]>
+    ensures some { IfSome result (λ rest. word.now ++ rest.now ≡ text.now) }
+    ensures none { IfNone result ((rest : List ℕ) → word.now ++ rest ≢ text.now) }
+{
+    text.strip_prefix(word)
+}
+
+/// The number behind a word, which is all that stands on the line. None for any other line.
+pub(crate) fn number_after(line: &[u8], word: &[u8]) -> Option<u64>
+    ensures some { IfSome result (λ n. word.now ++ codes " " ++ decimal n ≡ line.now) }
+    ensures none { IfNone result
+        ((n : ℕ) → n < 2 ^ 64 → word.now ++ codes " " ++ decimal n ≢ line.now) }
+{
+    let rest = after(line, word)?;
+    let digits = after(rest, b" ")?;
+    number_of(digits)
+}
+
+/// The number of a part and how many there are. None for any other line.
+pub(crate) fn part_in(line: &[u8]) -> Option<(u64, u64)>
+    ensures some { IfSome result
+        (λ (number, count). codes "part " ++ decimal number ++ codes " of " ++ decimal count
+        ≡ line.now) }
+    ensures none { IfNone result
+        ((number count : ℕ) → number ≤ MOST_PARTS → count ≤ MOST_PARTS
+        → codes "part " ++ decimal number ++ codes " of " ++ decimal count ≢ line.now) }
+{
+    let rest = after(line, b"part ")?;
+    let (digits, rest) = cut_at_space(rest);
+    let number = number_of(digits)?;
+    let digits = after(rest, b" of ")?;
+    let count = number_of(digits)?;
+    Some((number, count))
+}
+
+/// What stands before the first space, and the rest from that space on.
+fn cut_at_space(text: &[u8]) -> (&[u8], &[u8])
+    ensures parts { result.0.now ++ result.1.now ≡ text.now }
+    ensures before { has_no 32 result.0.now ≡ true }
+    ensures after { begins_at 32 result.1.now ≡ true }
+{
+    text.split_at(count_before_space(text))
+}
+
+/// How many bytes stand before the first space.
+fn count_before_space(text: &[u8]) -> usize
+    ensures within { result ≤ length text.now }
+    ensures count { result ≡ prefix_len (λ b. not (b == 32)) text.now }
+{
+    text.iter().take_while(|b| **b != b' ').count()
+}
+
+/// The outcome of so many processes behind a word. None for any other line.
+pub(crate) fn outcome_after(line: &[u8], word: &[u8], processes: u32) -> Option<Outcome>
+    ensures some { IfSome result (λ outcome. word.now ++ outcome_text outcome ≡ line.now) }
+    ensures fits { IfSome result (FitsOutcome processes) }
+    ensures none { IfNone result
+        ((ends : List ProcEnd) → 1 ≤ processes → processes ≤ MOST_PROCESSES
+        → FitsOutcome processes ends → word.now ++ outcome_text ends ≢ line.now) }
+{
+    let outcome = read_outcome(after(line, word)?)?;
+    if outcome.ends().len() != processes as usize {
+        return None;
+    }
+    Some(outcome)
+}

@@ -1,0 +1,29 @@
+//! Numbers as words.
+
+ghost use Rattle.std.specs.Prelude.{◌≡◌, ◌≢◌, ◌<◌, ◌^◌, ℕ, IfNone, IfSome, Some, decimal};
+
+use itoa::Buffer;
+use std::str;
+
+/// The number that a word writes in decimal, below 2 to the 64: without a sign, and without a 0 before other digits. None for any other word.
+pub(crate) fn number_of(word: &[u8]) -> Option<u64>
+    ensures some { IfSome result (λ n. decimal n ≡ word.now) }
+    ensures none { IfNone result ((n : ℕ) → n < 2 ^ 64 → decimal n ≢ word.now) }
+{
+    let number = number_in(word)?;
+    let mut buffer = Buffer::new();
+    if buffer.format(number).as_bytes() != word {
+        return None;
+    }
+    Some(number)
+}
+
+/// The number that a word is read as, also where it is not written so. None where it is no number of 64 bits.
+fn number_in(word: &[u8]) -> Option<u64>
+    ensures { (n : ℕ) → n < 2 ^ 64 → decimal n ≡ word.now → result ≡ Some n }
+{
+    match str::from_utf8(word) {
+        Ok(text) => text.parse::<u64>().ok(),
+        Err(_) => None,
+    }
+}

@@ -1,0 +1,33 @@
+//! Numbers within their ranges. No call takes memory.
+
+ghost use Rattle.std.specs.Prelude.{◌≡◌, IfOk};
+
+use crate::faults::Cause;
+use regmodel::Settings;
+use report::Part;
+
+/// The number where it has 32 bits.
+pub(crate) fn narrow(number: u64) -> Result<u32, Cause>
+    ensures { IfOk result (λ n. n ≡ number) }
+{
+    u32::try_from(number).map_err(|_| Cause::OutOfRange)
+}
+
+/// The part with this number, of so many.
+pub(crate) fn part_of(number: u64, count: u64) -> Result<Part, Cause>
+    ensures number { IfOk result (λ part. part.number ≡ number) }
+    ensures count { IfOk result (λ part. part.count ≡ count) }
+{
+    Part::new(narrow(number)?, narrow(count)?).ok_or(Cause::OutOfRange)
+}
+
+/// The settings with these bounds, for one worker that hands no piece on.
+pub(crate) fn settings_of(length: u64, crashes: u64, cut: u64) -> Result<Settings, Cause>
+    ensures length { IfOk result (λ s. s.length ≡ length) }
+    ensures crashes { IfOk result (λ s. s.crashes ≡ crashes) }
+    ensures cut { IfOk result (λ s. s.cut ≡ cut) }
+{
+    Settings::new(narrow(length)?, narrow(crashes)?, 1, narrow(cut)?, 0).map_err(
+        |_| Cause::OutOfRange,
+    )
+}

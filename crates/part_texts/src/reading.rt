@@ -1,0 +1,239 @@
+//! A part, read from a stream.
+
+use crate::faults::{BadPart, Cause};
+use crate::heads::{MOST_SOURCE_BYTES, PartHead};
+use crate::lines::{after, number_after, outcome_after, part_in};
+use crate::parts::{Found, PartReport};
+use crate::ranges::{narrow, part_of, settings_of};
+use crate::rising::comes_last;
+use crate::streams::{PartStream, next_byte};
+use regmodel::{Outcome, Prefix, Settings, read_schedule};
+use std::alloc::Global;
+use std::io::BufRead;
+use tallies::Partial;
+
+impl<R: BufRead> PartStream<R> {
+    ghost use Rattle.std.specs.Prelude.{◌≡◌, ◌++◌, ◌^◌, ◌<◌, [], All, AllPairs, IfErr, IfNone, IfOk, IfSome, OnOk, Some, codes, length};
+    ghost use Rattle.std.specs.List.{flat_map};
+    ghost use Rattle.std.specs.Io.KnownBytes.{Consumes, IsAtEnd};
+    ghost use Rattle.std.specs.declared.cmp.Ordering.TheVariants.{Less};
+    ghost use Rattle.regmodel.specs.Outcomes.{outcome_cmp};
+    ghost use Rattle.report.specs.ReportText.{least_text};
+    ghost use Rattle.texts.specs.NumberText.{number_line};
+    ghost use Rattle.texts.specs.OutcomeText.{outcome_line, outcome_text};
+    ghost use Rattle.part_texts.specs.declared.faults.Cause.TheVariants.{Unreadable};
+    ghost use Rattle.part_texts.specs.FitsPart.{FitsFound, FitsLeast, FitsOutcome, FitsPart};
+    ghost use Rattle.part_texts.specs.PlainHead.{FitsHead};
+    ghost use Rattle.part_texts.specs.PartText.{bounds_text, end_text, found_text, head_text, part_text};
+    ghost use Rattle.part_texts.specs.Streams.{ReadsOn, left_of};
+
+    /// The next part; None where nothing is left. An error names the line at fault, and says what is wrong with it, that a request for memory
+    /// was refused, or that the reader answered an error; where nothing is left, that is the only one. After an error the stream stands in the
+    /// midst of a text.
+    pub fn next_part(&mut self, alloc: Global) -> Result<Option<PartReport>, BadPart>
+        ensures some { IfOk result (λ next. IfSome next
+            (λ report. Consumes (left_of R.remaining self.old) (left_of R.remaining self.new)
+            (part_text report))) }
+        ensures fits { IfOk result (λ next. IfSome next FitsPart) }
+        ensures before { IfOk result
+            (λ next. IfNone next (IsAtEnd (left_of R.remaining self.old))) }
+        ensures end { IfOk result
+            (λ next. IfNone next (IsAtEnd (left_of R.remaining self.new))) }
+        ensures err { IfErr result
+            (λ bad. left_of R.remaining self.old ≡ Some [] → bad.cause ≡ Unreadable) }
+    {
+        match self.part(alloc) {
+            Ok(part) => Ok(part),
+            Err(cause) => Err(BadPart {
+                line: self.number,
+                cause,
+            }),
+        }
+    }
+
+    /// The next part; None where nothing is left.
+    fn part(&mut self, alloc: Global) -> Result<Option<PartReport>, Cause>
+        ensures some { IfOk result (λ next. IfSome next
+            (λ report. Consumes (left_of R.remaining self.old) (left_of R.remaining self.new)
+            (part_text report))) }
+        ensures fits { IfOk result (λ next. IfSome next FitsPart) }
+        ensures before { IfOk result
+            (λ next. IfNone next (IsAtEnd (left_of R.remaining self.old))) }
+        ensures end { IfOk result
+            (λ next. IfNone next (IsAtEnd (left_of R.remaining self.new))) }
+        ensures err { IfErr result
+            (λ cause. left_of R.remaining self.old ≡ Some [] → cause ≡ Unreadable) }
+    {
+        if !self.next_line()? {
+            return Ok(None);
+        }
+        let head = self.head(alloc)?;
+        let found = self.found(alloc, head.processes())?;
+        self.end()?;
+        Ok(Some(PartReport { head, found }))
+    }
+
+    /// Reads the last line of a part.
+    fn end(&mut self) -> Result<(), Cause>
+        ensures { OnOk result
+            (Consumes (left_of R.remaining self.old) (left_of R.remaining self.new) end_text) }
+    {
+        self.wanted_line()?;
+        if self.line.as_slice() == b"end".as_slice() {
+            Ok(())
+        } else {
+            Err(Cause::Other)
+        }
+    }
+
+    /// The head whose first line is read.
+    fn head(&mut self, alloc: Global) -> Result<PartHead, Cause>
+        ensures text { IfOk result
+            (λ head. ReadsOn (left_of R.remaining self.old) (left_of R.remaining self.new)
+            self.old.line.items (head_text head)) }
+        ensures fits { IfOk result FitsHead }
+    {
+        let (number, count) = part_in(self.line.as_slice()).ok_or(Cause::Other)?;
+        let part = part_of(number, count)?;
+        let (processes, settings) = self.bounds()?;
+        let source = self.source(alloc)?;
+        match PartHead::new(part, processes, settings, source) {
+            Some(head) => Ok(head),
+            None => Err(Cause::OutOfRange),
+        }
+    }
+
+    /// How many processes there are, and how far is explored.
+    fn bounds(&mut self) -> Result<(u32, Settings), Cause>
+        ensures { IfOk result
+            (λ (processes, settings). Consumes (left_of R.remaining self.old)
+            (left_of R.remaining self.new)
+            (bounds_text processes settings.length settings.crashes settings.cut)) }
+    {
+        let processes = self.number_behind(b"processes")?;
+        let length = self.number_behind(b"length")?;
+        let crashes = self.number_behind(b"crashes")?;
+        let cut = self.number_behind(b"cut")?;
+        Ok((narrow(processes)?, settings_of(length, crashes, cut)?))
+    }
+
+    /// The number behind a word on the next line.
+    fn number_behind(&mut self, word: &[u8]) -> Result<u64, Cause>
+        ensures { IfOk result
+            (λ n. Consumes (left_of R.remaining self.old) (left_of R.remaining self.new)
+            (number_line word.now n)) }
+    {
+        self.wanted_line()?;
+        number_after(self.line.as_slice(), word).ok_or(Cause::Other)
+    }
+
+    /// The source, behind a line with the number of its bytes.
+    fn source(&mut self, alloc: Global) -> Result<Vec<u8>, Cause>
+        ensures { IfOk result
+            (λ source. Consumes (left_of R.remaining self.old) (left_of R.remaining self.new)
+            (number_line (codes "source") (length source.items) ++ source.items)) }
+    {
+        let count = self.number_behind(b"source")?;
+        if count > MOST_SOURCE_BYTES as u64 {
+            return Err(Cause::OutOfRange);
+        }
+        self.bytes(alloc, count as usize)
+    }
+
+    /// So many bytes.
+    fn bytes(&mut self, alloc: Global, count: usize) -> Result<Vec<u8>, Cause>
+        ensures text { IfOk result
+            (λ bytes. Consumes (left_of R.remaining self.old) (left_of R.remaining self.new)
+            bytes.items) }
+        ensures count { IfOk result (λ bytes. length bytes.items ≡ count) }
+    {
+        let mut bytes = Vec::with_capacity(alloc, count).map_err(|_| Cause::NoMemory)?;
+        for _ in 0..count {
+            let byte = next_byte(&mut self.reader)?.ok_or(Cause::Unfinished)?;
+            if byte == b'\n' {
+                self.number = self.number.saturating_add(1);
+            }
+            bytes.push(byte).map_err(|_| Cause::NoMemory)?;
+        }
+        Ok(bytes)
+    }
+
+    /// What was found: all, or the least failing schedule alone.
+    fn found(&mut self, alloc: Global, processes: u32) -> Result<Found, Cause>
+        ensures text { IfOk result
+            (λ found. Consumes (left_of R.remaining self.old) (left_of R.remaining self.new)
+            (found_text found)) }
+        ensures fits { IfOk result (FitsFound processes) }
+    {
+        self.wanted_line()?;
+        let Some(tried) = number_after(self.line.as_slice(), b"tried") else {
+            return Ok(Found::Least(self.least(processes)?));
+        };
+        let outcomes = self.outcomes(alloc, processes)?;
+        self.wanted_line()?;
+        let least = self.least(processes)?;
+        Ok(Found::Explored(Partial::of(tried, outcomes, least)))
+    }
+
+    /// The outcomes, rising, behind a line with their number.
+    fn outcomes(&mut self, alloc: Global, processes: u32) -> Result<Vec<Outcome>, Cause>
+        ensures text { IfOk result
+            (λ outcomes. Consumes (left_of R.remaining self.old) (left_of R.remaining self.new)
+            (number_line (codes "outcomes") (length outcomes.items)
+            ++ flat_map outcome_line outcomes.items)) }
+        ensures rising { IfOk result
+            (λ outcomes. AllPairs (λ a b. outcome_cmp a b ≡ Less) outcomes.items) }
+        ensures fit { IfOk result (λ outcomes. All (FitsOutcome processes) outcomes.items) }
+        ensures count { IfOk result (λ outcomes. length outcomes.items < 2 ^ 64) }
+    {
+        let count = self.number_behind(b"outcomes")?;
+        let mut outcomes = Vec::new(alloc);
+        for _ in 0..count {
+            let outcome = self.outcome(processes)?;
+            if !comes_last(outcomes.as_slice(), &outcome) {
+                return Err(Cause::NotRising);
+            }
+            outcomes.push(outcome).map_err(|_| Cause::NoMemory)?;
+        }
+        Ok(outcomes)
+    }
+
+    /// The outcome of so many processes on the next line.
+    fn outcome(&mut self, processes: u32) -> Result<Outcome, Cause>
+        ensures text { IfOk result
+            (λ outcome. Consumes (left_of R.remaining self.old) (left_of R.remaining self.new)
+            (outcome_line outcome)) }
+        ensures fits { IfOk result (FitsOutcome processes) }
+    {
+        self.wanted_line()?;
+        outcome_after(self.line.as_slice(), b"outcome ", processes).ok_or(Cause::Other)
+    }
+
+    /// The least failing schedule with its outcome, whose first line is read; None where none fails.
+    fn least(&mut self, processes: u32) -> Result<Option<(Prefix, Outcome)>, Cause>
+        ensures text { IfOk result
+            (λ least. ReadsOn (left_of R.remaining self.old) (left_of R.remaining self.new)
+            self.old.line.items (least_text least)) }
+        ensures fits { IfOk result (FitsLeast processes) }
+    {
+        let word = after(self.line.as_slice(), b"least ").ok_or(Cause::Other)?;
+        if word == b"none".as_slice() {
+            return Ok(None);
+        }
+        let schedule = read_schedule(word).ok_or(Cause::Other)?;
+        let _letters = schedule.letters();
+        let outcome = self.failing(processes)?;
+        Ok(Some((schedule, outcome)))
+    }
+
+    /// The outcome of the least failing schedule on the next line.
+    fn failing(&mut self, processes: u32) -> Result<Outcome, Cause>
+        ensures text { IfOk result
+            (λ outcome. Consumes (left_of R.remaining self.old) (left_of R.remaining self.new)
+            (codes "fails " ++ outcome_text outcome ++ codes "\n")) }
+        ensures fits { IfOk result (FitsOutcome processes) }
+    {
+        self.wanted_line()?;
+        outcome_after(self.line.as_slice(), b"fails ", processes).ok_or(Cause::Other)
+    }
+}

@@ -1,0 +1,21 @@
+//! Outcomes in rising order.
+
+ghost use Rattle.std.specs.Prelude.{◌≡◌, ◌∷◌, ◌++◌, [], AllPairs, IsTrue};
+ghost use Rattle.std.specs.declared.cmp.Ordering.TheVariants.{Less};
+ghost use Rattle.regmodel.specs.Outcomes.{outcome_cmp};
+
+use regmodel::Outcome;
+use regmodel::laws::{orders_are_those_of_the_definitions, outcomes_are_in_a_total_order};
+
+/// Whether an outcome comes after each of some rising ones.
+pub(crate) fn comes_last(outcomes: &[Outcome], outcome: &Outcome) -> bool
+    ensures { IsTrue result → AllPairs (λ a b. outcome_cmp a b ≡ Less) outcomes.now
+        → AllPairs (λ a b. outcome_cmp a b ≡ Less) (outcomes.now ++ outcome.now ∷ []) }
+{
+    orders_are_those_of_the_definitions();
+    outcomes_are_in_a_total_order();
+    match outcomes.last() {
+        Some(last) => last.cmp(outcome).is_lt(),
+        None => true,
+    }
+}

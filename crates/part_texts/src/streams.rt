@@ -1,0 +1,97 @@
+//! The lines of a stream of parts. No call takes memory.
+
+ghost use Rattle.std.specs.Prelude.{◌≡◌, ◌∷◌, [], IfErr, IfNone, IfOk, IfSome};
+ghost use Rattle.part_texts.specs.declared.faults.Cause.TheVariants.{Unreadable};
+ghost use Rattle.std.specs.Io.KnownBytes.{Consumes, IsAtEnd};
+ghost use Rattle.patterns.specs.Cuts.{has_no};
+
+use crate::faults::Cause;
+use arrayvec::ArrayVec;
+use std::io::BufRead;
+
+/// The most bytes of a line, without its line feed. The longest one, an outcome of 8 processes with 8 numbers each, has 798.
+pub(crate) const MOST_LINE_BYTES: usize = 1024;
+
+/// Parts that are read one after another. It holds one line at a time.
+#[derive(Drop)]
+pub struct PartStream<R> {
+    pub(crate) reader: R,
+    /// The line that was read last, without its line feed.
+    pub(crate) line: ArrayVec<u8, MOST_LINE_BYTES>,
+    /// Which line of the stream that is, from 1 on; 0 before the first.
+    pub(crate) number: u64,
+}
+
+impl<R: BufRead> PartStream<R> {
+    ghost use Rattle.std.specs.Prelude.{◌≡◌, ◌∷◌, [], ◌++◌, IfErr, IfOk, OnOk, Some, true, false};
+    ghost use Rattle.part_texts.specs.declared.faults.Cause.TheVariants.{Unreadable};
+    ghost use Rattle.std.specs.Io.KnownBytes.{Consumes, IsAtEnd};
+    ghost use Rattle.patterns.specs.Cuts.{has_no};
+    ghost use Rattle.part_texts.specs.Streams.{left_of};
+
+    /// The parts that this reader tells.
+    pub fn new(reader: R) -> PartStream<R>
+        ensures { left_of R.remaining result ≡ R.remaining reader }
+    {
+        PartStream {
+            reader,
+            line: ArrayVec::new(),
+            number: 0,
+        }
+    }
+
+    /// Reads one line. False where nothing is left; then the only error is that the reader answered one.
+    pub(crate) fn next_line(&mut self) -> Result<bool, Cause>
+        ensures line { IfOk result (λ there. there ≡ true
+            → Consumes (left_of R.remaining self.old) (left_of R.remaining self.new)
+            (self.new.line.items ++ 10 ∷ [])) }
+        ensures one { IfOk result (λ there. there ≡ true → has_no 10 self.new.line.items ≡ true) }
+        ensures before { IfOk result
+            (λ there. there ≡ false → IsAtEnd (left_of R.remaining self.old)) }
+        ensures end { IfOk result
+            (λ there. there ≡ false → IsAtEnd (left_of R.remaining self.new)) }
+        ensures err { IfErr result
+            (λ cause. left_of R.remaining self.old ≡ Some [] → cause ≡ Unreadable) }
+    {
+        self.number = self.number.saturating_add(1);
+        self.line.clear();
+        loop {
+            match next_byte(&mut self.reader)? {
+                Some(b'\n') => return Ok(true),
+                Some(byte) => self.line.try_push(byte).map_err(|_| Cause::LongLine)?,
+                None if self.line.is_empty() => return Ok(false),
+                None => return Err(Cause::Unfinished),
+            }
+        }
+    }
+
+    /// Reads one line, where the text may not end before it.
+    pub(crate) fn wanted_line(&mut self) -> Result<(), Cause>
+        ensures line { OnOk result
+            (Consumes (left_of R.remaining self.old) (left_of R.remaining self.new)
+            (self.new.line.items ++ 10 ∷ [])) }
+        ensures one { OnOk result (has_no 10 self.new.line.items ≡ true) }
+    {
+        if self.next_line()? {
+            Ok(())
+        } else {
+            Err(Cause::Unfinished)
+        }
+    }
+}
+
+/// The byte that a reader tells next. None where nothing is left.
+pub(crate) fn next_byte<R: BufRead>(reader: &mut R) -> Result<Option<u8>, Cause>
+    ensures some { IfOk result (λ next. IfSome next
+        (λ byte. Consumes (R.remaining reader.old) (R.remaining reader.new) (byte ∷ []))) }
+    ensures before { IfOk result (λ next. IfNone next (IsAtEnd (R.remaining reader.old))) }
+    ensures end { IfOk result (λ next. IfNone next (IsAtEnd (R.remaining reader.new))) }
+    ensures err { IfErr result (λ cause. cause ≡ Unreadable) }
+{
+    let mut one = [0u8; 1];
+    match reader.read(&mut one) {
+        Ok(0) => Ok(None),
+        Ok(_) => Ok(Some(one[0])),
+        Err(_) => Err(Cause::Unreadable),
+    }
+}

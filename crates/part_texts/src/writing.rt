@@ -1,0 +1,121 @@
+//! The text of a part, written. No call takes memory.
+
+ghost use Rattle.part_texts.specs.PartText.{bounds_text, explored_part, found_text, head_text, least_part, number_text, part_text};
+ghost use Rattle.texts.specs.Appending.{Wrote};
+
+use crate::heads::PartHead;
+use crate::parts::{Found, PartReport};
+use report::{CodedLines, Exploration, Least, LeastLines, OutcomeLines};
+use std::io::Write;
+use texts::{Block, NumberLine, Text, WriteFault, write};
+
+/// The last line of a part.
+const END: &str = "end\n";
+
+/// Writes the text of a part of which the whole was sought: its head and what was found. After a fault the writer has taken a beginning of
+/// it.
+pub fn write_explored_part<W: Write>(
+    head: &PartHead,
+    exploration: &Exploration,
+    out: &mut W,
+) -> Result<(), WriteFault>
+    ensures { Wrote W.contents out.old out.new
+        (part_text (explored_part head.now exploration.now)) result }
+{
+    let tried = NumberLine {
+        word: "tried",
+        number: exploration.tried(),
+    };
+    let outcomes = NumberLine {
+        word: "outcomes",
+        number: exploration.outcome_count() as u64,
+    };
+    let least = LeastLines(exploration.least());
+    let found = (tried, outcomes, CodedLines(exploration), least);
+    write(&(head, found, END), out)
+}
+
+/// Writes the text of a part of which the least failing schedule alone was sought: its head and that schedule. After a fault the writer has
+/// taken a beginning of it.
+pub fn write_least_part<W: Write>(
+    head: &PartHead,
+    least: &Least,
+    out: &mut W,
+) -> Result<(), WriteFault>
+    ensures { Wrote W.contents out.old out.new (part_text (least_part head.now least.now)) result }
+{
+    write(&(head, LeastLines(least.least()), END), out)
+}
+
+/// Writes the text of a part that was read. After a fault the writer has taken a beginning of it.
+pub fn write_part<W: Write>(report: &PartReport, out: &mut W) -> Result<(), WriteFault>
+    ensures { Wrote W.contents out.old out.new (part_text report.now) result }
+{
+    write(&(&report.head, &report.found, END), out)
+}
+
+impl Text for PartHead {
+    ghost text = { head_text };
+
+    fn put<W: Write>(&self, out: &mut W, block: &mut Block) -> Result<(), WriteFault> {
+        let part = ("part ", self.number(), " of ", self.count(), "\n");
+        let source = NumberLine {
+            word: "source",
+            number: self.source().len() as u64,
+        };
+        (part, BoundsOf(self), source, self.source()).put(out, block)
+    }
+}
+
+/// How far is explored.
+#[derive(Clone, Copy)]
+struct BoundsOf<'a>(&'a PartHead);
+
+impl Text for BoundsOf<'_> {
+    ghost text = { λ bounds. let head = bounds.0.now in bounds_text head.processes head.length head.crashes head.cut };
+
+    fn put<W: Write>(&self, out: &mut W, block: &mut Block) -> Result<(), WriteFault> {
+        let processes = NumberLine {
+            word: "processes",
+            number: u64::from(self.0.processes()),
+        };
+        let length = NumberLine {
+            word: "length",
+            number: u64::from(self.0.length()),
+        };
+        let crashes = NumberLine {
+            word: "crashes",
+            number: u64::from(self.0.crashes()),
+        };
+        let cut = NumberLine {
+            word: "cut",
+            number: u64::from(self.0.cut()),
+        };
+        (processes, length, crashes, cut).put(out, block)
+    }
+}
+
+impl Text for Found {
+    ghost text = { found_text };
+
+    fn put<W: Write>(&self, out: &mut W, block: &mut Block) -> Result<(), WriteFault> {
+        match self {
+            Found::Explored(found) => {
+                let tried = NumberLine {
+                    word: "tried",
+                    number: found.tried(),
+                };
+                let outcomes = NumberLine {
+                    word: "outcomes",
+                    number: found.outcomes().len() as u64,
+                };
+                let lines = OutcomeLines(found.outcomes());
+                (tried, outcomes, lines, LeastLines(found.least())).put(out, block)
+            }
+            Found::Least(Some((schedule, outcome))) => {
+                LeastLines(Some((schedule, outcome))).put(out, block)
+            }
+            Found::Least(None) => LeastLines(None).put(out, block),
+        }
+    }
+}
