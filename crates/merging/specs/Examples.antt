@@ -1,0 +1,20 @@
+-- Worked examples of parts that are joined: the definitions compute.
+use Rattle.std.specs.Prelude.{◌≡◌, ℕ, true, false, [], ◌∷◌, refl, None, Some}
+use Rattle.regmodel.specs.declared.letters.Letter.TheVariants.{Run}
+use Rattle.regmodel.specs.Examples.{started}
+use Rattle.part_texts.specs.declared.parts.Found.TheVariants as found
+use Rattle.merging.specs.Merged.{AreJoined, IsToldBy}
+use Rattle.merging.specs.Mergers.{numbers_marked}
+use Rattle.merging.specs.declared.merged.Merged.TheVariants.{Least}
+
+-- of four parts the first and the third are there
+pub parts_there : numbers_marked 1 (true ∷ false ∷ true ∷ false ∷ []) ≡ 1 ∷ 3 ∷ []
+parts_there = refl
+
+-- the second part failed by R1, the third by R0, and the third was read before the second
+pub lowest_of_three : AreJoined (found.Least None) (found.Least (Some (Run 1 ∷ [], started [] ∷ [])) ∷ found.Least (Some (Run 0 ∷ [], started [] ∷ [])) ∷ []) (found.Least (Some (Run 0 ∷ [], started [] ∷ [])))
+lowest_of_three = (found.Least (Some (Run 0 ∷ [], started [] ∷ [])), (found.Least None, refl, refl), refl)
+
+-- the numbers of the exploration stand in what is told, and not those of the part
+pub told_of_head : (number count cut : ℕ) → IsToldBy (record { number = number; count = count; processes = 2; length = 20; crashes = 1; cut = cut; source = [] }) (found.Least None) (Least (record { processes = 2; length = 20; crashes = 1; least = None }))
+told_of_head number count cut = refl

@@ -1,0 +1,4 @@
+pub mod Examples
+pub mod Merged
+pub mod MergedText
+pub mod Mergers

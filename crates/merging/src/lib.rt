@@ -1,0 +1,15 @@
+//! The parts of an exploration, merged into what the whole of it tells.
+#![tactic(auto)]
+
+mod faults;
+mod merged;
+mod mergers;
+mod merging;
+mod missing;
+mod told;
+
+pub use faults::{MergeFault, Misfit};
+pub use merged::Merged;
+pub use merging::merge_parts;
+pub use missing::Missing;
+pub use told::write_merged;
