@@ -1,4 +1,5 @@
 mod BoundedReads
 mod VerdictsFound
 mod Numbers
+mod PartWords
 mod Steps

@@ -1,6 +1,7 @@
 pub mod Bounds
 pub mod Findings
 pub mod Inputs
+pub mod Merges
 pub mod NumberTexts
 pub mod Orders
 pub mod PatternTexts

@@ -1,7 +1,8 @@
 -- What the words of the command line ask for.
-use Rattle.std.specs.Prelude.{◌≡◌, ℕ, ◌+◌, ◌≤◌, Bool, true, false, not, List, [], map, Option, Some, None, codes}
+use Rattle.std.specs.Prelude.{◌≡◌, ℕ, ◌+◌, ◌++◌, ◌≤◌, Bool, true, false, not, List, [], map, Option, Some, None, codes, decimal}
 use Rattle.std.specs.Option.{option_map}
 use Rattle.std.specs.Str.Parse.{digits_value, without_leading_plus}
+use Rattle.clap.specs.Matches.{first_value}
 use Rattle.clap.specs.Words.{matched_of, raw_values}
 use Rattle.clap.specs.declared.parser.matches.Found.{Found}
 use Rattle.patterns.specs.PatternText.{pattern_text}
@@ -9,6 +10,7 @@ use Rattle.regmodel.specs.Settings.{Bounds}
 use Rattle.regmodel.specs.declared.limits.TheConstants.{MOST_LETTERS}
 use Rattle.regmodel.specs.ScheduleText.{schedule_text}
 use Rattle.explorer.specs.declared.effort.Effort.{Effort}
+use Rattle.report.specs.declared.parts.Part.{Part}
 use Rattle.cli.specs.Bounds.{IsBoundTold}
 use Rattle.cli.specs.NumberTexts.{IsNumberText}
 use Rattle.cli.specs.declared.orders.Task.{Task}
@@ -18,8 +20,8 @@ use Rattle.cli.specs.declared.orders.Task.TheVariants.{Check, Explore, Least, Fi
 -- to replay the schedule of this text
 abbrev pub IsReplayOf : List ℕ → Task → Type 0
 IsReplayOf text (Check effort native allows_faults shortest) = ⊥
-IsReplayOf text (Explore effort native) = ⊥
-IsReplayOf text (Least effort native) = ⊥
+IsReplayOf text (Explore effort native part) = ⊥
+IsReplayOf text (Least effort native part) = ⊥
 IsReplayOf text (Find effort native patterns) = ⊥
 IsReplayOf text (Replay schedule) = schedule_text schedule ≡ text
 IsReplayOf text (Show schedule all) = ⊥
@@ -27,8 +29,8 @@ IsReplayOf text (Show schedule all) = ⊥
 -- to draw the schedule of this text, with all registers or with those that fit
 abbrev pub IsShowOf : List ℕ → Bool → Task → Type 0
 IsShowOf text all (Check effort native allows_faults shortest) = ⊥
-IsShowOf text all (Explore effort native) = ⊥
-IsShowOf text all (Least effort native) = ⊥
+IsShowOf text all (Explore effort native part) = ⊥
+IsShowOf text all (Least effort native part) = ⊥
 IsShowOf text all (Find effort native patterns) = ⊥
 IsShowOf text all (Replay schedule) = ⊥
 IsShowOf text all (Show schedule with_all) = (schedule_text schedule ≡ text) × (with_all ≡ all)
@@ -77,22 +79,36 @@ IsCacheTold told other cache = IsNumberTold (told (codes "cache")) other cache �
 abbrev pub IsNativeTold : (List ℕ → Option (List ℕ)) → Bool → Type 0
 IsNativeTold told native = (text : Bool) × IsFlagTold (told (codes "text")) text × (native ≡ not text)
 
--- to explore as the words tell, for a report or for the least failing schedule alone
-abbrev pub IsExploration : (List ℕ → Option (List ℕ)) → Task → Type 0
-IsExploration told (Check effort native allows_faults shortest) = ⊥
-IsExploration told (Explore effort native) =
+-- the word for a part: its number, and how many there are
+abbrev pub part_word : Part → List ℕ
+part_word part = decimal part.number ++ codes "/" ++ decimal part.count
+
+-- the part that an option tells, if there is one
+abbrev pub IsPartTold : Option (List ℕ) → Option Part → Type 0
+IsPartTold text part = text ≡ option_map part_word part
+
+-- the word that is given for a part, by what clap found
+abbrev pub word_told : Found → Option (List ℕ)
+word_told found = first_value found (codes "part")
+
+-- to explore as the words tell, the whole or the part of this text, for all that comes out or for the least failing schedule alone
+abbrev pub IsExploration : (List ℕ → Option (List ℕ)) → Option (List ℕ) → Task → Type 0
+IsExploration told text (Check effort native allows_faults shortest) = ⊥
+IsExploration told text (Explore effort native part) =
     AreSettingsTold told effort.settings × IsCacheTold told 0 effort.cache × IsNativeTold told native × IsFlagTold (told (codes "least")) false
-IsExploration told (Least effort native) =
+    × IsPartTold text part
+IsExploration told text (Least effort native part) =
     AreSettingsTold told effort.settings × IsCacheTold told 0 effort.cache × IsNativeTold told native × IsFlagTold (told (codes "least")) true
-IsExploration told (Find effort native patterns) = ⊥
-IsExploration told (Replay schedule) = ⊥
-IsExploration told (Show schedule all) = ⊥
+    × IsPartTold text part
+IsExploration told text (Find effort native patterns) = ⊥
+IsExploration told text (Replay schedule) = ⊥
+IsExploration told text (Show schedule all) = ⊥
 
 -- whether use lines run as native machines
 abbrev pub is_native : Task → Bool
 is_native (Check effort native allows_faults shortest) = native
-is_native (Explore effort native) = native
-is_native (Least effort native) = native
+is_native (Explore effort native part) = native
+is_native (Least effort native part) = native
 is_native (Find effort native patterns) = native
 is_native (Replay schedule) = false
 is_native (Show schedule all) = false
@@ -101,8 +117,8 @@ is_native (Show schedule all) = false
 abbrev pub IsCheck : (List ℕ → Option (List ℕ)) → ℕ → Task → Type 0
 IsCheck told processors (Check effort native allows_faults shortest) =
     IsEffortTold told processors effort × IsNativeTold told native × IsFlagTold (told (codes "allow-faults")) allows_faults × IsFlagTold (told (codes "shortest")) shortest
-IsCheck told processors (Explore effort native) = ⊥
-IsCheck told processors (Least effort native) = ⊥
+IsCheck told processors (Explore effort native part) = ⊥
+IsCheck told processors (Least effort native part) = ⊥
 IsCheck told processors (Find effort native patterns) = ⊥
 IsCheck told processors (Replay schedule) = ⊥
 IsCheck told processors (Show schedule all) = ⊥
@@ -114,8 +130,8 @@ texts_told found = elim (option_map raw_values (matched_of found (codes "PATTERN
 -- to look as far as the words tell for outcomes that match one of the patterns of these texts
 abbrev pub IsFind : (List ℕ → Option (List ℕ)) → ℕ → List (List ℕ) → Task → Type 0
 IsFind told processors texts (Check effort native allows_faults shortest) = ⊥
-IsFind told processors texts (Explore effort native) = ⊥
-IsFind told processors texts (Least effort native) = ⊥
+IsFind told processors texts (Explore effort native part) = ⊥
+IsFind told processors texts (Least effort native part) = ⊥
 IsFind told processors texts (Find effort native patterns) =
     IsEffortTold told processors effort × IsNativeTold told native × (map pattern_text patterns.items ≡ texts)
 IsFind told processors texts (Replay schedule) = ⊥
@@ -124,8 +140,8 @@ IsFind told processors texts (Show schedule all) = ⊥
 -- how many lists of machines it takes: one for each worker, and one more where a schedule that is found is to be drawn
 abbrev pub lists_of : Task → ℕ
 lists_of (Check effort native allows_faults shortest) = effort.settings.workers + 1
-lists_of (Explore effort native) = effort.settings.workers
-lists_of (Least effort native) = effort.settings.workers
+lists_of (Explore effort native part) = effort.settings.workers
+lists_of (Least effort native part) = effort.settings.workers
 lists_of (Find effort native patterns) = effort.settings.workers + 1
 lists_of (Replay schedule) = 1
 lists_of (Show schedule all) = 1

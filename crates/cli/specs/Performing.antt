@@ -4,9 +4,10 @@ use Rattle.std.specs.List.{FoldsTo}
 use Rattle.texts.specs.Appending.{Writes}
 use Rattle.command_words.specs.declared.TheConstants.{VERSION}
 use Rattle.cli.specs.Findings.{HasBeginning, IsAnswered, IsRefusedWith}
+use Rattle.cli.specs.Merges.{AreMergedIn}
 use Rattle.cli.specs.declared.orders.Order as orders
 use Rattle.cli.specs.declared.orders.Request.{Request}
-use Rattle.cli.specs.declared.orders.Request.TheVariants.{Order, Version}
+use Rattle.cli.specs.declared.orders.Request.TheVariants.{Merge, Order, Version}
 use Rattle.cli.specs.declared.orders.Task.{Task}
 
 -- the line that tells the version
@@ -36,8 +37,16 @@ pub record IsVersionTold {W : Type 0} (contents : W → Option (List ℕ)) (old 
   pub told : status ≡ 0 → Writes (contents old) (contents new) version_text None
   pub cut_short : status ≢ 0 → (status ≡ 3) × HasBeginning (contents old) (contents new) version_text
 
--- words that were refused have the status of their refusal, and nothing is done; else the version is written, or their files are answered
+-- the parts in the file of a path, which is opened so, are merged, or not for a reason, with this status
+pub record IsMergePerformed {W : Type 0} (contents : W → Option (List ℕ)) (opened : List ℕ → Option (List ℕ) → Type 0) (path : List ℕ) (old new : W) (status : ℕ) : Type 0 where
+  pub file : Option (List ℕ)
+  pub opened_so : opened path file
+  pub done : AreMergedIn contents file old new status
+
+-- words that were refused have the status of their refusal, and nothing is done; else the version is written, their files are answered, or the parts
+-- in their file are merged
 abbrev pub IsPerformed : {W : Type 0} → (W → Option (List ℕ)) → (List ℕ → Option (List ℕ) → Type 0) → Result Request ℕ → W → W → ℕ → Type 0
 IsPerformed contents opened (Err refused) old new status = (new ≡ old) × (status ≡ refused)
 IsPerformed contents opened (Ok Version) old new status = IsVersionTold contents old new status
 IsPerformed contents opened (Ok (Order order)) old new status = AreAnswered contents opened order old new status
+IsPerformed contents opened (Ok (Merge path)) old new status = IsMergePerformed contents opened path.now old new status

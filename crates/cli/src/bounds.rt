@@ -11,6 +11,8 @@ use crate::refusals::Refusal;
 use clap::ArgMatches;
 use regmodel::Settings;
 use regmodel::limits::{MOST_CRASHES, MOST_LETTERS, MOST_WORKERS};
+use std::thread;
+use std::thread::Threads;
 
 /// Up to which length a check splits beginnings of schedules into pieces for its workers.
 const CUT: u32 = 3;
@@ -23,6 +25,9 @@ pub const CACHE: u32 = 128;
 
 /// The most megabytes in which states are remembered.
 pub const MOST_CACHE: u32 = 65536;
+
+/// How many processors there are taken to be where the system does not tell.
+const PROCESSORS: u32 = 4;
 
 /// What an option of a check or a search bounds.
 #[derive(Clone, Copy, PartialEq, Eq, Debug)]
@@ -73,6 +78,17 @@ impl Bound {
             Bound::Workers => MOST_WORKERS,
             Bound::Cache => MOST_CACHE,
         }
+    }
+}
+
+/// How many processors there are, as far as workers can be as many: so many workers has a check or a search whose words do not say.
+pub(crate) fn processors<H: Threads>(rt: &H) -> u32
+    ensures some { 0 < result }
+    ensures few { result ≤ MOST_WORKERS }
+{
+    match thread::available_parallelism(rt) {
+        Ok(count) => count.get().min(MOST_WORKERS as usize) as u32,
+        Err(_) => PROCESSORS,
     }
 }
 

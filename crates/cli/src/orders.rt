@@ -8,25 +8,27 @@ ghost use Rattle.regmodel.specs.declared.limits.TheConstants.{MOST_WORKERS};
 ghost use Rattle.regmodel.specs.Prefixes.{FitsPrefix};
 ghost use Rattle.regmodel.specs.ScheduleText.{schedule_text};
 ghost use Rattle.cli.specs.Bounds.{IsBoundRefused};
-ghost use Rattle.cli.specs.Orders.{IsCheck, IsEffortTold, IsExploration, IsFind, IsFlagTold, IsNativeTold, IsNumberTold, IsReplayOf, IsShowOf, texts_told};
+ghost use Rattle.cli.specs.Orders.{IsCheck, IsEffortTold, IsExploration, IsFind, IsFlagTold, IsNativeTold, IsNumberTold, IsReplayOf, IsShowOf, texts_told, word_told};
 ghost use Rattle.cli.specs.Inputs.{IsTextOf};
 ghost use Rattle.cli.specs.PatternTexts.{AreTextsOf};
 ghost use Rattle.cli.specs.Statuses.{status_of};
 
-use crate::bounds::{Bound, CACHE, MOST_CACHE, bound_of, bounds_of};
+use crate::bounds::{Bound, CACHE, MOST_CACHE, bound_of, bounds_of, processors};
 use crate::inputs::{STANDARD_INPUT, is_standard};
+use crate::parts_told::part_told;
 use crate::patterns_told::{are_standard, patterns_told};
 use crate::refusals::{Refusal, refuse};
 use crate::wording::refuse_in_words;
 use clap::ArgMatches;
 use clap::error::ErrorKind;
 use command_words::matches_of;
-use explorer::Effort;
+use explorer::{Effort, Part};
 use patterns::Pattern;
 use regmodel::{Prefix, Settings, read_schedule};
 use std::alloc::Global;
 use std::convert::AsStr;
 use std::io::{Read, Write};
+use std::thread::Threads;
 
 /// The number of the setting that says in how many megabytes states are remembered. Those of `Settings` are 1 to 5.
 const CACHE_SETTING: u8 = 7;
@@ -42,15 +44,17 @@ pub enum Task {
         allows_faults: bool,
         shortest: bool,
     },
-    /// Explore it this far, with native machines for use lines or with interpreters alone.
+    /// Explore it this far, or one part of it, with native machines for use lines or with interpreters alone.
     Explore {
         effort: Effort,
         native: bool,
+        part: Option<Part>,
     },
-    /// Look for its least failing schedule alone, as far and with the same machines.
+    /// Look for its least failing schedule alone, as far and with the same machines, or for that of one part.
     Least {
         effort: Effort,
         native: bool,
+        part: Option<Part>,
     },
     /// Look this far for the least schedule whose outcome matches one of these patterns.
     Find {
@@ -125,6 +129,8 @@ pub enum Request<'a> {
     Version,
     /// To do something with files.
     Order(Order<'a>),
+    /// To merge the parts of an exploration that are in this file.
+    Merge(&'a str),
 }
 
 /// What is asked of one file.
@@ -138,19 +144,19 @@ pub struct Question<'a> {
     pub progress: bool,
 }
 
-/// Reads the words of the command line, the program's name first. Where they are refused, also where they ask for help, a setting is past its limit, or a schedule or a pattern is no text of one, it prints why, and the error is the status. A check or a search has as
-/// many workers as there are processors, 1 to 16, where the words do not say how many. `opener` gives what is read for a path, here for that of standard
-/// input where the words say that patterns are read from it.
-pub fn command<'a, S: AsStr, R: Read + Drop, F: Fn(&str) -> Option<R>, E: Write>(
-    alloc: Global,
-    words: &'a Result<Vec<S>, Refusal>,
-    processors: u32,
-    opener: &F,
-    err: &mut E,
-) -> Result<Request<'a>, u8>
-    requires callable { F.IsAlwaysCallable opener.now }
-    requires some { 0 < processors }
-    requires few { processors ≤ MOST_WORKERS }
+/// Reads the words of the command line, the program's name first. Where they are refused, also where they ask for help, a setting is past
+/// its limit, or a schedule or a pattern is no text of one, it prints why, and the error is the status. A check or a search has as many
+/// workers as there are processors, 1 to 16, where the words do not say how many: `rt` tells that. `opener` gives what is read for a path,
+/// here for that of standard input where the words say that patterns are read from it.
+pub fn command<
+    'a,
+    H: Threads + AllocGlobal,
+    S: AsStr,
+    R: Read + Drop,
+    F: Fn(&str) -> Option<R>,
+    E: Write,
+>(rt: &H, words: &'a Result<Vec<S>, Refusal>, opener: &F, err: &mut E) -> Result<Request<'a>, u8>
+    requires { F.IsAlwaysCallable opener.now }
     ensures words { IfErr words.now (λ refusal. result ≡ Err (status_of refusal)) }
     ensures err { IfErr result (λ status. (status ≡ 2) ⊎ (status ≡ 3)) }
 {
@@ -158,11 +164,14 @@ pub fn command<'a, S: AsStr, R: Read + Drop, F: Fn(&str) -> Option<R>, E: Write>
         Ok(words) => words.as_slice(),
         Err(refusal) => return Err(refuse(refusal, err)),
     };
-    match matches_of(alloc, words) {
-        Ok(matches) => match order_of(alloc, &matches, processors, opener, err) {
-            Ok(order) => Ok(Request::Order(order)),
-            Err(status) => Err(status),
-        },
+    match matches_of(rt.alloc(), words) {
+        Ok(matches) => {
+            if let Some(path) = merge_of(&matches) {
+                return Ok(Request::Merge(path));
+            }
+            let order = order_of(rt, &matches, opener, err)?;
+            Ok(Request::Order(order))
+        }
         Err(error) if matches!(error.kind(), ErrorKind::DisplayVersion) => Ok(Request::Version),
         Err(error) => {
             let _ = write!(err, "{error}");
@@ -171,25 +180,30 @@ pub fn command<'a, S: AsStr, R: Read + Drop, F: Fn(&str) -> Option<R>, E: Write>
     }
 }
 
+/// The file whose parts are to be merged, where words that clap took ask for that.
+fn merge_of<'a>(matches: &ArgMatches<'a>) -> Option<&'a str> {
+    match matches.subcommand() {
+        Some(("merge", words)) => words.get_str("FILE"),
+        _ => None,
+    }
+}
+
 /// The order of words that clap took.
-fn order_of<'a, R: Read + Drop, F: Fn(&str) -> Option<R>, E: Write>(
-    alloc: Global,
+fn order_of<'a, H: Threads + AllocGlobal, R: Read + Drop, F: Fn(&str) -> Option<R>, E: Write>(
+    rt: &H,
     matches: &ArgMatches<'a>,
-    processors: u32,
     opener: &F,
     err: &mut E,
 ) -> Result<Order<'a>, u8>
-    requires callable { F.IsAlwaysCallable opener.now }
-    requires some { 0 < processors }
-    requires few { processors ≤ MOST_WORKERS }
+    requires { F.IsAlwaysCallable opener.now }
     ensures { IfErr result (λ status. (status ≡ 2) ⊎ (status ≡ 3)) }
 {
     let Some((name, words)) = matches.subcommand() else {
         return Err(2);
     };
     let task = match name {
-        "check" => check_of(words, processors),
-        "find" => find_of(alloc, words, processors, opener),
+        "check" => check_of(words, processors(rt)),
+        "find" => find_of(rt.alloc(), words, processors(rt), opener),
         "replay" => replay_of(words.get_str("SCHEDULE").unwrap_or("")),
         "show" => show_of(
             words.get_str("SCHEDULE").unwrap_or(""),
@@ -198,7 +212,7 @@ fn order_of<'a, R: Read + Drop, F: Fn(&str) -> Option<R>, E: Write>(
         _ => exploration_of(words),
     };
     let refusal = match task {
-        Ok(task) => match Vec::from_slice(alloc, words.get_strs("FILE").unwrap_or(&[])) {
+        Ok(task) => match Vec::from_slice(rt.alloc(), words.get_strs("FILE").unwrap_or(&[])) {
             Ok(paths) => {
                 return Ok(Order {
                     paths,
@@ -297,9 +311,11 @@ fn pattern_words<'a>(words: &'a ArgMatches<'_>) -> &'a [&'a str]
     words.get_strs("PATTERN").unwrap_or(&[])
 }
 
-/// How far the words of `explore` ask to explore.
+/// How far the words of `explore` ask to explore. The error tells the lowest setting that they give past its limit, by its number: 1 to 5
+/// are those of `Settings`, 6 is the part, 7 the megabytes.
 fn exploration_of(words: &ArgMatches<'_>) -> Result<Task, Refusal>
-    ensures ok { IfOk result (IsExploration (one_text (found_of words.now))) }
+    ensures ok { IfOk result
+        (IsExploration (one_text (found_of words.now)) (word_told (found_of words.now))) }
     ensures err { IfErr result (λ refusal. status_of refusal ≡ 2) }
 {
     let settings = Settings::new(
@@ -309,17 +325,29 @@ fn exploration_of(words: &ArgMatches<'_>) -> Result<Task, Refusal>
         number_of(words, "cut"),
         number_of(words, "room"),
     );
-    let cache = number_of(words, "cache");
-    let native = is_native(words);
-    let effort = match settings {
-        Ok(_) if cache > MOST_CACHE => return Err(Refusal::Setting(CACHE_SETTING)),
-        Ok(settings) => Effort { settings, cache },
+    let settings = match settings {
+        Ok(settings) => settings,
         Err(fault) => return Err(Refusal::Setting(fault.code)),
     };
-    if has_flag(words, "least") {
-        return Ok(Task::Least { effort, native });
+    let part = part_told(words)?;
+    let cache = number_of(words, "cache");
+    if cache > MOST_CACHE {
+        return Err(Refusal::Setting(CACHE_SETTING));
     }
-    Ok(Task::Explore { effort, native })
+    let effort = Effort { settings, cache };
+    let native = is_native(words);
+    if has_flag(words, "least") {
+        return Ok(Task::Least {
+            effort,
+            native,
+            part,
+        });
+    }
+    Ok(Task::Explore {
+        effort,
+        native,
+        part,
+    })
 }
 
 /// To replay the schedule of this text.

@@ -1,25 +1,21 @@
 //! The whole program, over what opens its files and what takes its texts.
 
-ghost use Rattle.std.specs.Prelude.{◌≡◌, ◌<◌, ◌≤◌, ◌⊎◌, IfErr, Option, option_and_then};
+ghost use Rattle.std.specs.Prelude.{◌≡◌, ◌⊎◌, IfErr, Option, option_and_then};
 ghost use Rattle.std.specs.Fn.{FnReturnsAt};
-ghost use Rattle.regmodel.specs.declared.limits.TheConstants.{MOST_WORKERS};
 ghost use Rattle.cli.specs.Performing.{AreAnswered, IsPerformed, IsVersionTold};
 
 use crate::answers::answer;
+use crate::merges::merge_file;
 use crate::orders::{Order, Question, Request};
 use crate::refusals::{Refusal, refuse};
 use command_words::VERSION;
-use regmodel::limits::MOST_WORKERS;
 use std::alloc::Global;
+use std::env;
 use std::env::Env;
 use std::io::{ErrorKind, Read, Write};
 use std::sync::Wait;
 use std::thread::Threads;
-use std::{env, thread};
 use texts::write;
-
-/// How many processors there are taken to be where the system does not tell.
-const PROCESSORS: u32 = 4;
 
 /// The words of the command line, the program's name first. One that is not UTF-8 is refused.
 pub fn words_of<H: Env + AllocGlobal>(rt: &H) -> Result<Vec<String>, Refusal>
@@ -37,17 +33,6 @@ pub fn words_of<H: Env + AllocGlobal>(rt: &H) -> Result<Vec<String>, Refusal>
         }
     }
     Ok(list)
-}
-
-/// How many processors there are, as far as workers can be as many.
-pub fn processors<H: Threads>(rt: &H) -> u32
-    ensures some { 0 < result }
-    ensures few { result ≤ MOST_WORKERS }
-{
-    match thread::available_parallelism(rt) {
-        Ok(count) => count.get().min(MOST_WORKERS as usize) as u32,
-        Err(_) => PROCESSORS,
-    }
 }
 
 /// Does what was asked for, and gives the status: that of the words where they were refused, and nothing is done then; 0 where the version was written, else the
@@ -78,6 +63,7 @@ pub fn perform<
     match request {
         Ok(Request::Order(order)) => answer_each(rt, alloc, &order, opener, out, err),
         Ok(Request::Version) => tell_version(out, err),
+        Ok(Request::Merge(path)) => merge_file(alloc, path, opener(path), out, err),
         Err(status) => status,
     }
 }

@@ -5,6 +5,7 @@ ghost use Rattle.cli.specs.Statuses.{status_of};
 
 use crate::bounds::Bound;
 use crate::standings::RefusedLetter;
+use merging::MergeFault;
 use reglang::Rejection;
 use regmodel::OutOfMemory;
 use std::alloc::{AllocError, AllocFailed};
@@ -56,6 +57,9 @@ pub enum Refusal {
     /// A letter that is not possible where it stands.
     #[error("letter {}", .0.place)]
     Letter(RefusedLetter),
+    /// Parts that could not be merged.
+    #[error("merge")]
+    Merge(MergeFault),
     /// An exploration without a report.
     #[error("run {0}")]
     Run(u8),
@@ -83,7 +87,8 @@ impl Refusal {
             | Refusal::File
             | Refusal::LongFile
             | Refusal::Source(_)
-            | Refusal::Letter(_) => 2,
+            | Refusal::Letter(_)
+            | Refusal::Merge(_) => 2,
             Refusal::Memory | Refusal::Run(_) | Refusal::Write => 3,
         }
     }

@@ -79,6 +79,7 @@ fn write_words<E: Write>(subject: &str, refusal: &Refusal, err: &mut E) -> io::R
             refused.place.saturating_add(1),
             hindrance(refused)
         ),
+        Refusal::Merge(fault) => writeln!(err, "{subject}: {fault}"),
         Refusal::Run(code) => writeln!(err, "{subject}: {}", run_fault(*code)),
         Refusal::Write => writeln!(err, "the answer could not be written"),
     }

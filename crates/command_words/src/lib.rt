@@ -60,6 +60,10 @@ const BOUNDS: [(&str, &str, &str); 3] = [
 const CACHE: &str =
     "In how many megabytes states are remembered: 0 to 65536. What follows a state that was met before is counted and not tried again, which gives the same report in fewer steps. The workers share the megabytes [default: 0]";
 
+/// What the help of an exploration says of its parts.
+const PART: &str =
+    "Explore only part I of N, as 3/16, and print it as a part for `regtry merge`: N is at most 65536";
+
 /// What the help of a check or a search says of it.
 const CHECK_CACHE: &str =
     "In how many megabytes states are remembered, as by explore: 0 to 65536 [default: 128]";
@@ -139,6 +143,22 @@ Statuses:
   2  the words, a setting, a pattern, the file or the source is refused: a refused source is explained
   3  memory ran out, or the result could not be made or written";
 
+/// What the help says of parts.
+const MERGES: &str =
+    "A part is what `regtry explore --part I/N` prints. All N parts of one exploration, as cat or GNU parallel gives them one after
+another in any order, are merged into the report that explore prints without --part, or, where they were explored with --least, into its
+least failing schedule.
+
+Example: regtry explore FILE .. --part 1/2 > one; regtry explore FILE .. --part 2/2 > two; cat one two | regtry merge -
+prints what regtry explore FILE .. prints.
+
+Statuses:
+  0  no schedule fails
+  1  a schedule fails
+  2  the words or the file are refused, or its parts are: a line is none of a part, a part is there twice or missing, or two parts are
+     not of one exploration; it is said which
+  3  memory ran out, or the report could not be written";
+
 /// What the help says of a drawing.
 const DRAWINGS: &str = "Letters of a schedule:
   R0  process 0 takes a step: it does the register access that it wants, and goes on to its next one or its end
@@ -178,6 +198,7 @@ fn program<'a>(alloc: Global) -> Result<Command<'a>, AllocError> {
         .subcommand(check(alloc)?)?
         .subcommand(explore(alloc)?)?
         .subcommand(find(alloc)?)?
+        .subcommand(merge(alloc)?)?
         .subcommand(replay(alloc)?)?
         .subcommand(show(alloc)?)
 }
@@ -216,6 +237,7 @@ fn explore<'a>(alloc: Global) -> Result<Command<'a>, AllocError> {
     }
     command
         .arg(cache(alloc))?
+        .arg(part(alloc))?
         .arg(text(alloc))?
         .arg(least)?
         .arg(progress(alloc))
@@ -235,6 +257,17 @@ fn find<'a>(alloc: Global) -> Result<Command<'a>, AllocError> {
         .arg(bound(alloc, "cache", "MB", CHECK_CACHE))?
         .arg(text(alloc))?
         .arg(progress(alloc))
+}
+
+/// The words of `merge`.
+fn merge<'a>(alloc: Global) -> Result<Command<'a>, AllocError> {
+    let parts = Arg::new(alloc, "FILE").required(true).help(
+        "The parts, as explore --part prints them, one after another in any order, or - for standard input",
+    );
+    Command::new(alloc, "merge")
+        .about("Merges all parts of an exploration and prints the report of the whole.")
+        .after_help(MERGES)
+        .arg(parts)
 }
 
 /// The words of `replay`.
@@ -336,6 +369,15 @@ fn cache<'a>(alloc: Global) -> Arg<'a> {
         .value_name("MB")
         .value_parser(value_parser!(u32))
         .help(CACHE)
+}
+
+/// The option of an exploration that takes a part, of which any text is handed on, so that it is refused as a setting.
+fn part<'a>(alloc: Global) -> Arg<'a> {
+    Arg::new(alloc, "part")
+        .long("part")
+        .value_name("I/N")
+        .allow_hyphen_values(true)
+        .help(PART)
 }
 
 /// An option that takes a number, of which any text is handed on, so that it is refused with the range of the option.

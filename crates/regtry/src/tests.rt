@@ -131,7 +131,7 @@ fn asked<H: Threads + Wait + Sync + AllocGlobal, W: Write, E: Write + Send>(
 ) -> u8 {
     let words = list_of(rt.alloc(), words);
     let open = |_path: &str| Some(file);
-    let request = command(rt.alloc(), &words, 2, &open, err);
+    let request = command(rt, &words, &open, err);
     perform(rt, rt.alloc(), request, &open, out, err)
 }
 
@@ -196,17 +196,11 @@ fn each_option_says_its_own_setting(rt: HostRuntime) -> Result<(), Fail> {
     for (words, interpreted) in [(words.as_slice(), true), (&words[..13], false)] {
         let mut err = Vec::new(rt.alloc());
         let words = list_of(rt.alloc(), words);
-        let request = command(
-            rt.alloc(),
-            &words,
-            2,
-            &|_path: &str| Some(SPLITTER),
-            &mut err,
-        );
+        let request = command(&rt, &words, &|_path: &str| Some(SPLITTER), &mut err);
         let Ok(Request::Order(order)) = request else {
             return Err(Fail::from("refused words"));
         };
-        let Task::Explore { effort, native } = &order.task else {
+        let Task::Explore { effort, native, .. } = &order.task else {
             return Err(Fail::from("no exploration"));
         };
         let settings = effort.settings;

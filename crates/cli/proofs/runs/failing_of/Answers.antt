@@ -4,8 +4,7 @@ use Rattle.cli.proofs.runs.failing_of.Goals as goal
 
 pub breach_for-breach-requires-clause-least : goal.breach_for-breach-requires-clause-least
 breach_for-breach-requires-clause-least g c =
-    let plain = rw c.clauses.ensures.value at (rw c.without_ended-asked.ensures at c.in-Ok.ensures.least) in
-    (c.args.allows_faults, plain)
+    rw c.clauses.ensures.value at (rw c.without_ended-asked.ensures at c.in-Ok.ensures.least)
 
 pub returns-in-Some-clause-fails : goal.returns-in-Some-clause-fails
 returns-in-Some-clause-fails g c =

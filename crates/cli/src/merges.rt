@@ -1,0 +1,70 @@
+//! The parts of an exploration that are in a file, merged.
+
+ghost use Rattle.std.specs.Prelude.{◌≡◌, ◌≤◌, ◌⊎◌, IfErr, IfOk, OnErr, OnOk, None, option_and_then};
+ghost use Rattle.texts.specs.Appending.{Writes};
+ghost use Rattle.merging.specs.Merged.{IsMergedOf};
+ghost use Rattle.merging.specs.MergedText.{merged_text};
+ghost use Rattle.cli.specs.Findings.{HasBeginning};
+ghost use Rattle.cli.specs.Merges.{AreMergedIn};
+
+use crate::refusals::Refusal;
+use crate::wording::refuse_in_words;
+use merging::{MergeFault, Merged, merge_parts, write_merged};
+use std::alloc::Global;
+use std::io::{BufReader, Read, Write};
+
+/// Merges the parts in the file, and writes what they tell together. The status is 0 where that is done, but 1 where a schedule fails; 2
+/// where the file or its parts are refused; 3 where it could not be done. At 2 and 3 a line on `err` says why, and `out` is as before, unless it
+/// did not take the whole text: then it took a beginning of it, and the status is 3. `file` is None where it could not be opened.
+pub fn merge_file<R: Read + Drop, W: Write, E: Write>(
+    alloc: Global,
+    path: &str,
+    file: Option<R>,
+    out: &mut W,
+    err: &mut E,
+) -> u8
+    ensures { AreMergedIn W.contents (option_and_then R.remaining file) out.old out.new result }
+{
+    let merged = match merged_in(alloc, file) {
+        Ok(merged) => merged,
+        Err(refusal) => return refuse_in_words(path, &refusal, err),
+    };
+    match tell(&merged, out) {
+        Ok(()) => u8::from(merged.fails()),
+        Err(refusal) => refuse_in_words(path, &refusal, err),
+    }
+}
+
+/// What the parts in the file tell together.
+fn merged_in<R: Read + Drop>(alloc: Global, file: Option<R>) -> Result<Merged, Refusal>
+    ensures merged { IfOk result (IsMergedOf (option_and_then R.remaining file)) }
+{
+    let Some(file) = file else {
+        return Err(Refusal::File);
+    };
+    let Ok(reader) = BufReader::new(alloc, file) else {
+        return Err(Refusal::Memory);
+    };
+    match merge_parts(alloc, reader) {
+        Ok(merged) => Ok(merged),
+        Err(MergeFault::NoMemory) => Err(Refusal::Memory),
+        Err(fault) => Err(Refusal::Merge(fault)),
+    }
+}
+
+/// Writes what parts tell together, and has the writer pass it on.
+fn tell<W: Write>(merged: &Merged, out: &mut W) -> Result<(), Refusal>
+    ensures whole { OnOk result
+        (Writes (W.contents out.old) (W.contents out.new) (merged_text merged.now) None) }
+    ensures begun { OnErr result
+        (HasBeginning (W.contents out.old) (W.contents out.new) (merged_text merged.now)) }
+    ensures err { IfErr result (λ refusal. refusal ≡ Refusal.Write) }
+{
+    if write_merged(merged, out).is_err() {
+        return Err(Refusal::Write);
+    }
+    if out.flush().is_err() {
+        return Err(Refusal::Write);
+    }
+    Ok(())
+}
