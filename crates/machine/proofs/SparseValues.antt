@@ -1,8 +1,9 @@
 -- Values are read back from their mask and those that are not 0.
-use Rattle.std.proofs.Common.{◌≡◌, ℕ, zero, suc, ◌+◌, ◌*◌, ◌^◌, ◌<◌, ◌≤◌, List, [], ◌∷◌, ◌++◌, drop, get_or, length, refl, ap, subst, ◌∙◌, arith}
+use Rattle.std.proofs.Common.{◌≡◌, ◌≢◌, ℕ, zero, suc, ◌+◌, ◌*◌, ◌^◌, ◌<◌, ◌≤◌, List, [], ◌∷◌, ◌++◌, drop, take, get_or, length, length-append, refl, ap, sym, subst, ◌∙◌, arith, add-one}
 use Rattle.std.specs.Prelude.{map}
 use Rattle.std.proofs.Math.Nat.{pow-suc}
-use Rattle.std.proofs.lemmas.List.{append-nil, length-map}
+use Rattle.std.proofs.Math.Seq.{take-suc}
+use Rattle.std.proofs.lemmas.List.{append-nil, length-map, take-append-drop}
 use Rattle.machine.specs.Bits.{bit, unpacked}
 use Rattle.machine.specs.Sparse.{filled, is_filled, mask_of, past_placed, past_sparse, placed, sparse, spread}
 use Rattle.machine.proofs.CellLists.{drop_at}
@@ -34,7 +35,43 @@ pub past-sparse : (values more : List ℕ) → past_sparse (length values) (spar
 past-sparse values more =
     ap (λ tests. past_placed tests (filled values ++ more)) (bits_back values) ∙ past-filled values more
 
+-- ---- values that are told one after another
+
+pub filled-append : (xs ys : List ℕ) → filled (xs ++ ys) ≡ filled xs ++ filled ys
+filled-append [] ys = refl
+filled-append (zero ∷ xs) ys = filled-append xs ys
+filled-append (suc n ∷ xs) ys = ap (λ vs. suc n ∷ vs) (filled-append xs ys)
+
+filled-one : (value : ℕ) → value ≢ 0 → filled (value ∷ []) ≡ value ∷ []
+filled-one zero h = absurd (h refl)
+filled-one (suc n) h = refl
+
+-- one value more
+filled-past : (values : List ℕ) (i : ℕ) → i < length values → filled (take (i + 1) values) ≡ filled (take i values) ++ filled (get_or values i 0 ∷ [])
+filled-past values i h = ap (λ n. filled (take n values)) (add-one i) ∙ ap filled (take-suc values i 0 h) ∙ filled-append (take i values) (get_or values i 0 ∷ [])
+
+pub filled-past-zero : (values : List ℕ) (i : ℕ) → i < length values → get_or values i 0 ≡ 0 → filled (take (i + 1) values) ≡ filled (take i values)
+filled-past-zero values i h is = filled-past values i h ∙ ap (λ v. filled (take i values) ++ filled (v ∷ [])) is ∙ append-nil (filled (take i values))
+
+pub filled-past-other : (values : List ℕ) (i : ℕ) → i < length values → get_or values i 0 ≢ 0 → filled (take (i + 1) values) ≡ filled (take i values) ++ get_or values i 0 ∷ []
+filled-past-other values i h is = filled-past values i h ∙ ap (λ vs. filled (take i values) ++ vs) (filled-one (get_or values i 0) is)
+
+-- so one at least is told behind those before a value that is not 0
+pub filled-more : (values : List ℕ) (i : ℕ) → i < length values → get_or values i 0 ≢ 0 → length (filled (take i values)) < length (filled values)
+filled-more values i h is =
+    let before = filled (take i values) in
+    let behind = filled (drop (i + 1) values) in
+    let whole : filled values ≡ filled (take (i + 1) values) ++ behind =
+    ap filled (sym (take-append-drop (i + 1) values)) ∙ filled-append (take (i + 1) values) (drop (i + 1) values) in
+    let one = filled-past-other values i h is in
+    omega (arith, ap length whole, length-append (filled (take (i + 1) values)) behind, ap length one, length-append before (get_or values i 0 ∷ []))
+
 -- ---- how a mask is made, from the last value on
+
+-- a 0 behind the values changes no bit
+pub mask_zero : (values : List ℕ) → mask_of (values ++ 0 ∷ []) ≡ mask_of values
+mask_zero [] = refl
+mask_zero (value ∷ values) = ap (λ mask. mask * 2 + bit (is_filled value)) (mask_zero values)
 
 -- the mask from one value on is twice that behind it, and 1 more where the value is not 0
 pub mask_at : (values : List ℕ) (i : ℕ) → i < length values → mask_of (drop i values) ≡ mask_of (drop (i + 1) values) * 2 + bit (is_filled (get_or values i 0))

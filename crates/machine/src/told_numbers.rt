@@ -10,7 +10,10 @@ pub fn put(values: &[u32], numbers: &mut Told) -> Option<()>
     ensures behind { IfSome result (λ _. numbers.new.items ≡ numbers.old.items ++ values.now) }
     ensures room { length numbers.old.items + length values.now ≤ 64 → IsSome result }
 {
-    numbers.try_extend_from_slice(values).ok()
+    for value in values {
+        numbers.try_push(*value).ok()?;
+    }
+    Some(())
 }
 
 /// Puts at most 32 values of which most are 0 behind the numbers, where there is room: a number whose bit i tells whether value i
@@ -21,8 +24,22 @@ pub fn put_sparse(values: &[u32], numbers: &mut Told) -> Option<()>
         (λ _. numbers.new.items ≡ numbers.old.items ++ sparse values.now) }
     ensures room { length numbers.old.items + length (sparse values.now) ≤ 64 → IsSome result }
 {
-    put(&[mask(values)], numbers)?;
-    put_filled(values, numbers)
+    let used = used(values);
+    put(&[mask(used)], numbers)?;
+    put_filled(used, numbers)
+}
+
+/// The values up to the last one that is not 0.
+fn used(values: &[u32]) -> &[u32]
+    ensures mask { mask_of result.now ≡ mask_of values.now }
+    ensures filled { filled result.now ≡ filled values.now }
+    ensures short { length result.now ≤ length values.now }
+{
+    let mut count = values.len();
+    while count > 0 && values[count - 1] == 0 {
+        count -= 1;
+    }
+    &values[..count]
 }
 
 /// Which of at most 32 values are not 0, as the bits of a number.
@@ -45,11 +62,10 @@ fn put_filled(values: &[u32], numbers: &mut Told) -> Option<()>
         (λ _. numbers.new.items ≡ numbers.old.items ++ filled values.now) }
     ensures room { length numbers.old.items + length (filled values.now) ≤ 64 → IsSome result }
 {
-    let Some((value, further)) = values.split_first() else {
-        return Some(());
-    };
-    if *value != 0 {
-        put(&[*value], numbers)?;
+    for value in values {
+        if *value != 0 {
+            put(&[*value], numbers)?;
+        }
     }
-    put_filled(further, numbers)
+    Some(())
 }
