@@ -32,7 +32,7 @@ take-front : (word rest : List ℕ) → take (length word) (word ++ rest) ≡ wo
 take-front [] rest = refl
 take-front (b ∷ word) rest = ap (λ w. b ∷ w) (take-front word rest)
 
-clash : (t : Bool) → t ≡ true → t ≡ false → ⊥
+pub clash : (t : Bool) → t ≡ true → t ≡ false → ⊥
 clash true h k = cc
 clash false h k = cc
 

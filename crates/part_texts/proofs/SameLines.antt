@@ -22,7 +22,7 @@ use Rattle.patterns.specs.declared.standings.Standing.TheVariants.{Just}
 use Rattle.patterns.specs.declared.standings.Standing.TheVariants as standing
 use Rattle.patterns.specs.Cuts.{has_no}
 use Rattle.patterns.specs.PatternText.{FitsPattern, end_fits, idle_text}
-use Rattle.patterns.proofs.Bytes.{cut_same, has_no-append, no_space-decimal}
+use Rattle.patterns.proofs.Bytes.{cut_same, has_no-append}
 use Rattle.patterns.proofs.Sames.{pattern_text-same}
 use Rattle.part_texts.specs.FitsPart.{FitsOutcome}
 use Rattle.part_texts.specs.PartText.{number_text}
@@ -31,12 +31,15 @@ use Rattle.part_texts.proofs.JustOnes.{fits-same, text-same}
 
 -- ---- lines
 
-tail-same : (b : ℕ) (s t : List ℕ) → b ∷ s ≡ b ∷ t → s ≡ t
-tail-same b s t e = cc
+pub first-same : (x y : ℕ) (s t : List ℕ) → x ∷ s ≡ y ∷ t → x ≡ y
+first-same x y s t e = cc
+
+pub tail-same : (x y : ℕ) (s t : List ℕ) → x ∷ s ≡ y ∷ t → s ≡ t
+tail-same x y s t e = cc
 
 pub front-same : (w x y : List ℕ) → w ++ x ≡ w ++ y → x ≡ y
 front-same [] x y e = e
-front-same (b ∷ w) x y e = front-same w x y (tail-same b (w ++ x) (w ++ y) e)
+front-same (b ∷ w) x y e = front-same w x y (tail-same b b (w ++ x) (w ++ y) e)
 
 -- two texts in two parts each
 pub parted : (a b s c d t : List ℕ) → (a ++ b) ++ s ≡ (c ++ d) ++ t → a ++ (b ++ s) ≡ c ++ (d ++ t)
@@ -45,19 +48,25 @@ parted a b s c d t e = sym (append_assoc a b s) ∙ e ∙ append_assoc c d t
 pub line-same : (x s y t : List ℕ) → has_no 10 x ≡ true → has_no 10 y ≡ true → (x ++ codes "\n") ++ s ≡ (y ++ codes "\n") ++ t → (x ≡ y) × (s ≡ t)
 line-same x s y t hx hy e =
     let same = cut_same 10 x (10 ∷ s) y (10 ∷ t) hx refl hy refl (parted x (codes "\n") s y (codes "\n") t e) in
-    (same.0, tail-same 10 s t same.1)
+    (same.0, tail-same 10 10 s t same.1)
 
 -- ---- numbers
 
-no_feed_digits : (ds : List ℕ) → AllDigits 10 ds → has_no 10 ds ≡ true
-no_feed_digits [] h = refl
-no_feed_digits (d ∷ ds) h = and_from (not (eqb d 10)) (has_no 10 ds) (ap not (apart d (digit_from_value d h.0))) (no_feed_digits ds h.1)
+no_digit : (byte : ℕ) (ds : List ℕ) → AllDigits 10 ds → ((d : ℕ) → IsInRange 48 57 d → eqb d byte ≡ false) → has_no byte ds ≡ true
+no_digit byte [] h apart = refl
+no_digit byte (d ∷ ds) h apart = and_from (not (eqb d byte)) (has_no byte ds) (ap not (apart d (digit_from_value d h.0))) (no_digit byte ds h.1 apart)
+
+pub no_feed-decimal : (n : ℕ) → n < 2 ^ 64 → has_no 10 (decimal n) ≡ true
+no_feed-decimal n h = no_digit 10 (decimal n) (decimal_is_IsNumeral n h).0.1 apart
   where
     apart : (d : ℕ) → IsInRange 48 57 d → eqb d 10 ≡ false
     apart d r = grind (arith, nat_tests)
 
-pub no_feed-decimal : (n : ℕ) → n < 2 ^ 64 → has_no 10 (decimal n) ≡ true
-no_feed-decimal n h = no_feed_digits (decimal n) (decimal_is_IsNumeral n h).0.1
+no_space-number : (n : ℕ) → n < 2 ^ 64 → has_no 32 (decimal n) ≡ true
+no_space-number n h = no_digit 32 (decimal n) (decimal_is_IsNumeral n h).0.1 apart
+  where
+    apart : (d : ℕ) → IsInRange 48 57 d → eqb d 32 ≡ false
+    apart d r = grind (arith, nat_tests)
 
 pub number-same : (w : List ℕ) (n m : ℕ) (s t : List ℕ) → has_no 10 w ≡ true → n < 2 ^ 64 → m < 2 ^ 64 → number_line w n ++ s ≡ number_line w m ++ t → (n ≡ m) × (s ≡ t)
 number-same w n m s t hw hn hm e =
@@ -66,23 +75,28 @@ number-same w n m s t hw hn hm e =
     (decimal_injective n m hn hm (front-same (w ++ codes " ") (decimal n) (decimal m) same.0), same.1)
 
 -- the two numbers of a part
-abbrev numbers_of : ℕ → ℕ → List ℕ
+abbrev pub numbers_of : ℕ → ℕ → List ℕ
 numbers_of p q = decimal p ++ (codes " of " ++ decimal q)
 
 number_text-parts : (p q : ℕ) (s : List ℕ) → number_text p q ++ s ≡ codes "part " ++ ((numbers_of p q ++ codes "\n") ++ s)
 number_text-parts p q s =
     ap (λ l. codes "part " ++ ((l ++ codes "\n") ++ s)) (append_assoc (decimal p) (codes " of ") (decimal q))
 
+-- the line with the numbers of a part
+pub numbers-same : (p q n m : ℕ) → p < 2 ^ 64 → q < 2 ^ 64 → n < 2 ^ 64 → m < 2 ^ 64 → numbers_of p q ≡ numbers_of n m → (p ≡ n) × (q ≡ m)
+numbers-same p q n m hp hq hn hm e =
+    let same = cut_same 32 (decimal p) (codes " of " ++ decimal q) (decimal n) (codes " of " ++ decimal m) (no_space-number p hp) refl (no_space-number n hn) refl e in
+    (decimal_injective p n hp hn same.0, decimal_injective q m hq hm (front-same (codes " of ") (decimal q) (decimal m) same.1))
+
+pub no_feed-numbers_of : (p q : ℕ) → p < 2 ^ 64 → q < 2 ^ 64 → has_no 10 (numbers_of p q) ≡ true
+no_feed-numbers_of p q hp hq = has_no-append 10 (decimal p) (codes " of " ++ decimal q) (no_feed-decimal p hp) (no_feed-decimal q hq)
+
 pub part_numbers-same : (p q n m : ℕ) (s t : List ℕ) → p ≤ 65536 → q ≤ 65536 → n ≤ 65536 → m ≤ 65536 → number_text p q ++ s ≡ number_text n m ++ t → (p ≡ n) × (q ≡ m) × (s ≡ t)
 part_numbers-same p q n m s t hp hq hn hm e =
     let whole = front-same (codes "part ") ((numbers_of p q ++ codes "\n") ++ s) ((numbers_of n m ++ codes "\n") ++ t) (sym (number_text-parts p q s) ∙ e ∙ number_text-parts n m t) in
-    let line = line-same (numbers_of p q) s (numbers_of n m) t (clean p q hp hq) (clean n m hn hm) whole in
-    let same = cut_same 32 (decimal p) (codes " of " ++ decimal q) (decimal n) (codes " of " ++ decimal m) (no_space-decimal p (omega arith)) refl (no_space-decimal n (omega arith)) refl line.0 in
-    let second : decimal q ≡ decimal m = front-same (codes " of ") (decimal q) (decimal m) same.1 in
-    (decimal_injective p n (omega arith) (omega arith) same.0, decimal_injective q m (omega arith) (omega arith) second, line.1)
-  where
-    clean : (p q : ℕ) → p ≤ 65536 → q ≤ 65536 → has_no 10 (numbers_of p q) ≡ true
-    clean p q hp hq = has_no-append 10 (decimal p) (codes " of " ++ decimal q) (no_feed-decimal p (omega arith)) (no_feed-decimal q (omega arith))
+    let line = line-same (numbers_of p q) s (numbers_of n m) t (no_feed-numbers_of p q (omega arith) (omega arith)) (no_feed-numbers_of n m (omega arith) (omega arith)) whole in
+    let same = numbers-same p q n m (omega arith) (omega arith) (omega arith) (omega arith) line.0 in
+    (same.0, same.1, line.1)
 
 -- ---- outcomes
 

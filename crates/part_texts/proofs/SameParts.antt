@@ -18,17 +18,11 @@ use Rattle.part_texts.specs.PartText.{bounds_text, end_text, found_text, head_te
 use Rattle.part_texts.specs.declared.parts.Found.{Found}
 use Rattle.part_texts.specs.declared.parts.Found.TheVariants.{Explored, Least}
 use Rattle.part_texts.specs.declared.parts.PartReport.{PartReport}
-use Rattle.part_texts.proofs.SameLines.{front-same, no_feed-schedule, number-same, part_numbers-same, parted, told-same}
-
-tail-same : (b : ℕ) (s t : List ℕ) → b ∷ s ≡ b ∷ t → s ≡ t
-tail-same b s t e = cc
-
-first-same : (x y : ℕ) (s t : List ℕ) → x ∷ s ≡ y ∷ t → x ≡ y
-first-same x y s t e = cc
+use Rattle.part_texts.proofs.SameLines.{first-same, front-same, no_feed-schedule, number-same, part_numbers-same, parted, tail-same, told-same}
 
 -- ---- what is found
 
-outcomes-same : (n : ℕ) (v w : List (List ProcEnd)) (s t : List ℕ) → 1 ≤ n → n ≤ 8 → length v ≡ length w → All (FitsOutcome n) v → All (FitsOutcome n) w → flat_map outcome_line v ++ s ≡ flat_map outcome_line w ++ t → (v ≡ w) × (s ≡ t)
+pub outcomes-same : (n : ℕ) (v w : List (List ProcEnd)) (s t : List ℕ) → 1 ≤ n → n ≤ 8 → length v ≡ length w → All (FitsOutcome n) v → All (FitsOutcome n) w → flat_map outcome_line v ++ s ≡ flat_map outcome_line w ++ t → (v ≡ w) × (s ≡ t)
 outcomes-same n [] [] s t some few long hv hw e = (refl, e)
 outcomes-same n [] (p ∷ w) s t some few long hv hw e = absurd (omega arith)
 outcomes-same n (o ∷ v) [] s t some few long hv hw e = absurd (omega arith)
@@ -43,25 +37,25 @@ no_none (Run p ∷ w) s t e = omega (arith, first-same 110 82 _ _ e)
 no_none (Crash p ∷ w) s t e = omega (arith, first-same 110 67 _ _ e)
 
 -- the lines of a failing schedule, from its letters on
-failing-parts : (w : List Letter) (o : List ProcEnd) (s : List ℕ) → least_text (Some (w, o)) ++ s ≡ codes "least " ++ (schedule_text w ++ (codes "\n" ++ (((codes "fails " ++ outcome_text o) ++ codes "\n") ++ s)))
+pub failing-parts : (w : List Letter) (o : List ProcEnd) (s : List ℕ) → least_text (Some (w, o)) ++ s ≡ codes "least " ++ (schedule_text w ++ (codes "\n" ++ (((codes "fails " ++ outcome_text o) ++ codes "\n") ++ s)))
 failing-parts w o s =
     append_assoc (((codes "least " ++ schedule_text w) ++ codes "\nfails ") ++ outcome_text o) (codes "\n") s
     ∙ append_assoc ((codes "least " ++ schedule_text w) ++ codes "\nfails ") (outcome_text o) (codes "\n" ++ s)
     ∙ append_assoc (codes "least " ++ schedule_text w) (codes "\nfails ") (outcome_text o ++ (codes "\n" ++ s))
     ∙ ap (λ l. codes "least " ++ (schedule_text w ++ (codes "\n" ++ l))) (sym (append_assoc (codes "fails " ++ outcome_text o) (codes "\n") s))
 
-least-same : (n : ℕ) (a b : Option (List Letter × List ProcEnd)) (s t : List ℕ) → 1 ≤ n → n ≤ 8 → FitsLeast n a → FitsLeast n b → least_text a ++ s ≡ least_text b ++ t → (a ≡ b) × (s ≡ t)
+pub least-same : (n : ℕ) (a b : Option (List Letter × List ProcEnd)) (s t : List ℕ) → 1 ≤ n → n ≤ 8 → FitsLeast n a → FitsLeast n b → least_text a ++ s ≡ least_text b ++ t → (a ≡ b) × (s ≡ t)
 least-same n None None s t some few ha hb e = (refl, front-same (codes "least none\n") s t e)
 least-same n None (Some (w, o)) s t some few ha hb e = absurd (no_none w s _ (front-same (codes "least ") _ _ (e ∙ failing-parts w o t)))
 least-same n (Some (w, o)) None s t some few ha hb e = absurd (no_none w t _ (front-same (codes "least ") _ _ (sym e ∙ failing-parts w o s)))
 least-same n (Some (v, o)) (Some (w, p)) s t some few ha hb e =
     let whole = front-same (codes "least ") _ _ (sym (failing-parts v o s) ∙ e ∙ failing-parts w p t) in
     let same = cut_same 10 (schedule_text v) (10 ∷ (((codes "fails " ++ outcome_text o) ++ codes "\n") ++ s)) (schedule_text w) (10 ∷ (((codes "fails " ++ outcome_text p) ++ codes "\n") ++ t)) (no_feed-schedule v ha.schedule.low) refl (no_feed-schedule w hb.schedule.low) refl whole in
-    let told = told-same n (codes "fails ") o p s t refl some few ha.outcome hb.outcome (tail-same 10 _ _ same.1) in
+    let told = told-same n (codes "fails ") o p s t refl some few ha.outcome hb.outcome (tail-same 10 10 _ _ same.1) in
     let letters = schedule_text-same v w same.0 in
     (cc (letters, told.0), told.1)
 
-explored_parts : (x : Summary) (s : List ℕ) → found_text (Explored x) ++ s ≡ number_line (codes "tried") x.tried ++ (number_line (codes "outcomes") (length x.outcomes) ++ (flat_map outcome_line x.outcomes ++ (least_text x.least ++ s)))
+pub explored_parts : (x : Summary) (s : List ℕ) → found_text (Explored x) ++ s ≡ number_line (codes "tried") x.tried ++ (number_line (codes "outcomes") (length x.outcomes) ++ (flat_map outcome_line x.outcomes ++ (least_text x.least ++ s)))
 explored_parts x s =
     append_assoc ((number_line (codes "tried") x.tried ++ number_line (codes "outcomes") (length x.outcomes)) ++ flat_map outcome_line x.outcomes) (least_text x.least) s
     ∙ append_assoc (number_line (codes "tried") x.tried ++ number_line (codes "outcomes") (length x.outcomes)) (flat_map outcome_line x.outcomes) (least_text x.least ++ s)
@@ -78,7 +72,7 @@ no_tried : (a : Option (List Letter × List ProcEnd)) (s t : List ℕ) → codes
 no_tried None s t e = omega (arith, first-same 116 108 _ _ e)
 no_tried (Some x) s t e = omega (arith, first-same 116 108 _ _ e)
 
-found-same : (n : ℕ) (f g : Found) (s t : List ℕ) → 1 ≤ n → n ≤ 8 → FitsFound n f → FitsFound n g → found_text f ++ s ≡ found_text g ++ t → (f ≡ g) × (s ≡ t)
+pub found-same : (n : ℕ) (f g : Found) (s t : List ℕ) → 1 ≤ n → n ≤ 8 → FitsFound n f → FitsFound n g → found_text f ++ s ≡ found_text g ++ t → (f ≡ g) × (s ≡ t)
 found-same n (Least a) (Least b) s t some few hf hg e =
     let same = least-same n a b s t some few hf hg e in
     (ap Least same.0, same.1)
@@ -93,25 +87,22 @@ found-same n (Explored x) (Explored y) s t some few hf hg e =
 
 -- ---- heads
 
-bytes-same : (v w s t : List ℕ) → length v ≡ length w → v ++ s ≡ w ++ t → (v ≡ w) × (s ≡ t)
+pub bytes-same : (v w s t : List ℕ) → length v ≡ length w → v ++ s ≡ w ++ t → (v ≡ w) × (s ≡ t)
 bytes-same [] [] s t long e = (refl, e)
 bytes-same [] (c ∷ w) s t long e = absurd (omega arith)
 bytes-same (b ∷ v) [] s t long e = absurd (omega arith)
 bytes-same (b ∷ v) (c ∷ w) s t long e =
     let first = first-same b c (v ++ s) (w ++ t) e in
-    let more = bytes-same v w s t (omega (arith, long)) (rest-same b c (v ++ s) (w ++ t) e) in
+    let more = bytes-same v w s t (omega (arith, long)) (tail-same b c (v ++ s) (w ++ t) e) in
     (cc (first, more.0), more.1)
-  where
-    rest-same : (x y : ℕ) (s t : List ℕ) → x ∷ s ≡ y ∷ t → s ≡ t
-    rest-same x y s t h = cc
 
-bounds-parts : (p l c k : ℕ) (s : List ℕ) → bounds_text p l c k ++ s ≡ number_line (codes "processes") p ++ (number_line (codes "length") l ++ (number_line (codes "crashes") c ++ (number_line (codes "cut") k ++ s)))
+pub bounds-parts : (p l c k : ℕ) (s : List ℕ) → bounds_text p l c k ++ s ≡ number_line (codes "processes") p ++ (number_line (codes "length") l ++ (number_line (codes "crashes") c ++ (number_line (codes "cut") k ++ s)))
 bounds-parts p l c k s =
     append_assoc ((number_line (codes "processes") p ++ number_line (codes "length") l) ++ number_line (codes "crashes") c) (number_line (codes "cut") k) s
     ∙ append_assoc (number_line (codes "processes") p ++ number_line (codes "length") l) (number_line (codes "crashes") c) (number_line (codes "cut") k ++ s)
     ∙ append_assoc (number_line (codes "processes") p) (number_line (codes "length") l) (number_line (codes "crashes") c ++ (number_line (codes "cut") k ++ s))
 
-head-parts : (h : PlainHead) (s : List ℕ) → head_text h ++ s ≡ number_text h.number h.count ++ (bounds_text h.processes h.length h.crashes h.cut ++ (number_line (codes "source") (length h.source) ++ (h.source ++ s)))
+pub head-parts : (h : PlainHead) (s : List ℕ) → head_text h ++ s ≡ number_text h.number h.count ++ (bounds_text h.processes h.length h.crashes h.cut ++ (number_line (codes "source") (length h.source) ++ (h.source ++ s)))
 head-parts h s =
     append_assoc ((number_text h.number h.count ++ bounds_text h.processes h.length h.crashes h.cut) ++ number_line (codes "source") (length h.source)) h.source s
     ∙ append_assoc (number_text h.number h.count ++ bounds_text h.processes h.length h.crashes h.cut) (number_line (codes "source") (length h.source)) (h.source ++ s)
@@ -128,7 +119,7 @@ plain number count processes limit crashes cut source = record {
   source = source;
 }
 
-plain-same : (h k : PlainHead) → h.number ≡ k.number → h.count ≡ k.count → h.processes ≡ k.processes → h.length ≡ k.length → h.crashes ≡ k.crashes → h.cut ≡ k.cut → h.source ≡ k.source → h ≡ k
+pub plain-same : (h k : PlainHead) → h.number ≡ k.number → h.count ≡ k.count → h.processes ≡ k.processes → h.length ≡ k.length → h.crashes ≡ k.crashes → h.cut ≡ k.cut → h.source ≡ k.source → h ≡ k
 plain-same h k a b c d e f g =
     ap (λ n. plain n h.count h.processes h.length h.crashes h.cut h.source) a
     ∙ ap (λ n. plain k.number n h.processes h.length h.crashes h.cut h.source) b
@@ -138,7 +129,7 @@ plain-same h k a b c d e f g =
     ∙ ap (λ n. plain k.number k.count k.processes k.length k.crashes n h.source) f
     ∙ ap (λ x. plain k.number k.count k.processes k.length k.crashes k.cut x) g
 
-head-same : (h k : PlainHead) (s t : List ℕ) → FitsHead h → FitsHead k → head_text h ++ s ≡ head_text k ++ t → (h ≡ k) × (s ≡ t)
+pub head-same : (h k : PlainHead) (s t : List ℕ) → FitsHead h → FitsHead k → head_text h ++ s ≡ head_text k ++ t → (h ≡ k) × (s ≡ t)
 head-same h k s t fh fk e =
     let numbers = part_numbers-same h.number h.count k.number k.count _ _ (omega (arith, fh.there, fh.parts)) fh.parts (omega (arith, fk.there, fk.parts)) fk.parts (sym (head-parts h s) ∙ e ∙ head-parts k t) in
     let processes = number-same (codes "processes") h.processes k.processes _ _ refl (omega (arith, fh.processes)) (omega (arith, fk.processes)) (sym (bounds-parts h.processes h.length h.crashes h.cut _) ∙ numbers.2 ∙ bounds-parts k.processes k.length k.crashes k.cut _) in
@@ -157,7 +148,7 @@ report_of h f = record { head = h; found = f }
 report-same : (p q : PartReport) → p.head ≡ q.head → p.found ≡ q.found → p ≡ q
 report-same p q a b = ap (λ h. report_of h p.found) a ∙ ap (λ f. report_of q.head f) b
 
-part-parts : (p : PartReport) (s : List ℕ) → part_text p ++ s ≡ head_text p.head ++ (found_text p.found ++ (end_text ++ s))
+pub part-parts : (p : PartReport) (s : List ℕ) → part_text p ++ s ≡ head_text p.head ++ (found_text p.found ++ (end_text ++ s))
 part-parts p s = append_assoc (head_text p.head ++ found_text p.found) end_text s ∙ append_assoc (head_text p.head) (found_text p.found) (end_text ++ s)
 
 pub part-same : (p q : PartReport) (s t : List ℕ) → FitsPart p → FitsPart q → part_text p ++ s ≡ part_text q ++ t → (p ≡ q) × (s ≡ t)

@@ -1,6 +1,8 @@
 //! Numbers within their ranges. No call takes memory.
 
-ghost use Rattle.std.specs.Prelude.{◌≡◌, IfOk};
+ghost use Rattle.std.specs.Prelude.{◌≡◌, ◌<◌, ◌≤◌, ◌^◌, IfOk, IsOk};
+ghost use Rattle.regmodel.specs.declared.limits.TheConstants.{GREATEST_CUT, MOST_CRASHES, MOST_LETTERS};
+ghost use Rattle.report.specs.declared.parts.TheConstants.{MOST_PARTS};
 
 use crate::faults::Cause;
 use regmodel::Settings;
@@ -8,7 +10,8 @@ use report::Part;
 
 /// The number where it has 32 bits.
 pub(crate) fn narrow(number: u64) -> Result<u32, Cause>
-    ensures { IfOk result (λ n. n ≡ number) }
+    ensures value { IfOk result (λ n. n ≡ number) }
+    ensures fits { number < 2 ^ 32 → IsOk result }
 {
     u32::try_from(number).map_err(|_| Cause::OutOfRange)
 }
@@ -17,6 +20,7 @@ pub(crate) fn narrow(number: u64) -> Result<u32, Cause>
 pub(crate) fn part_of(number: u64, count: u64) -> Result<Part, Cause>
     ensures number { IfOk result (λ part. part.number ≡ number) }
     ensures count { IfOk result (λ part. part.count ≡ count) }
+    ensures fits { 1 ≤ number → number ≤ count → count ≤ MOST_PARTS → IsOk result }
 {
     Part::new(narrow(number)?, narrow(count)?).ok_or(Cause::OutOfRange)
 }
@@ -26,6 +30,8 @@ pub(crate) fn settings_of(length: u64, crashes: u64, cut: u64) -> Result<Setting
     ensures length { IfOk result (λ s. s.length ≡ length) }
     ensures crashes { IfOk result (λ s. s.crashes ≡ crashes) }
     ensures cut { IfOk result (λ s. s.cut ≡ cut) }
+    ensures fits { length ≤ MOST_LETTERS → crashes ≤ MOST_CRASHES → cut ≤ GREATEST_CUT
+        → IsOk result }
 {
     Settings::new(narrow(length)?, narrow(crashes)?, 1, narrow(cut)?, 0).map_err(
         |_| Cause::OutOfRange,

@@ -13,23 +13,30 @@ use std::io::BufRead;
 use tallies::Partial;
 
 impl<R: BufRead> PartStream<R> {
-    ghost use Rattle.std.specs.Prelude.{◌≡◌, ◌++◌, ◌^◌, ◌<◌, [], All, AllPairs, IfErr, IfNone, IfOk, IfSome, OnOk, Some, codes, length};
+    ghost use Rattle.std.specs.Prelude.{◌≡◌, ◌++◌, ◌^◌, ◌<◌, ◌≤◌, ℕ, [], All, AllPairs, IfErr, IfNone, IfOk, IfSome, List, OnOk, Option, Some, codes, decimal, length};
     ghost use Rattle.std.specs.List.{flat_map};
     ghost use Rattle.std.specs.Io.KnownBytes.{Consumes, IsAtEnd};
     ghost use Rattle.std.specs.declared.cmp.Ordering.TheVariants.{Less};
+    ghost use Rattle.regmodel.specs.Letters.{Schedule};
     ghost use Rattle.regmodel.specs.Outcomes.{outcome_cmp};
+    ghost use Rattle.regmodel.specs.declared.limits.TheConstants.{MOST_PROCESSES};
+    ghost use Rattle.regmodel.specs.declared.outcomes.ProcEnd.{ProcEnd};
     ghost use Rattle.report.specs.ReportText.{least_text};
     ghost use Rattle.texts.specs.NumberText.{number_line};
     ghost use Rattle.texts.specs.OutcomeText.{outcome_line, outcome_text};
     ghost use Rattle.part_texts.specs.declared.faults.Cause.TheVariants.{Unreadable};
+    ghost use Rattle.part_texts.specs.Causes.{IsOutward};
     ghost use Rattle.part_texts.specs.FitsPart.{FitsFound, FitsLeast, FitsOutcome, FitsPart};
-    ghost use Rattle.part_texts.specs.PlainHead.{FitsHead};
+    ghost use Rattle.part_texts.specs.PlainHead.{FitsHead, PlainHead};
     ghost use Rattle.part_texts.specs.PartText.{bounds_text, end_text, found_text, head_text, part_text};
-    ghost use Rattle.part_texts.specs.Streams.{ReadsOn, left_of};
+    ghost use Rattle.part_texts.specs.Streams.{FitsLine, IsLineOf, ReadsOn, left_of};
+    ghost use Rattle.part_texts.specs.declared.heads.TheConstants.{MOST_SOURCE_BYTES};
+    ghost use Rattle.part_texts.specs.declared.parts.Found.{Found};
+    ghost use Rattle.part_texts.specs.declared.parts.PartReport.{PartReport};
 
     /// The next part; None where nothing is left. An error names the line at fault, and says what is wrong with it, that a request for memory
-    /// was refused, or that the reader answered an error; where nothing is left, that is the only one. After an error the stream stands in the
-    /// midst of a text.
+    /// was refused, or that the reader answered an error. Where what is left begins with the text of a part, it is one of the last two; where
+    /// nothing is left, it is the last one. After an error the stream stands in the midst of a text.
     pub fn next_part(&mut self, alloc: Global) -> Result<Option<PartReport>, BadPart>
         ensures some { IfOk result (λ next. IfSome next
             (λ report. Consumes (left_of R.remaining self.old) (left_of R.remaining self.new)
@@ -41,6 +48,11 @@ impl<R: BufRead> PartStream<R> {
             (λ next. IfNone next (IsAtEnd (left_of R.remaining self.new))) }
         ensures err { IfErr result
             (λ bad. left_of R.remaining self.old ≡ Some [] → bad.cause ≡ Unreadable) }
+        ensures whole { IfErr result (λ bad. (report : PartReport) (rest : List ℕ)
+            → FitsPart report
+            → left_of R.remaining self.old ≡ Some (part_text report ++ rest)
+            → IsOutward bad.cause) }
+        ensures line { IfErr result (λ bad. bad.line ≡ self.new.number) }
     {
         match self.part(alloc) {
             Ok(part) => Ok(part),
@@ -63,6 +75,10 @@ impl<R: BufRead> PartStream<R> {
             (λ next. IfNone next (IsAtEnd (left_of R.remaining self.new))) }
         ensures err { IfErr result
             (λ cause. left_of R.remaining self.old ≡ Some [] → cause ≡ Unreadable) }
+        ensures whole { IfErr result (λ cause. (report : PartReport) (rest : List ℕ)
+            → FitsPart report
+            → left_of R.remaining self.old ≡ Some (part_text report ++ rest)
+            → IsOutward cause) }
     {
         if !self.next_line()? {
             return Ok(None);
@@ -75,8 +91,10 @@ impl<R: BufRead> PartStream<R> {
 
     /// Reads the last line of a part.
     fn end(&mut self) -> Result<(), Cause>
-        ensures { OnOk result
+        ensures text { OnOk result
             (Consumes (left_of R.remaining self.old) (left_of R.remaining self.new) end_text) }
+        ensures whole { IfErr result (λ cause. (rest : List ℕ)
+            → left_of R.remaining self.old ≡ Some (end_text ++ rest) → IsOutward cause) }
     {
         self.wanted_line()?;
         if self.line.as_slice() == b"end".as_slice() {
@@ -92,6 +110,10 @@ impl<R: BufRead> PartStream<R> {
             (λ head. ReadsOn (left_of R.remaining self.old) (left_of R.remaining self.new)
             self.old.line.items (head_text head)) }
         ensures fits { IfOk result FitsHead }
+        ensures whole { IfErr result (λ cause. (head : PlainHead) (rest : List ℕ)
+            → FitsHead head
+            → IsLineOf (left_of R.remaining self.old) self.old.line.items (head_text head ++ rest)
+            → IsOutward cause) }
     {
         let (number, count) = part_in(self.line.as_slice()).ok_or(Cause::Other)?;
         let part = part_of(number, count)?;
@@ -105,10 +127,18 @@ impl<R: BufRead> PartStream<R> {
 
     /// How many processes there are, and how far is explored.
     fn bounds(&mut self) -> Result<(u32, Settings), Cause>
-        ensures { IfOk result
+        ensures text { IfOk result
             (λ (processes, settings). Consumes (left_of R.remaining self.old)
             (left_of R.remaining self.new)
             (bounds_text processes settings.length settings.crashes settings.cut)) }
+        ensures small { IfOk result
+            (λ (processes, settings). (processes < 2 ^ 64) × (settings.length < 2 ^ 64)
+            × (settings.crashes < 2 ^ 64) × (settings.cut < 2 ^ 64)) }
+        ensures whole { IfErr result (λ cause. (head : PlainHead) (rest : List ℕ)
+            → FitsHead head
+            → left_of R.remaining self.old
+            ≡ Some (bounds_text head.processes head.length head.crashes head.cut ++ rest)
+            → IsOutward cause) }
     {
         let processes = self.number_behind(b"processes")?;
         let length = self.number_behind(b"length")?;
@@ -119,9 +149,13 @@ impl<R: BufRead> PartStream<R> {
 
     /// The number behind a word on the next line.
     fn number_behind(&mut self, word: &[u8]) -> Result<u64, Cause>
-        ensures { IfOk result
+        ensures text { IfOk result
             (λ n. Consumes (left_of R.remaining self.old) (left_of R.remaining self.new)
             (number_line word.now n)) }
+        ensures whole { IfErr result (λ cause. (n : ℕ) (rest : List ℕ) → n < 2 ^ 64
+            → FitsLine (word.now ++ codes " " ++ decimal n)
+            → left_of R.remaining self.old ≡ Some (number_line word.now n ++ rest)
+            → IsOutward cause) }
     {
         self.wanted_line()?;
         number_after(self.line.as_slice(), word).ok_or(Cause::Other)
@@ -129,9 +163,15 @@ impl<R: BufRead> PartStream<R> {
 
     /// The source, behind a line with the number of its bytes.
     fn source(&mut self, alloc: Global) -> Result<Vec<u8>, Cause>
-        ensures { IfOk result
+        ensures text { IfOk result
             (λ source. Consumes (left_of R.remaining self.old) (left_of R.remaining self.new)
             (number_line (codes "source") (length source.items) ++ source.items)) }
+        ensures few { IfOk result (λ source. length source.items ≤ MOST_SOURCE_BYTES) }
+        ensures whole { IfErr result (λ cause. (source rest : List ℕ)
+            → length source ≤ MOST_SOURCE_BYTES
+            → left_of R.remaining self.old
+            ≡ Some (number_line (codes "source") (length source) ++ source ++ rest)
+            → IsOutward cause) }
     {
         let count = self.number_behind(b"source")?;
         if count > MOST_SOURCE_BYTES as u64 {
@@ -146,6 +186,8 @@ impl<R: BufRead> PartStream<R> {
             (λ bytes. Consumes (left_of R.remaining self.old) (left_of R.remaining self.new)
             bytes.items) }
         ensures count { IfOk result (λ bytes. length bytes.items ≡ count) }
+        ensures whole { IfErr result (λ cause. (text : List ℕ) → count ≤ length text
+            → left_of R.remaining self.old ≡ Some text → IsOutward cause) }
     {
         let mut bytes = Vec::with_capacity(alloc, count).map_err(|_| Cause::NoMemory)?;
         for _ in 0..count {
@@ -164,6 +206,10 @@ impl<R: BufRead> PartStream<R> {
             (λ found. Consumes (left_of R.remaining self.old) (left_of R.remaining self.new)
             (found_text found)) }
         ensures fits { IfOk result (FitsFound processes) }
+        ensures whole { IfErr result (λ cause. (found : Found) (rest : List ℕ)
+            → 1 ≤ processes → processes ≤ MOST_PROCESSES → FitsFound processes found
+            → left_of R.remaining self.old ≡ Some (found_text found ++ rest)
+            → IsOutward cause) }
     {
         self.wanted_line()?;
         let Some(tried) = number_after(self.line.as_slice(), b"tried") else {
@@ -185,6 +231,13 @@ impl<R: BufRead> PartStream<R> {
             (λ outcomes. AllPairs (λ a b. outcome_cmp a b ≡ Less) outcomes.items) }
         ensures fit { IfOk result (λ outcomes. All (FitsOutcome processes) outcomes.items) }
         ensures count { IfOk result (λ outcomes. length outcomes.items < 2 ^ 64) }
+        ensures whole { IfErr result (λ cause. (outcomes : List (List ProcEnd)) (rest : List ℕ)
+            → 1 ≤ processes → processes ≤ MOST_PROCESSES → All (FitsOutcome processes) outcomes
+            → AllPairs (λ a b. outcome_cmp a b ≡ Less) outcomes → length outcomes < 2 ^ 64
+            → left_of R.remaining self.old
+            ≡ Some (number_line (codes "outcomes") (length outcomes)
+            ++ flat_map outcome_line outcomes ++ rest)
+            → IsOutward cause) }
     {
         let count = self.number_behind(b"outcomes")?;
         let mut outcomes = Vec::new(alloc);
@@ -204,6 +257,10 @@ impl<R: BufRead> PartStream<R> {
             (λ outcome. Consumes (left_of R.remaining self.old) (left_of R.remaining self.new)
             (outcome_line outcome)) }
         ensures fits { IfOk result (FitsOutcome processes) }
+        ensures whole { IfErr result (λ cause. (ends : List ProcEnd) (rest : List ℕ)
+            → 1 ≤ processes → processes ≤ MOST_PROCESSES → FitsOutcome processes ends
+            → left_of R.remaining self.old ≡ Some (outcome_line ends ++ rest)
+            → IsOutward cause) }
     {
         self.wanted_line()?;
         outcome_after(self.line.as_slice(), b"outcome ", processes).ok_or(Cause::Other)
@@ -215,6 +272,12 @@ impl<R: BufRead> PartStream<R> {
             (λ least. ReadsOn (left_of R.remaining self.old) (left_of R.remaining self.new)
             self.old.line.items (least_text least)) }
         ensures fits { IfOk result (FitsLeast processes) }
+        ensures whole { IfErr result
+            (λ cause. (least : Option (Schedule × List ProcEnd)) (rest : List ℕ)
+            → 1 ≤ processes → processes ≤ MOST_PROCESSES → FitsLeast processes least
+            → IsLineOf (left_of R.remaining self.old) self.old.line.items
+            (least_text least ++ rest)
+            → IsOutward cause) }
     {
         let word = after(self.line.as_slice(), b"least ").ok_or(Cause::Other)?;
         if word == b"none".as_slice() {
@@ -232,6 +295,11 @@ impl<R: BufRead> PartStream<R> {
             (λ outcome. Consumes (left_of R.remaining self.old) (left_of R.remaining self.new)
             (codes "fails " ++ outcome_text outcome ++ codes "\n")) }
         ensures fits { IfOk result (FitsOutcome processes) }
+        ensures whole { IfErr result (λ cause. (ends : List ProcEnd) (rest : List ℕ)
+            → 1 ≤ processes → processes ≤ MOST_PROCESSES → FitsOutcome processes ends
+            → left_of R.remaining self.old
+            ≡ Some (codes "fails " ++ outcome_text ends ++ codes "\n" ++ rest)
+            → IsOutward cause) }
     {
         self.wanted_line()?;
         outcome_after(self.line.as_slice(), b"fails ", processes).ok_or(Cause::Other)

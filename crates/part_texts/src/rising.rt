@@ -9,8 +9,10 @@ use regmodel::laws::{orders_are_those_of_the_definitions, outcomes_are_in_a_tota
 
 /// Whether an outcome comes after each of some rising ones.
 pub(crate) fn comes_last(outcomes: &[Outcome], outcome: &Outcome) -> bool
-    ensures { IsTrue result → AllPairs (λ a b. outcome_cmp a b ≡ Less) outcomes.now
+    ensures rising { IsTrue result → AllPairs (λ a b. outcome_cmp a b ≡ Less) outcomes.now
         → AllPairs (λ a b. outcome_cmp a b ≡ Less) (outcomes.now ++ outcome.now ∷ []) }
+    ensures there { AllPairs (λ a b. outcome_cmp a b ≡ Less) (outcomes.now ++ outcome.now ∷ [])
+        → IsTrue result }
 {
     orders_are_those_of_the_definitions();
     outcomes_are_in_a_total_order();
