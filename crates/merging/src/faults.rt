@@ -51,6 +51,11 @@ pub enum MergeFault {
 }
 
 impl From<BadPart> for MergeFault {
+    ghost use Rattle.std.specs.Prelude.{◌≡◌};
+    ghost use Rattle.merging.specs.declared.faults.MergeFault.TheVariants.{Text};
+
+    ghost from_gives = { λ bad fault. fault ≡ Text bad };
+
     fn from(bad: BadPart) -> MergeFault {
         MergeFault::Text(bad)
     }

@@ -1,10 +1,15 @@
-use Rattle.std.proofs.Common.{◌∷◌, List, rules}
-use Rattle.std.specs.Io.KnownBytes.{Consumes}
+use Rattle.std.proofs.Common.{◌∷◌, ◌∙◌, List, reverse, rules}
+use Rattle.std.specs.List.{flat_map}
+use Rattle.std.specs.Io.KnownBytes.{Consumes, IsAtEnd}
+use Rattle.std.proofs.lemmas.List.Elements.{All-head}
+use Rattle.std.proofs.lemmas.Result.{IfErr-weaker, err_from_is_err_and}
+use Rattle.part_texts.specs.FitsPart.{FitsPart}
 use Rattle.part_texts.specs.PartText.{part_text}
 use Rattle.part_texts.specs.declared.parts.PartReport.{PartReport}
 use Rattle.merging.specs.Mergers.{Holds}
 use Rattle.merging.proofs.Marks.{fewer_missing}
 use Rattle.merging.proofs.Tellings.{one_read_more}
+use Rattle.merging.proofs.Wholes.{all_held, more_fit, next_goes_with, no_fault_of_more, part_refused, tail_left}
 use Rattle.merging.proofs.merging.merge_parts.Goals as goal
 
 pub loop-merger-smaller : goal.loop-merger-smaller
@@ -18,9 +23,48 @@ loop-merger-preserved g c =
     let kept = c.loop-merger.invariant in
     let taken : Consumes (g.R.Read.remaining c.loop-merger.stream.reader) (g.R.Read.remaining c.next_part-in-loop-merger.new.self.reader) (part_text c.in-Some-2.part) = search rules in
     let more : (first : PartReport) (others : List PartReport) → Holds first others c.loop-merger.merger → Holds first (c.in-Some-2.part ∷ others) c.add.new.self = search rules in
+    let fits : FitsPart c.in-Some-2.part = search rules in
     record {
       first = kept.first;
       others = c.in-Some-2.part ∷ kept.others;
       text = one_read_more _ _ _ kept.first kept.others c.in-Some-2.part kept.text taken;
+      fit = more_fit kept.first kept.others c.in-Some-2.part kept.fit fits;
       holds = more kept.first kept.others kept.holds;
     }
+
+pub returns-in_err-first-clause-whole : goal.returns-in_err-first-clause-whole
+returns-in_err-first-clause-whole g c =
+    let p = err_from_is_err_and c.from_residual.result c.from_residual.ensures.1 in
+    rw (p.1, p.2) (λ first others m e. c.in_err-first.ensures.whole first (flat_map part_text others) (All-head FitsPart first others m.fit) (c.new-stream.ensures ∙ e))
+
+pub returns-in_err-part-clause-whole : goal.returns-in_err-part-clause-whole
+returns-in_err-part-clause-whole g c =
+    let kept = c.loop-merger.invariant in
+    let p = err_from_is_err_and c.from_residual-in_err-part.result c.from_residual-in_err-part.ensures.1 in
+    rw (p.1, p.2) (λ first others m e.
+    let rest = tail_left _ _ c.loop-merger.merger kept first others m e in
+    part_refused _ (kept.first ∷ reverse kept.others) rest.tail (first ∷ others) c.in_err-part.field-0.0.cause rest.parts m.fit rest.known c.in_err-part.ensures.err c.in_err-part.ensures.whole)
+
+pub returns-in_err-add-clause-nothing : goal.returns-in_err-add-clause-nothing
+returns-in_err-add-clause-nothing g c =
+    let p = err_from_is_err_and c.from_residual-in_err-add.result c.from_residual-in_err-add.ensures.1 in
+    rw (p.1, p.2) (λ e. absurd (c.in_err-add.ensures.there e))
+
+pub returns-in_err-add-clause-whole : goal.returns-in_err-add-clause-whole
+returns-in_err-add-clause-whole g c =
+    let kept = c.loop-merger.invariant in
+    let taken : Consumes (g.R.Read.remaining c.loop-merger.stream.reader) (g.R.Read.remaining c.next_part-in-loop-merger.new.self.reader) (part_text c.in-Some-2.part) = search rules in
+    let fits : FitsPart c.in-Some-2.part = search rules in
+    let p = err_from_is_err_and c.from_residual-in_err-add.result c.from_residual-in_err-add.ensures.1 in
+    rw (p.1, p.2) (λ first others m e.
+    let next = next_goes_with _ _ _ c.loop-merger.merger kept c.in-Some-2.part first others fits taken m e in
+    no_fault_of_more _ _ c.in_err-add.field-0.0 next.1 (c.in_err-add.ensures.whole kept.first kept.others kept.holds next.0))
+
+pub returns-clause-nothing : goal.returns-clause-nothing
+returns-clause-nothing g c = IfErr-weaker c.into_merged.result _ _ (λ fault there e. absurd (there e)) c.into_merged.ensures.there
+
+pub returns-clause-whole : goal.returns-clause-whole
+returns-clause-whole g c =
+    let kept = c.loop-merger.invariant in
+    let end : IsAtEnd (g.R.Read.remaining c.loop-merger.stream.reader) = search rules in
+    IfErr-weaker c.into_merged.result _ _ (λ fault whole first others m e. absurd (whole kept.first kept.others kept.holds (all_held _ _ c.loop-merger.merger kept first others m e end))) c.into_merged.ensures.whole
