@@ -1,5 +1,5 @@
 -- What the words of the command line ask for.
-use Rattle.std.specs.Prelude.{◌≡◌, ℕ, ◌+◌, ◌++◌, ◌≤◌, Bool, true, false, not, List, [], map, Option, Some, None, codes, decimal}
+use Rattle.std.specs.Prelude.{◌≡◌, ℕ, ◌+◌, ◌++◌, ◌≤◌, Bool, true, false, if◌then◌else◌, nat_lt, not, List, [], map, Option, Some, None, codes, decimal}
 use Rattle.std.specs.Option.{option_map}
 use Rattle.std.specs.Str.Parse.{digits_value, without_leading_plus}
 use Rattle.clap.specs.Matches.{first_value}
@@ -14,7 +14,7 @@ use Rattle.report.specs.declared.parts.Part.{Part}
 use Rattle.cli.specs.Bounds.{IsBoundTold}
 use Rattle.cli.specs.NumberTexts.{IsNumberText}
 use Rattle.cli.specs.declared.orders.Task.{Task}
-use Rattle.cli.specs.declared.bounds.TheConstants.{CACHE, CUT, MOST_CACHE, ROOM}
+use Rattle.cli.specs.declared.bounds.TheConstants.{CACHE, MOST_CACHE, ROOM, SHARED_CUT}
 use Rattle.cli.specs.declared.orders.Task.TheVariants.{Check, Explore, Least, Find, Replay, Show}
 
 -- to replay the schedule of this text
@@ -59,12 +59,16 @@ pub record AreSettingsTold (told : List ℕ → Option (List ℕ)) (settings : B
   pub cut : IsNumberTold (told (codes "cut")) 0 settings.cut
   pub room : IsNumberTold (told (codes "room")) 0 settings.room
 
+-- up to which length so many workers of a check split pieces: a single one splits none
+abbrev pub cut_for : ℕ → ℕ
+cut_for workers = if nat_lt 1 workers then SHARED_CUT else 0
+
 -- the bounds of a check or a search are those of its words: without them the greatest length, no crash, and as many workers as there are processors
 pub record AreBoundsTold (told : List ℕ → Option (List ℕ)) (processors : ℕ) (settings : Bounds) : Type 0 where
   pub length : IsBoundTold (told (codes "length")) MOST_LETTERS settings.length
   pub crashes : IsBoundTold (told (codes "crashes")) 0 settings.crashes
   pub workers : IsBoundTold (told (codes "workers")) processors settings.workers
-  pub cut : settings.cut ≡ CUT
+  pub cut : settings.cut ≡ cut_for settings.workers
   pub room : settings.room ≡ ROOM
 
 -- so it is with a check or a search; the megabytes in which states are remembered are those of the words, or else CACHE

@@ -14,8 +14,9 @@ use regmodel::limits::{MOST_CRASHES, MOST_LETTERS, MOST_WORKERS};
 use std::thread;
 use std::thread::Threads;
 
-/// Up to which length a check splits beginnings of schedules into pieces for its workers.
-const CUT: u32 = 3;
+/// Up to which length a check splits beginnings of schedules into pieces where several workers share them. Each piece begins with nothing
+/// remembered, so they are few.
+const SHARED_CUT: u32 = 1;
 
 /// How many pieces each worker of a check may put up for the others.
 const ROOM: u32 = 64;
@@ -102,7 +103,8 @@ pub fn bounds_of(words: &ArgMatches<'_>, processors: u32) -> Result<Settings, Re
     let length = bound_of(words, Bound::Length, MOST_LETTERS)?;
     let crashes = bound_of(words, Bound::Crashes, 0)?;
     let workers = bound_of(words, Bound::Workers, processors)?;
-    match Settings::new(length, crashes, workers, CUT, ROOM) {
+    let cut = if workers > 1 { SHARED_CUT } else { 0 };
+    match Settings::new(length, crashes, workers, cut, ROOM) {
         Ok(settings) => Ok(settings),
         Err(_) => unreachable!(),
     }

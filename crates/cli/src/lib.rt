@@ -7,6 +7,7 @@ mod findings;
 mod inputs;
 mod machines;
 mod merges;
+mod options;
 mod orders;
 mod parts;
 mod parts_told;

@@ -8,13 +8,14 @@ ghost use Rattle.regmodel.specs.declared.limits.TheConstants.{MOST_WORKERS};
 ghost use Rattle.regmodel.specs.Prefixes.{FitsPrefix};
 ghost use Rattle.regmodel.specs.ScheduleText.{schedule_text};
 ghost use Rattle.cli.specs.Bounds.{IsBoundRefused};
-ghost use Rattle.cli.specs.Orders.{IsCheck, IsEffortTold, IsExploration, IsFind, IsFlagTold, IsNativeTold, IsNumberTold, IsReplayOf, IsShowOf, texts_told, word_told};
+ghost use Rattle.cli.specs.Orders.{IsCheck, IsEffortTold, IsExploration, IsFind, IsReplayOf, IsShowOf, texts_told, word_told};
 ghost use Rattle.cli.specs.Inputs.{IsTextOf};
 ghost use Rattle.cli.specs.PatternTexts.{AreTextsOf};
 ghost use Rattle.cli.specs.Statuses.{status_of};
 
 use crate::bounds::{Bound, CACHE, MOST_CACHE, bound_of, bounds_of, processors};
 use crate::inputs::{STANDARD_INPUT, is_standard};
+use crate::options::{has_flag, is_native, number_of, number_or};
 use crate::parts_told::part_told;
 use crate::patterns_told::{are_standard, patterns_told};
 use crate::refusals::{Refusal, refuse};
@@ -387,32 +388,4 @@ fn schedule_of(text: &str) -> Result<Prefix, Refusal>
         Some(schedule) => Ok(schedule),
         None => Err(Refusal::Schedule),
     }
-}
-
-/// Whether use lines run as native machines, by the words.
-fn is_native(words: &ArgMatches<'_>) -> bool
-    ensures { IsNativeTold (one_text (found_of words.now)) result }
-{
-    !has_flag(words, "text")
-}
-
-/// Whether a flag is given.
-fn has_flag(words: &ArgMatches<'_>, name: &str) -> bool
-    ensures { IsFlagTold (one_text (found_of words.now) name.now) result }
-{
-    words.get_flag(name)
-}
-
-/// The number of a required option.
-fn number_of(words: &ArgMatches<'_>, name: &str) -> u32
-    ensures { IsNumberTold (one_text (found_of words.now) name.now) 0 result }
-{
-    number_or(words, name, 0)
-}
-
-/// The number of an option, or another one where it is not given.
-fn number_or(words: &ArgMatches<'_>, name: &str, other: u32) -> u32
-    ensures { IsNumberTold (one_text (found_of words.now) name.now) other result }
-{
-    words.get_one::<u32>(name).unwrap_or(other)
 }
