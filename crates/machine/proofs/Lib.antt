@@ -4,6 +4,7 @@ pub mod Fitting
 pub mod Flows
 pub mod KeptStates
 pub mod Packed
+pub mod Padding
 pub mod Places
 pub mod SparseValues
 pub mod StandingNumbers

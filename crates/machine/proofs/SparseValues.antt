@@ -3,10 +3,9 @@ use Rattle.std.proofs.Common.{◌≡◌, ◌≢◌, ℕ, zero, suc, ◌+◌, ◌
 use Rattle.std.specs.Prelude.{map}
 use Rattle.std.proofs.Math.Nat.{pow-suc}
 use Rattle.std.proofs.Math.Seq.{take-suc}
-use Rattle.std.proofs.lemmas.List.{append-nil, length-map, take-append-drop}
+use Rattle.std.proofs.lemmas.List.{append-nil, length-map, length-take-le, take-append-drop}
 use Rattle.machine.specs.Bits.{bit, unpacked}
 use Rattle.machine.specs.Sparse.{filled, is_filled, mask_of, past_placed, past_sparse, placed, sparse, spread}
-use Rattle.machine.proofs.CellLists.{drop_at}
 use Rattle.machine.proofs.Packed.{unpacked-packed}
 
 bits_back : (values : List ℕ) → unpacked (length values) (mask_of values) ≡ map is_filled values
@@ -73,9 +72,21 @@ pub mask_zero : (values : List ℕ) → mask_of (values ++ 0 ∷ []) ≡ mask_of
 mask_zero [] = refl
 mask_zero (value ∷ values) = ap (λ mask. mask * 2 + bit (is_filled value)) (mask_zero values)
 
--- the mask from one value on is twice that behind it, and 1 more where the value is not 0
-pub mask_at : (values : List ℕ) (i : ℕ) → i < length values → mask_of (drop i values) ≡ mask_of (drop (i + 1) values) * 2 + bit (is_filled (get_or values i 0))
-mask_at values i h = ap mask_of (drop_at values i h)
+-- another value behind them sets the next bit
+mask_other : (values : List ℕ) (value : ℕ) → value ≢ 0 → mask_of (values ++ value ∷ []) ≡ mask_of values + 2 ^ length values
+mask_other [] zero h = absurd (h refl)
+mask_other [] (suc n) h = refl
+mask_other (x ∷ values) value h = let more = mask_other values value h in let double = pow-suc 2 (length values) in omega (arith, more, double)
+
+one-more : (values : List ℕ) (i : ℕ) → i < length values → take (i + 1) values ≡ take i values ++ get_or values i 0 ∷ []
+one-more values i h = ap (λ n. take n values) (add-one i) ∙ take-suc values i 0 h
+
+pub mask-past-zero : (values : List ℕ) (i : ℕ) → i < length values → get_or values i 0 ≡ 0 → mask_of (take (i + 1) values) ≡ mask_of (take i values)
+mask-past-zero values i h is = ap mask_of (one-more values i h) ∙ (ap (λ v. mask_of (take i values ++ v ∷ [])) is ∙ mask_zero (take i values))
+
+pub mask-past-other : (values : List ℕ) (i : ℕ) → i < length values → get_or values i 0 ≢ 0 → mask_of (take (i + 1) values) ≡ mask_of (take i values) + 2 ^ i
+mask-past-other values i h is =
+    ap mask_of (one-more values i h) ∙ (mask_other (take i values) (get_or values i 0) is ∙ ap (λ k. mask_of (take i values) + 2 ^ k) (length-take-le i values (omega (arith, h))))
 
 -- a mask has no more bits than there are values
 pub mask_small : (n : ℕ) (values : List ℕ) → length values ≤ n → mask_of values < 2 ^ n

@@ -53,7 +53,7 @@ a_fault_stays = refl
 
 -- ---- what is kept of the first program after the reply to its write: the write, and the read to which that reply leads
 abbrev pub empty_store : Store
-empty_store = record { vars = replicate 16 0; cells = replicate 32 0; emitted = record { places = []; count = 0 } }
+empty_store = record { vars = record { places = replicate 16 0; count = 0 }; cells = record { places = replicate 32 0; count = 0 }; emitted = record { places = []; count = 0 } }
 
 abbrev pub at_the_write : List Frame
 at_the_write = record { at = 0; part = Writing 0 5 } ∷ []

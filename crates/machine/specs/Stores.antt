@@ -1,7 +1,8 @@
 -- Inside the crate: what a store holds.
-use Rattle.std.specs.Prelude.{ℕ, List, take, Result, Ok, Err}
+use Rattle.std.specs.Prelude.{ℕ, zero, suc, List, [], ◌∷◌, take, Result, Ok, Err}
 use Rattle.regmodel.specs.Values.{Env, Place, InVar, InCell}
 use Rattle.machine.specs.declared.emitted.Emitted.{Emitted}
+use Rattle.machine.specs.declared.rows.Row.{Row}
 use Rattle.machine.specs.declared.values.Store.{Store}
 use Rattle.machine.specs.declared.values.Place as values
 use Rattle.machine.specs.declared.values.Place.TheVariants as place
@@ -10,9 +11,19 @@ use Rattle.machine.specs.declared.values.Place.TheVariants as place
 abbrev pub items_of : Emitted → List ℕ
 items_of e = take e.count e.places
 
+-- the first of the values, and 0 in place of each further one
+abbrev pub padded : ℕ → List ℕ → List ℕ
+padded count [] = []
+padded zero (value ∷ more) = 0 ∷ padded 0 more
+padded (suc count) (value ∷ more) = value ∷ padded count more
+
+-- the values of a row: those in the places below the count, and then only 0
+abbrev pub values_of : {N : ℕ} → Row N → List ℕ
+values_of row = padded row.count row.places
+
 -- the environment that a store holds
 abbrev pub env_of : Store → Env
-env_of s = record { vars = s.vars; cells = s.cells; emitted = items_of s.emitted }
+env_of s = record { vars = values_of s.vars; cells = values_of s.cells; emitted = items_of s.emitted }
 
 -- the place that is meant
 abbrev pub as_place : values.Place → Place

@@ -79,8 +79,8 @@ impl Interp {
     {
         let state = self.kept[self.at].state;
         let next = &mut self.kept[self.at + 1];
-        next.reply.set(reply);
         next.state = state;
+        next.reply.set(reply);
         next.state.go_on(&self.prog, reply);
         self.at += 1;
         self.known = self.at + 1;

@@ -13,19 +13,16 @@ ghost use Rattle.machine.specs.Telling.{Tells};
 mod emitted;
 mod interp;
 mod resume;
+mod rows;
 mod run;
 mod standings;
 mod states;
 mod told_numbers;
 mod values;
 
-use arrayvec::ArrayVec;
 pub use interp::Interp;
 use regmodel::Pending;
-pub use told_numbers::{put, put_sparse};
-
-/// Numbers that tell where something stands, at most 64.
-pub type Told = ArrayVec<u32, 64>;
+pub use told_numbers::{MOST_TOLD, Told, put, put_sparse};
 
 /// A program in progress, known by its program and by its rest: what is pending after each list of further replies.
 /// No call takes memory.

@@ -2,13 +2,20 @@
 
 ghost use Rattle.std.specs.Prelude.{◌≡◌, ◌+◌, ◌≤◌, ◌++◌, IfSome, IsSome, length};
 ghost use Rattle.machine.specs.Sparse.{filled, mask_of, sparse};
+ghost use Rattle.machine.specs.declared.told_numbers.TheConstants.{MOST_TOLD};
 
-use crate::Told;
+use arrayvec::ArrayVec;
+
+/// How many numbers tell where something stands, at most.
+pub const MOST_TOLD: usize = 128;
+
+/// Numbers that tell where something stands.
+pub type Told = ArrayVec<u32, MOST_TOLD>;
 
 /// Puts these behind the numbers, where there is room.
 pub fn put(values: &[u32], numbers: &mut Told) -> Option<()>
     ensures behind { IfSome result (λ _. numbers.new.items ≡ numbers.old.items ++ values.now) }
-    ensures room { length numbers.old.items + length values.now ≤ 64 → IsSome result }
+    ensures room { length numbers.old.items + length values.now ≤ MOST_TOLD → IsSome result }
 {
     for value in values {
         numbers.try_push(*value).ok()?;
@@ -22,11 +29,22 @@ pub fn put_sparse(values: &[u32], numbers: &mut Told) -> Option<()>
     requires { length values.now ≤ 32 }
     ensures behind { IfSome result
         (λ _. numbers.new.items ≡ numbers.old.items ++ sparse values.now) }
-    ensures room { length numbers.old.items + length (sparse values.now) ≤ 64 → IsSome result }
+    ensures room { length numbers.old.items + length (sparse values.now) ≤ MOST_TOLD → IsSome result }
 {
-    let used = used(values);
-    put(&[mask(used)], numbers)?;
-    put_filled(used, numbers)
+    let first = used(values);
+    let at = numbers.len();
+    put(&[0], numbers)?;
+    let mut mask = 0u64;
+    let mut bit = 1;
+    for value in first {
+        if *value != 0 {
+            put(&[*value], numbers)?;
+            mask += bit;
+        }
+        bit *= 2;
+    }
+    numbers[at] = mask as u32;
+    Some(())
 }
 
 /// The values up to the last one that is not 0.
@@ -40,32 +58,4 @@ fn used(values: &[u32]) -> &[u32]
         count -= 1;
     }
     &values[..count]
-}
-
-/// Which of at most 32 values are not 0, as the bits of a number.
-fn mask(values: &[u32]) -> u32
-    requires { length values.now ≤ 32 }
-    ensures { result ≡ mask_of values.now }
-{
-    let mut mask = 0;
-    let mut from = values.len();
-    while from > 0 {
-        from -= 1;
-        mask = mask * 2 + u32::from(values[from] != 0);
-    }
-    mask
-}
-
-/// Puts the values that are not 0 behind the numbers, where there is room.
-fn put_filled(values: &[u32], numbers: &mut Told) -> Option<()>
-    ensures behind { IfSome result
-        (λ _. numbers.new.items ≡ numbers.old.items ++ filled values.now) }
-    ensures room { length numbers.old.items + length (filled values.now) ≤ 64 → IsSome result }
-{
-    for value in values {
-        if *value != 0 {
-            put(&[*value], numbers)?;
-        }
-    }
-    Some(())
 }

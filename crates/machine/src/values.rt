@@ -3,9 +3,10 @@
 ghost use Rattle.std.specs.Prelude.{◌≡◌, slice_index};
 ghost use Rattle.regmodel.specs.Values.{within, below_or_fault, operand_value, expr_value, apply_op, target_place, store, store_from, InCell};
 ghost use Rattle.regmodel.specs.declared.limits.TheConstants.{CELLS};
-ghost use Rattle.machine.specs.Stores.{env_of, as_place, as_place_or_fault};
+ghost use Rattle.machine.specs.Stores.{env_of, as_place, as_place_or_fault, values_of};
 
 use crate::emitted::Emitted;
+use crate::rows::Row;
 use regmodel::faults::{NO_PLACE, NO_VALUE};
 use regmodel::limits::{CELLS, GREATEST_VALUE};
 use regmodel::{Expr, Op, Operand, Target};
@@ -13,8 +14,8 @@ use regmodel::{Expr, Op, Operand, Target};
 /// The variables, the cells and the numbers emitted so far.
 #[derive(Clone, Copy)]
 pub struct Store {
-    pub vars: [u32; 16],
-    pub cells: [u32; 32],
+    pub vars: Row<16>,
+    pub cells: Row<32>,
     pub emitted: Emitted,
 }
 
@@ -52,21 +53,21 @@ fn bounded(n: u64) -> Result<u32, u8>
 impl Store {
     /// The value of a variable; 0 where there is none with this number.
     fn var(&self, i: u8) -> u32
-        ensures { result ≡ slice_index self.now.vars i }
+        ensures { result ≡ slice_index (values_of self.now.vars) i }
     {
-        self.vars.get(i as usize).copied().unwrap_or(0)
+        self.vars.get(usize::from(i))
     }
 
     /// The value of a cell; 0 where there is none with this number.
     fn cell(&self, i: u8) -> u32
-        ensures { result ≡ slice_index self.now.cells i }
+        ensures { result ≡ slice_index (values_of self.now.cells) i }
     {
-        self.cells.get(i as usize).copied().unwrap_or(0)
+        self.cells.get(usize::from(i))
     }
 
     /// The number of the cell that a variable names; a fault where there is no such cell.
     fn named_cell(&self, i: u8) -> Result<u8, u8>
-        ensures { result ≡ below_or_fault CELLS (slice_index self.now.vars i) }
+        ensures { result ≡ below_or_fault CELLS (slice_index (values_of self.now.vars) i) }
     {
         let number = self.var(i);
         if number < u32::from(CELLS) {
@@ -118,12 +119,8 @@ impl Store {
         ensures { env_of self.new ≡ store (env_of self.old) (as_place place) value }
     {
         match place {
-            Place::Var(i) => {
-                if (i as usize) < self.vars.len() {
-                    self.vars[i as usize] = value;
-                }
-            }
-            Place::Cell(i) => self.put_cell(i as usize, value),
+            Place::Var(i) => self.vars.put(usize::from(i), value),
+            Place::Cell(i) => self.put_cell(usize::from(i), value),
         }
     }
 
@@ -131,9 +128,7 @@ impl Store {
     fn put_cell(&mut self, i: usize, value: u32)
         ensures { env_of self.new ≡ store (env_of self.old) (InCell i) value }
     {
-        if i < self.cells.len() {
-            self.cells[i] = value;
-        }
+        self.cells.put(i, value);
     }
 
     /// Stores values in the cells from one on.

@@ -1,0 +1,5 @@
+use Rattle.machine.proofs.Padding.{padded-zeros}
+use Rattle.machine.proofs.rows.Row.zeros.Goals as goal
+
+pub returns : goal.returns
+returns g c = padded-zeros g.row.N
