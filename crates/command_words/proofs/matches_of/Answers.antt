@@ -1,0 +1,18 @@
+use Rattle.std.proofs.Common.{ap}
+use Rattle.std.proofs.lemmas.Result.{IfOk-weaker}
+use Rattle.clap.specs.Words.{App}
+use Rattle.command_words.proofs.Plain.{third}
+use Rattle.command_words.proofs.Meeting.{meets_ok}
+use Rattle.command_words.proofs.matches_of.Goals as goal
+
+pub returns : goal.returns
+returns g c =
+    let command = c.in_ok-command.command in
+    let is = c.in_ok-command.ensures in
+    let parse = c.try_get_matches_from in
+    let plain = ap (λ (a : App). a.top.is_plain) is in
+    record {
+      parse = IfOk-weaker parse.result _ _ (λ m p. (command, is, p)) parse.ensures.parsed;
+      subcommand = meets_ok parse.result command is parse.ensures.parsed
+          (IfOk-weaker parse.result _ _ (λ m h. h (third _ _ _ _ plain)) parse.ensures.subcommand);
+    }

@@ -1,0 +1,74 @@
+-- The words of the command line, subcommand by subcommand, and what clap makes of them.
+use Rattle.std.specs.Prelude.{◌≡◌, ◌⊎◌, ◌++◌, ◌∷◌, [], List, IsSomeAnd, codes, map, true, false}
+use Rattle.std.specs.List.{Any}
+use Rattle.clap.specs.Words.{App, IsParsedFrom, Rule, Shape, Text, app_of}
+use Rattle.clap.specs.Words.{subcommand_name_of}
+use Rattle.clap.specs.Simple.{new_shape}
+use Rattle.clap.specs.declared.builder.command.Command.{Command}
+use Rattle.clap.specs.declared.parser.matches.ArgMatches.{ArgMatches}
+use Rattle.command_words.specs.Tables.{any_text, flag, needed, needed_number, number, several}
+
+-- a subcommand of these words
+abbrev pub subcommand : Text → List Rule → Shape
+subcommand name words = record (new_shape name) { rules = words }
+
+-- the settings of a check and of a search
+abbrev pub bounds : List Rule
+bounds = any_text (codes "length") ∷ any_text (codes "crashes") ∷ any_text (codes "workers")
+    ∷ any_text (codes "cache") ∷ []
+
+-- the words of each subcommand
+abbrev pub check_words : List Rule
+check_words = several (codes "FILE") ∷ bounds ++ flag (codes "allow-faults")
+    ∷ flag (codes "shortest") ∷ flag (codes "text") ∷ flag (codes "progress") ∷ []
+
+abbrev pub explore_words : List Rule
+explore_words = needed (codes "FILE") ∷ needed_number (codes "length")
+    ∷ needed_number (codes "crashes") ∷ needed_number (codes "workers")
+    ∷ needed_number (codes "cut") ∷ needed_number (codes "room") ∷ number (codes "cache")
+    ∷ any_text (codes "part") ∷ flag (codes "text") ∷ flag (codes "least")
+    ∷ flag (codes "progress") ∷ []
+
+abbrev pub find_words : List Rule
+find_words = needed (codes "FILE") ∷ several (codes "PATTERN") ∷ bounds ++ flag (codes "text")
+    ∷ flag (codes "progress") ∷ []
+
+abbrev pub merge_words : List Rule
+merge_words = needed (codes "FILE") ∷ []
+
+abbrev pub replay_words : List Rule
+replay_words = needed (codes "FILE") ∷ needed (codes "SCHEDULE") ∷ []
+
+abbrev pub show_words : List Rule
+show_words = needed (codes "FILE") ∷ needed (codes "SCHEDULE") ∷ flag (codes "all") ∷ []
+
+-- the subcommands, by their names
+abbrev pub subcommands : List Shape
+subcommands = subcommand (codes "check") check_words ∷ subcommand (codes "explore") explore_words
+    ∷ subcommand (codes "find") find_words ∷ subcommand (codes "merge") merge_words
+    ∷ subcommand (codes "replay") replay_words ∷ subcommand (codes "show") show_words ∷ []
+
+-- the program, which tells its version, and of whose subcommands one has to be there
+abbrev pub program : Shape
+program = record (new_shape (codes "regtry")) {
+  disable_help_subcommand = true;
+  has_version = true;
+  subcommand_required = true;
+}
+
+-- the program and its subcommands
+abbrev pub command_line : App
+command_line = record { top = record program { is_leaf = false }; subs = subcommands }
+
+-- m is a parse of a command of just these words
+abbrev pub IsParseOf : App → ArgMatches → Type 0
+IsParseOf a m = (c : Command) × (app_of c ≡ a) × IsParsedFrom c m
+
+-- what its subcommands are called
+abbrev pub names_of_subcommands : App → List Text
+names_of_subcommands a = map (λ (s : Shape). s.name) a.subs
+
+-- m names one of the subcommands, or `help`
+abbrev pub MeetsOneOf : App → ArgMatches → Type 0
+MeetsOneOf a m = IsSomeAnd (subcommand_name_of m) (λ name.
+    Any (λ x. x ≡ name) (names_of_subcommands a) ⊎ (name ≡ codes "help"))

@@ -1,0 +1,3 @@
+pub mod Tables
+pub mod CommandLine
+pub mod Examples

@@ -1,0 +1,112 @@
+//! What the help says below the words of a command.
+
+/// What the help says of the statuses.
+pub(crate) const STATUSES: &str = "Statuses:
+  0  check, explore: no schedule fails; find: no schedule leads there; replay, show: done
+  1  check, explore: a schedule fails; find: a schedule leads there
+  2  the words, a setting, the schedule, the file or the source is refused
+  3  memory ran out, or the result could not be made or written
+
+What explore and replay refuse they tell in one line for programs that read it, as `regtry: setting 1` for a --length past its limit;
+check, find and show tell it in words. Help is printed on standard error, with status 2, and the version on standard output, with status 0.";
+
+/// What the help says of the text of a schedule.
+pub(crate) const SCHEDULES: &str = "Letters of a schedule:
+  R0  process 0 takes a step: it does the register access that it wants, and goes on to its next one or its end
+  C0  process 0 crashes: it takes no further step
+Processes are numbered from 0, in the order of the source. A letter is possible where its process wants an access
+and has not crashed.
+
+Example: regtry replay FILE 'R0 R1 C0' lets process 0 take a step, then process 1, and then crashes process 0.
+It prints how each process stands after that and what each register holds, whether or not the processes ended.
+
+Statuses:
+  0  the schedule was replayed
+  2  the words, the schedule, the file or the source is refused, or a letter is not possible where it stands
+  3  memory ran out, or the result could not be written";
+
+/// What the help says of a check.
+pub(crate) const CHECKS: &str =
+    "A schedule fails where its outcome breaks a check, and where a process is at fault at its end: a value of the process is
+below 0 or above 1000000000, or it names a register or a cell that is not there, repeats more than 99 times, or emits a
+ninth number. With --allow-faults only a check that is broken counts.
+
+Where a schedule fails, it prints the least one that does: the first check that its outcome breaks and the line of
+that check, the lowest process at fault and why, the schedule as a drawing (see regtry show --help), and the command that
+replays it.
+The least schedule is often not the shortest. With --shortest the lengths 0, 1, 2 and so on are tried one after another, and the
+least schedule of the first length at which one fails is printed. Below the greatest length a check for `ended` is left out.
+Where none fails, it prints how much was tried, and whether schedules were cut off at the greatest length with a process
+still running: longer ones were not tried then. It says what was looked for where there is no check line, and which check no
+outcome could break, since no process ever had a name or was done.
+
+Where several files are named, it does so for each in turn: one that cannot be read or is refused stops no other one. The status is
+the highest.
+
+Example: regtry check FILE --crashes 1 tries all schedules of up to 64 letters in which at most one process crashes.
+
+Statuses:
+  0  no schedule fails
+  1  a schedule fails
+  2  the words, a setting, the file or the source is refused: a refused source is explained
+  3  memory ran out, or the result could not be made or written";
+
+/// What the help says of a search.
+pub(crate) const PATTERNS: &str =
+    "A pattern is one word: it says how each process may stand, processes from 0, parted by '; ', in one of these ways:
+  done 1 20      done with just these numbers; done alone: with none
+  done *         done with any numbers
+  fault 2        at fault with this code: 1 to 4
+  crashed        it has crashed
+  running        it still wants an access
+  crashed idle   as one of these, and it took no step: without idle it took one (but for done * and *)
+  *              in any way
+Where several are given, an outcome has to match one of them. A dash in place of patterns has them read from standard input, one
+a line, also a line of a report that begins with `outcome`: regtry explore .. | grep .. | regtry find FILE -
+
+It prints the least schedule that leads to such an outcome, as a drawing (see regtry show --help), and the command that
+replays it; or that no schedule leads there.
+
+Example: regtry find FILE 'done 1; done 1' shows how both processes can be done with 1.
+
+Statuses:
+  0  no schedule leads there
+  1  a schedule leads there
+  2  the words, a setting, a pattern, the file or the source is refused: a refused source is explained
+  3  memory ran out, or the result could not be made or written";
+
+/// What the help says of parts.
+pub(crate) const MERGES: &str =
+    "A part is what `regtry explore --part I/N` prints. All N parts of one exploration, as cat or GNU parallel gives them one after
+another in any order, are merged into the report that explore prints without --part, or, where they were explored with --least, into its
+least failing schedule.
+
+Example: regtry explore FILE .. --part 1/2 > one; regtry explore FILE .. --part 2/2 > two; cat one two | regtry merge -
+prints what regtry explore FILE .. prints.
+
+Statuses:
+  0  no schedule fails
+  1  a schedule fails
+  2  the words or the file are refused, or its parts are: a line is none of a part, a part is there twice or missing, or two parts are
+     not of one exploration; it is said which
+  3  memory ran out, or the report could not be written";
+
+/// What the help says of a drawing.
+pub(crate) const DRAWINGS: &str = "Letters of a schedule:
+  R0  process 0 takes a step: it does the register access that it wants, and goes on to its next one or its end
+  C0  process 0 crashes: it takes no further step
+Processes are numbered from 0, in the order of the source. A letter is possible where its process wants an access
+and has not crashed.
+
+Example: regtry show FILE 'R0 R1 C0' draws three steps.
+It prints a line a letter: in the column of its process `write 0 5` for a write of 5 into register 0, `read 0 = 5` for a read
+that found 5 there, or `crash`; then what each register holds after it, r0 first, with a star where the letter changed it. The
+line of step 0 has what they hold at the start. The last line says how each process stands after the last letter.
+
+A line is at most 80 places long where there are at most two processes, else 132. Registers are left out from the last one
+on until that holds or none is left; a line at the end then says which. With --all none is left out.
+
+Statuses:
+  0  the schedule was drawn
+  2  the words, the schedule, the file or the source is refused, or a letter is not possible where it stands
+  3  memory ran out, or the result could not be written";
