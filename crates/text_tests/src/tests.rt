@@ -2,9 +2,7 @@
 
 mod drawings;
 mod expansions;
-mod lines;
 mod native_machines;
 mod parts_read;
 mod report_texts;
 mod sources;
-mod written;

@@ -8,7 +8,7 @@ use natives::{Grid, MakeFault, NameSlots, Names, Split, Tree};
 use rand::rngs::SmallRng;
 use rand::{RngExt, SeedableRng};
 use regmodel::limits::MOST_SCANNED;
-use regmodel::{Access, Footprint, Numbers, Pending};
+use regmodel::{Footprint, Numbers, Pending};
 use std::alloc::Global;
 use std::process::Abort;
 use std::test::Fail;
@@ -56,112 +56,6 @@ fn done(numbers: &[u32]) -> Pending {
         }
     }
     Pending::Done(all)
-}
-
-fn read(register: u8) -> Pending {
-    Pending::Wants(Access::Read(register))
-}
-
-fn write(register: u8, value: u32) -> Pending {
-    Pending::Wants(Access::Write(register, value))
-}
-
-/// A machine at its start wants this after these replies.
-fn assert_pending<M: Machine>(
-    rt: &impl Abort,
-    machine: &mut M,
-    replies: &[&[u32]],
-    expected: &Pending,
-) {
-    machine.reset();
-    for reply in replies {
-        assert!(rt; give(machine, reply), "{replies:?}");
-    }
-    assert!(rt; &machine.pending() == expected, "{replies:?}");
-}
-
-/// Replies, and what is pending after them.
-type Row<'a> = (&'a [&'a [u32]], Pending);
-
-/// A native machine and its interpreter want these after these replies.
-fn assert_rows<M: Machine>(rt: &impl Abort, native: &mut M, text: &mut Interp, rows: &[Row]) {
-    for (replies, expected) in rows {
-        assert_pending(rt, native, replies, expected);
-        assert_pending(rt, text, replies, expected);
-    }
-    native.end();
-    assert!(rt; native.pending() == done(&[]));
-}
-
-#[test]
-fn splitter_rows(rt: HostRuntime) -> Result<(), Fail> {
-    let rows: &[Row] = &[
-        (&[], write(0, 1)),
-        (&[&[0]], read(1)),
-        (&[&[0], &[0]], write(1, 1)),
-        (&[&[0], &[0], &[0]], read(0)),
-        (&[&[0], &[1]], done(&[2])),
-        (&[&[0], &[0], &[0], &[1]], done(&[1])),
-        (&[&[0], &[0], &[0], &[2]], done(&[3])),
-    ];
-    let mut text = text(rt.alloc(), &Use::Split(0, 1), 2)?;
-    assert_rows(&rt, &mut Split::make(0, 1, 2)?, &mut text, rows);
-    Ok(())
-}
-
-#[test]
-fn grid_rows(rt: HostRuntime) -> Result<(), Fail> {
-    let rows: &[Row] = &[
-        (&[&[0], &[1]], write(4, 1)),
-        (&[&[0], &[0], &[0], &[2]], write(2, 1)),
-        (&[&[0], &[1], &[0], &[1]], done(&[])),
-    ];
-    let mut text = text(rt.alloc(), &Use::Grid(0, 2, 1), 6)?;
-    assert_rows(&rt, &mut Grid::make(0, 2, 1, 6)?, &mut text, rows);
-    Ok(())
-}
-
-#[test]
-fn tree_rows(rt: HostRuntime) -> Result<(), Fail> {
-    let rows: &[Row] = &[
-        (&[&[0], &[0], &[1]], done(&[])),
-        (&[&[0], &[0], &[0], &[0], &[1]], write(3, 7)),
-        (
-            &[&[0], &[0], &[0], &[0], &[1], &[0], &[1], &[7]],
-            done(&[7]),
-        ),
-    ];
-    let mut text = text(rt.alloc(), &Use::Tree(0, 1, 1, 7), 4)?;
-    assert_rows(&rt, &mut Tree::make(0, 1, 1, 7, 4)?, &mut text, rows);
-    Ok(())
-}
-
-#[test]
-fn name_rows(rt: HostRuntime) -> Result<(), Fail> {
-    let rows: &[Row] = &[
-        (&[&[0], &[0]], done(&[1])),
-        (&[&[0], &[1]], write(0, 2)),
-        (&[&[0], &[1], &[0], &[2]], write(0, 1)),
-    ];
-    let mut first = text(rt.alloc(), &Use::Name(0, 2, 0), 2)?;
-    assert_rows(&rt, &mut NameSlots::make(0, 2, 0, 2)?, &mut first, rows);
-    let rows: &[Row] = &[(&[&[0], &[1]], write(1, 3))];
-    let mut second = text(rt.alloc(), &Use::Name(0, 2, 1), 2)?;
-    assert_rows(&rt, &mut NameSlots::make(0, 2, 1, 2)?, &mut second, rows);
-    Ok(())
-}
-
-#[test]
-fn names_rows(rt: HostRuntime) -> Result<(), Fail> {
-    let rows: &[Row] = &[
-        (&[], write(1, 1)),
-        (&[&[0]], Pending::Wants(Access::Scan(0, 2))),
-        (&[&[0], &[1, 1]], write(1, 3)),
-        (&[&[0], &[0, 1]], done(&[1])),
-    ];
-    let mut text = text(rt.alloc(), &Use::Names(0, 2, 1), 2)?;
-    assert_rows(&rt, &mut Names::make(0, 2, 1, 2)?, &mut text, rows);
-    Ok(())
 }
 
 #[test]

@@ -1,121 +1,18 @@
-use reglang::{ReadFault, Use, expand, read_source, read_text, write_source};
+use reglang::{Use, expand, read_source, read_text, write_source};
 use regmodel::{Clause, Expr, Operand, Prog, Stmt};
 use std::alloc::Global;
 use std::io::Write;
 use std::test::Fail;
 
-/// A text, and the line and the code of its first fault.
-const REFUSED: [(&[u8], u64, u8); 66] = [
-    (b"", 1, 7),
-    (b"\n\n", 2, 7),
-    (b"# a\n\n  # b", 3, 7),
-    (b"process\n", 1, 7),
-    (b"check ended\n", 1, 7),
-    (b"check\n", 1, 7),
-    (b"emit 1\n", 1, 5),
-    (b"end\n", 1, 5),
-    (b"registers 0\n", 1, 6),
-    (b"registers 65\n", 1, 6),
-    (b"registers 99999999999999999999\n", 1, 6),
-    (b"registers 01\n", 1, 3),
-    (b"registers 1x\n", 1, 3),
-    (b"registers\n", 1, 4),
-    (b"registers v0\n", 1, 4),
-    (b"registers 1 1\n", 1, 4),
-    (b"registers one\n", 1, 2),
-    (b"register 1\n", 1, 2),
-    (b"1 registers\n", 1, 2),
-    (b"registers 1\nregisters 1\n", 2, 5),
-    (b"registers 1\n", 1, 6),
-    (b"registers 1\n\n#\n", 3, 6),
-    (b"registers 1\nhalt\n", 2, 5),
-    (b"registers 1\nprocess\nhalt", 3, 5),
-    (b"registers 1\nprocess\nregisters 1\n", 3, 5),
-    (b"registers 1\nprocess\nprocess\n", 3, 5),
-    (b"registers 1\nprocess\ncheck ended\n", 3, 5),
-    (b"registers 1\nprocess\ncheck nothing\n", 3, 5),
-    (b"registers 1\nprocess\nif v0\nend\n", 4, 5),
-    (b"registers 1\nprocess\nif v0\ndone\n", 4, 5),
-    (b"registers 1\nprocess\nrepeat 1\nfi\n", 4, 5),
-    (b"registers 1\nprocess\nrepeat 1\nelse\n", 4, 5),
-    (b"registers 1\nprocess\nif v0\nelse\nelse\n", 5, 5),
-    (b"registers 1\nprocess\nelse\n", 3, 5),
-    (b"registers 1\nprocess\nfi\n", 3, 5),
-    (b"registers 1\nprocess\nset v16 1\nend\n", 3, 2),
-    (b"registers 1\nprocess\nset [32] 1\nend\n", 3, 2),
-    (b"registers 1\nprocess\nset v0 read\nend\n", 3, 2),
-    (b"registers 1\nprocess\nemit 1 #\nend\n", 3, 2),
-    (b"registers 1\nprocess\nemit 007\nend\n", 3, 3),
-    (
-        b"registers 1\nprocess\nset 1 2 3 4 5 6 7 8 9 0x\nend\n",
-        3,
-        3,
-    ),
-    (b"registers 1\nprocess\nemit\nend\n", 3, 4),
-    (b"registers 1\nprocess\nemit split\nend\n", 3, 4),
-    (b"registers 1\nprocess\nemit 1 + \nend\n", 3, 4),
-    (b"registers 1\nprocess\nset 5 v0\nend\n", 3, 4),
-    (b"registers 1\nprocess\nhalt 1\nend\n", 3, 4),
-    (b"registers 1\nprocess\nemit 1000000001\nend\n", 3, 6),
-    (b"registers 1\nprocess\nuse split 0 1\nend\n", 3, 6),
-    (b"registers 2\nprocess\nuse split 0\nend\n", 3, 4),
-    (b"registers 2\nprocess\nuse tab 0 1\nend\n", 3, 2),
-    (b"registers 2\nprocess\nuse split 0 1\nhalt\nend\n", 4, 5),
-    (b"registers 2\nprocess\nhalt\nuse split 0 1\nend\n", 4, 5),
-    (b"registers 2\nprocess\nscan 31 0 2\nend\n", 3, 6),
-    (b"registers 2\nprocess\nscan 0 0 0\nend\n", 3, 6),
-    (b"registers 2\nprocess\nscan 0 1 2\nend\n", 3, 6),
-    (b"registers 2\nprocess\nscan v0 0 1\nend\n", 3, 4),
-    (b"registers 2\nprocess\nread v0 scan\nend\n", 3, 2),
-    (b"registers 2\nprocess\nnames 0 2 0\nend\n", 3, 2),
-    (b"registers 2\nscan 0 0 2\n", 2, 5),
-    (
-        b"registers 2\nprocess\nuse names 0 2 0\nscan 0 0 2\nend\n",
-        4,
-        5,
-    ),
-    (b"registers 1\nprocess\nhalt\nend\ncheck atmost 1\n", 5, 8),
-    (b"registers 1\nprocess\nhalt\nend\ncheck atmost 1 9\n", 5, 8),
-    (
-        b"registers 1\nprocess\nhalt\nend\ncheck within 1 1000000001\n",
-        5,
-        8,
-    ),
-    (b"registers 1\nprocess\nhalt\nend\ncheck distinct 1\n", 5, 8),
-    (b"# a\t\nregisters 1\n", 1, 1),
-    (b"registers 1\nprocess\nemit\t007\nend\n", 3, 1),
-];
-
-#[test]
-fn names_the_first_fault(rt: HostRuntime) -> Result<(), Fail> {
-    for (text, line, code) in REFUSED {
-        let fault = read_source(rt.alloc(), text).err();
-        assert!(rt; fault == Some(ReadFault { line, code }));
-    }
-    Ok(())
-}
-
-/// Texts that are refused, and whether their end is at fault.
-const ENDS: [(&[u8], bool); 14] = [
-    (b"", true),
-    (b"\n\n", true),
-    (b"process\n", false),
-    (b"emit 1\n", false),
-    (b"registers 65\n", false),
-    (b"registers 1\n", true),
-    (b"registers 1\n\n#\n", true),
+/// A text that is refused at its end, and one that is refused before.
+const REFUSED: [(&[u8], bool); 2] = [
     (b"registers 1\nprocess\nhalt", true),
-    (b"registers 1\nprocess\nif v0\nhalt\n", true),
     (b"registers 1\nprocess\nif v0\nend\n", false),
-    (b"registers 1\nprocess\ncheck ended\n", false),
-    (b"registers 2\nprocess\nuse split 0 1\n", true),
-    (b"registers 2\nprocess\nuse split 0 1\nhalt\n", false),
-    (b"registers 1\nprocess\nemit\n", false),
 ];
 
 #[test]
 fn tells_whether_the_end_is_at_fault(rt: HostRuntime) -> Result<(), Fail> {
-    for (text, is_of_end) in ENDS {
+    for (text, is_of_end) in REFUSED {
         let rejection = read_text(rt.alloc(), text).err().ok_or("taken")?;
         assert!(rt; rejection.is_of_end == is_of_end);
         assert!(rt; read_source(rt.alloc(), text).err() == Some(rejection.fault));
@@ -235,5 +132,18 @@ fn a_source_is_written_or_nothing_where_memory_is_refused(rt: HostRuntime) -> Re
         Ok(()) => assert!(rt; out.as_slice().starts_with(b"beforeregisters 64\n")),
         Err(_) => assert!(rt; out.as_slice() == b"before".as_slice()),
     }
+    Ok(())
+}
+
+#[test]
+fn a_source_is_written_behind_what_is_there(rt: HostRuntime) -> Result<(), Fail> {
+    let source = read_source(rt.alloc(), b"registers 1\nprocess\nend\n")?;
+    let mut out = Vec::from_slice(rt.alloc(), b"# one\n")?;
+    write_source(&source, &mut out)?;
+    write_source(&source, &mut out)?;
+    assert!(rt;
+        out.as_slice()
+            == b"# one\nregisters 1\nprocess\nend\nregisters 1\nprocess\nend\n".as_slice()
+    );
     Ok(())
 }
