@@ -29,7 +29,8 @@ pub fn put_sparse(values: &[u32], numbers: &mut Told) -> Option<()>
     requires { length values.now ≤ 32 }
     ensures behind { IfSome result
         (λ _. numbers.new.items ≡ numbers.old.items ++ sparse values.now) }
-    ensures room { length numbers.old.items + length (sparse values.now) ≤ MOST_TOLD → IsSome result }
+    ensures room { length numbers.old.items + length (sparse values.now) ≤ MOST_TOLD
+        → IsSome result }
 {
     let first = used(values);
     let at = numbers.len();
