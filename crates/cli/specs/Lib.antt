@@ -7,6 +7,7 @@ pub mod Orders
 pub mod PatternTexts
 pub mod Performing
 pub mod Progress
+pub mod Runs
 pub mod Searches
 pub mod Standings
 pub mod Statuses

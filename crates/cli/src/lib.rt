@@ -1,15 +1,16 @@
 //! The command line: what its words ask for, and the answer.
 #![tactic(auto)]
 
+mod aims;
 mod answers;
 mod bounds;
+mod explorations;
 mod findings;
 mod inputs;
 mod machines;
 mod merges;
 mod options;
 mod orders;
-mod parts;
 mod parts_told;
 mod patterns_told;
 mod performing;

@@ -1,7 +1,7 @@
 use Rattle.std.proofs.Common.{◌≡◌, All, length, map, take}
 use Rattle.reglang.specs.Sources.{source_programs}
-use Rattle.cli.proofs.shortest.failing.OwnLists.{own-1}
-use Rattle.cli.proofs.shortest.failing.Given as goal
+use Rattle.cli.proofs.aims.reached.OwnLists.{own-1}
+use Rattle.cli.proofs.aims.reached.Given as goal
 
 -- each list so far is of the machines of all processes
 abbrev pub invariant-loop-list : goal.invariant-loop-list

@@ -1,0 +1,16 @@
+use Rattle.std.proofs.Common.{sym, ◌∙◌}
+use Rattle.reglang.specs.Sources.{contents_of}
+use Rattle.cli.proofs.searches.searched.Goals as goal
+
+pub returns-in_ok-new-in-Ok-clause-found : goal.returns-in_ok-new-in-Ok-clause-found
+returns-in_ok-new-in-Ok-clause-found g c =
+    λ native.
+    let least = rw c.as_slice-2.ensures.value at c.in-Ok.ensures.least in
+    let fit = rw (c.as_slice.ensures.value, ← c.processes.ensures.value) at (sym c.misfit.ensures ∙ c.in_default.is) in
+    rw c.in_ok-new-in-Ok.ensures.ok (record {
+      source = contents_of c.args.run.now.source.now;
+      spelled = c.requires.spelled;
+      fit = fit;
+      least_is = rw c.discovery_on-discovery.ensures.least least;
+      way = rw c.discovery_on-discovery.ensures.least c.discovery_on-discovery.ensures.way;
+    })

@@ -1,0 +1,85 @@
+//! What the machines of a source are made for.
+
+ghost use Rattle.std.specs.Prelude.{◌≡◌, IfErr, IfOk};
+ghost use Rattle.reglang.specs.Grammar.{Spells};
+ghost use Rattle.reglang.specs.Sources.{contents_of};
+ghost use Rattle.cli.specs.Runs.{IsNextAim, IsReached, IsUnreached};
+
+use crate::findings::{Finding, found_by};
+use crate::machines::machine_of;
+use crate::orders::Task;
+use crate::refusals::Refusal;
+use crate::runs::Run;
+use crate::shortest::failing;
+use explorer::{Effort, Gate};
+use machine::Machine;
+use std::sync::Wait;
+use std::thread::Threads;
+
+/// What the machines of a source are made for.
+#[derive(Drop)]
+pub enum Aim<'a> {
+    /// All that a task asks.
+    Asked(&'a Task),
+    /// A schedule that fails within this effort, where `ended` is not asked.
+    Failing {
+        effort: Effort,
+        native: bool,
+        allows_faults: bool,
+    },
+}
+
+impl Aim<'_> {
+    ghost use Rattle.cli.specs.Runs.{has_natives, lists_for};
+
+    /// How many lists of machines it takes.
+    fn lists(&self) -> u32
+        ensures { result ≡ lists_for self.now }
+    {
+        match self {
+            Aim::Asked(task) => task.lists(),
+            Aim::Failing { effort, .. } => effort.settings.workers() + 1,
+        }
+    }
+
+    /// Whether use lines run as native machines.
+    fn is_native(&self) -> bool
+        ensures { result ≡ has_natives self.now }
+    {
+        match self {
+            Aim::Asked(task) => task.is_native(),
+            Aim::Failing { native, .. } => *native,
+        }
+    }
+}
+
+/// What is found with the machines of a source, of which as many lists are made as the aim takes, one machine a process. Of a schedule that
+/// fails there may be none.
+pub fn reached<H: Threads + Wait + Sync, G: Gate>(
+    run: &Run<'_, H, G>,
+    aim: &Aim<'_>,
+) -> Result<Option<Finding>, Refusal>
+    requires spelled { Spells run.now.text.now (contents_of run.now.source.now) }
+    requires next { IsNextAim aim.now run.now.text.now }
+    ensures found { IfOk result (IsReached aim.now run.now.text.now) }
+    ensures refused { IfErr result (IsUnreached aim.now run.now.text.now) }
+{
+    let (alloc, source) = (run.alloc, run.source);
+    let mut lists: Vec<Vec<Box<dyn Machine + Send>>> = Vec::new(alloc);
+    for _list in 0..aim.lists() {
+        let mut machines: Vec<Box<dyn Machine + Send>> = Vec::new(alloc);
+        for p in 0..source.processes() {
+            let machine = machine_of(alloc, source, p, aim.is_native())?;
+            machines.push(Box::new(alloc, machine)?)?;
+        }
+        lists.push(machines)?;
+    }
+    match aim {
+        Aim::Asked(task) => Ok(Some(found_by(run, task, lists)?)),
+        Aim::Failing {
+            effort,
+            allows_faults,
+            ..
+        } => failing(run, *effort, *allows_faults, lists),
+    }
+}
