@@ -3,6 +3,7 @@ pub mod Collects
 pub mod Descents
 pub mod NextNames
 pub mod Powers
+pub mod RoundEnds
 pub mod ScanStages
 pub mod Scans
 pub mod Slots

@@ -9,9 +9,12 @@ use Rattle.uses.specs.Expansions.{name_after, name_round, name_slot}
 use Rattle.machine.specs.Sparse.{spread}
 use Rattle.machine.specs.Bits.{bit}
 use Rattle.natives.specs.Rounds.{at_slot, cells_of, reading_number}
+use Rattle.natives.specs.RoundEnds.{from_end}
 use Rattle.natives.specs.declared.rounds.Reading.{Reading}
-use Rattle.natives.specs.declared.names.Stage.{Stage}
-use Rattle.natives.specs.declared.names.Stage.TheVariants.{Proposes, Reads, Named, Over}
+use Rattle.natives.specs.declared.rounds.Round.{Round}
+use Rattle.natives.specs.declared.rounds.Slots.{Slots}
+use Rattle.natives.specs.declared.rounds.Stage.{Stage}
+use Rattle.natives.specs.declared.rounds.Stage.TheVariants.{Proposes, Looks, Named, Over}
 
 -- a slot that may be read: not the own one, with a rank that rose by at most one a slot
 pub record IsRead (slots own : ℕ) (reading : Reading) : Type 0 where
@@ -43,17 +46,21 @@ module _ (base slots own registers : ℕ) where
   from_reading later proposal seen reading s =
       from_slot later (slots - reading.at) (at_slot proposal (bit reading.clash) reading.rank reading.at (cells_of seen)) s
 
--- at a write of the proposal the value from the round on, at a read that from the slot on
-abbrev pub name_rest : (Replies → Pending) → (Reading → Replies → Pending) → ℕ → Stage → Replies → Pending
-name_rest round slot proposal Proposes s = round s
-name_rest round slot proposal (Reads reading) s = slot reading s
-name_rest round slot proposal Named s = Done (record { items = proposal ∷ [] })
-name_rest round slot proposal Over s = Done (record { items = [] })
+-- the same of a renaming in progress
+abbrev pub round_rest : Slots → Round → Replies → Pending
+round_rest slots round = from_round slots.base slots.count slots.own slots.registers (suc round.later) round.proposal (cells_of round.seen)
+
+abbrev pub reading_rest : Slots → Round → Reading → Replies → Pending
+reading_rest slots round = from_reading slots.base slots.count slots.own slots.registers round.later round.proposal round.seen
+
+-- once its slots were read, from the end of the round on
+abbrev pub end_rest : Slots → Round → Reading → Replies → Pending
+end_rest slots round = from_end slots round (rounds_from slots.base slots.count slots.own slots.registers)
 
 -- how a stage is told: a number for what it is, and what it holds
-abbrev pub name_numbers : ℕ → ℕ → Stage → List ℕ
+abbrev pub name_numbers : ℕ → ℕ → Stage Reading → List ℕ
 name_numbers later proposal Proposes = 0 ∷ later ∷ proposal ∷ []
-name_numbers later proposal (Reads reading) = reading_number reading.clash ∷ later ∷ proposal ∷ reading.at ∷ reading.rank ∷ []
+name_numbers later proposal (Looks reading) = reading_number reading.clash ∷ later ∷ proposal ∷ reading.at ∷ reading.rank ∷ []
 name_numbers later proposal Named = 3 ∷ proposal ∷ []
 name_numbers later proposal Over = 4 ∷ []
 

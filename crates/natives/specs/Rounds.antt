@@ -1,11 +1,15 @@
--- A round of a renaming once its slots were read, and the next proposal.
-use Rattle.std.specs.Prelude.{ℕ, zero, suc, ◌+◌, ◌-◌, ◌==◌, if◌then◌else◌, ◌||◌, ◌&&◌, not, nat_lt, Bool, true, false, List, [], ◌∷◌, ◌++◌, replicate}
+-- The stages of a renaming, a round once its slots were read, and the next proposal.
+use Rattle.std.specs.Prelude.{ℕ, zero, suc, ◌+◌, ◌-◌, ◌==◌, if◌then◌else◌, ◌||◌, ◌&&◌, not, nat_lt, Bool, true, false, List, [], ◌∷◌, ◌++◌, ◌*◌, replicate, take}
 use Rattle.regmodel.specs.declared.accesses.Pending.{Pending}
+use Rattle.regmodel.specs.declared.accesses.Pending.TheVariants.{Done}
 use Rattle.regmodel.specs.Values.{Env}
 use Rattle.regmodel.specs.Act.{Flow, exec, then_do, flow_pending}
 use Rattle.regmodel.specs.Reply.{Replies}
 use Rattle.uses.specs.Expansions.{name_after}
+use Rattle.machine.specs.Sparse.{sparse}
 use Rattle.natives.specs.declared.rounds.Reading.{Reading}
+use Rattle.natives.specs.declared.rounds.Stage.{Stage}
+use Rattle.natives.specs.declared.rounds.Stage.TheVariants.{Proposes, Looks, Named, Over}
 
 -- before the first slot
 abbrev pub first_slot : Reading
@@ -53,3 +57,36 @@ number_from held zero rank number = number
 number_from held (suc turns) zero number = number_from held turns zero number
 number_from held (suc turns) (suc rank) number =
     number_from held turns (if holds (number + 1) held then suc rank else suc rank - 1) (number + 1)
+
+-- ---- the stages
+
+-- at a write of the proposal the value from the round on, at a look that from the look on
+abbrev pub stage_rest : {L : Type 0} → (Replies → Pending) → (L → Replies → Pending) → ℕ → Stage L → Replies → Pending
+stage_rest round look proposal Proposes s = round s
+stage_rest round look proposal (Looks at) s = look at s
+stage_rest round look proposal Named s = Done (record { items = proposal ∷ [] })
+stage_rest round look proposal Over s = Done (record { items = [] })
+
+-- once a round has ended, by whether there was a clash and by how many rounds are left: where the process stands,
+abbrev pub stage_after : {L : Type 0} → Bool → ℕ → Stage L
+stage_after false later = Named
+stage_after true zero = Over
+stage_after true (suc later) = Proposes
+
+-- how many rounds there are after that,
+abbrev pub later_after : Bool → ℕ → ℕ
+later_after false later = later
+later_after true later = later - 1
+
+-- and what it proposes, by how many slots there are, its rank and what they held
+abbrev pub proposal_after : Bool → ℕ → ℕ → ℕ → List ℕ → ℕ → ℕ
+proposal_after false later slots rank seen proposal = proposal
+proposal_after true zero slots rank seen proposal = proposal
+proposal_after true (suc later) slots rank seen proposal = number_from (take slots seen) (2 * slots - 1) rank 0
+
+-- what is told of the slots behind a stage: what they held, by a mask and what is not 0, where it is one in a round
+abbrev pub seen_numbers : {L : Type 0} → Stage L → List ℕ → List ℕ
+seen_numbers Proposes seen = sparse seen
+seen_numbers (Looks at) seen = sparse seen
+seen_numbers Named seen = []
+seen_numbers Over seen = []

@@ -8,8 +8,13 @@ use Rattle.regmodel.specs.Reply.{Replies, one}
 use Rattle.uses.specs.Expansions.{names_round}
 use Rattle.machine.specs.Sparse.{spread}
 use Rattle.natives.specs.Rounds.{at_slot, cells_of}
-use Rattle.natives.specs.declared.scanned_names.Stage.{Stage}
-use Rattle.natives.specs.declared.scanned_names.Stage.TheVariants.{Proposes, Scans, Named, Over}
+use Rattle.natives.specs.RoundEnds.{from_end}
+use Rattle.natives.specs.declared.rounds.Reading.{Reading}
+use Rattle.natives.specs.declared.rounds.Round.{Round}
+use Rattle.natives.specs.declared.rounds.Slots.{Slots}
+use Rattle.natives.specs.declared.rounds.Stage.{Stage}
+use Rattle.natives.specs.declared.rounds.Stage.TheVariants.{Proposes, Looks, Named, Over}
+use Rattle.natives.specs.declared.scanned_names.Scan.{Scan}
 
 module _ (base slots own registers : ℕ) where
   -- so many rounds
@@ -20,17 +25,22 @@ module _ (base slots own registers : ℕ) where
   abbrev pub from_scan_round : ℕ → ℕ → List ℕ → Replies → Pending
   from_scan_round rounds proposal cells s = flow_pending (scan_rounds rounds (at_slot proposal 0 0 0 cells) s)
 
--- at an access the value from the round on, after the replies since then
-abbrev pub names_rest : (Replies → Pending) → ℕ → Stage → Replies → Pending
-names_rest round proposal Proposes s = round s
-names_rest round proposal Scans s = round (one 0 ∷ s)
-names_rest round proposal Named s = Done (record { items = proposal ∷ [] })
-names_rest round proposal Over s = Done (record { items = [] })
+-- the same of a renaming in progress
+abbrev pub scan_round_rest : Slots → Round → Replies → Pending
+scan_round_rest slots round = from_scan_round slots.base slots.count slots.own slots.registers (suc round.later) round.proposal (cells_of round.seen)
+
+-- at the scan, the value from the round on after the reply to its write
+abbrev pub scan_rest : Slots → Round → Scan → Replies → Pending
+scan_rest slots round scan s = scan_round_rest slots round (one 0 ∷ s)
+
+-- once its slots were scanned, from the end of the round on
+abbrev pub scan_end_rest : Slots → Round → Reading → Replies → Pending
+scan_end_rest slots round = from_end slots round (scan_rounds slots.base slots.count slots.own slots.registers)
 
 -- how a stage is told: a number for what it is, and what it holds
-abbrev pub names_numbers : ℕ → ℕ → Stage → List ℕ
+abbrev pub names_numbers : ℕ → ℕ → Stage Scan → List ℕ
 names_numbers later proposal Proposes = 0 ∷ later ∷ proposal ∷ []
-names_numbers later proposal Scans = 1 ∷ later ∷ proposal ∷ []
+names_numbers later proposal (Looks scan) = 1 ∷ later ∷ proposal ∷ []
 names_numbers later proposal Named = 2 ∷ proposal ∷ []
 names_numbers later proposal Over = 3 ∷ []
 

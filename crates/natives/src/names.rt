@@ -1,6 +1,6 @@
 //! Renamings: a process proposes a name in its slot until no other slot holds it.
 
-ghost use Rattle.std.specs.Prelude.{◌≡◌, ◌≢◌, ℕ, ◌+◌, ◌<◌, ◌≤◌, ◌↔◌, ◌∷◌, ◌++◌, false, Err, IfOk, IfSome, IsOk, IsTrue, length, slice_index};
+ghost use Rattle.std.specs.Prelude.{◌≡◌, ◌≢◌, ◌+◌, ◌≤◌, ◌↔◌, ◌∷◌, ◌++◌, false, Err, IfOk, IfSome, IsOk, IsTrue, slice_index};
 ghost use Rattle.regmodel.specs.Lawful.{IsAtStart};
 ghost use Rattle.regmodel.specs.Reply.{Replies};
 ghost use Rattle.uses.specs.declared.kinds.Use.TheVariants as kind;
@@ -8,52 +8,27 @@ ghost use Rattle.uses.specs.Expansions.{expansion};
 ghost use Rattle.uses.specs.Uses.{use_fits};
 ghost use Rattle.machine.specs.Telling.{Tells};
 ghost use Rattle.natives.specs.declared.TheConstants.{PAST_LIMIT};
-ghost use Rattle.regmodel.specs.declared.limits.TheConstants.{MOST_REGISTERS, MOST_SLOTS};
 ghost use Rattle.natives.specs.declared.rounds.Reading.{Reading};
-ghost use Rattle.natives.specs.declared.names.Stage.TheVariants.{Reads};
-ghost use Rattle.machine.specs.Bits.{bit};
-ghost use Rattle.natives.specs.Rounds.{at_slot, cells_of, from_after};
-ghost use Rattle.natives.specs.Names.{IsRead, from_reading, name_numbers, rounds_from};
+ghost use Rattle.natives.specs.declared.rounds.Stage.TheVariants.{Looks};
+ghost use Rattle.natives.specs.Names.{IsRead, end_rest, name_numbers, reading_rest};
 
 use crate::numbers::{done, done_with};
-use crate::rounds::{LATER, Reading, free_number};
+use crate::rounds::{Reading, Round, Slots, Stage};
 use crate::{MakeFault, PAST_LIMIT};
-use machine::{Machine, Told, put, put_sparse, value_of};
+use machine::{Machine, Told, put, value_of};
 use regmodel::{Access, Pending};
 use uses::Use;
-
-/// Where a process stands in a round.
-#[derive(Clone, Copy)]
-enum Stage {
-    /// It writes its proposal into its slot.
-    Proposes,
-    /// It reads another slot.
-    Reads(Reading),
-    /// No other slot held its proposal, which is its name.
-    Named,
-    /// It has no rounds left, or was ended.
-    Over,
-}
 
 /// A renaming in progress: a register a slot, for the proposal of its process. It keeps what it last read in each
 /// slot, 0 for its own.
 #[derive(Drop)]
 pub struct NameSlots {
-    base: u8,
-    slots: u8,
-    slot: u8,
-    registers: u32,
-    later: u8,
-    proposal: u32,
-    seen: [u32; 8],
-    stage: Stage,
-    ghost few: { registers ≤ MOST_REGISTERS },
-    ghost few_slots: { slots ≤ MOST_SLOTS },
-    ghost room: { base + slots ≤ registers },
-    ghost own_in: { slot < slots },
-    ghost eight: { length seen ≡ 8 },
-    ghost own_empty: { slice_index seen slot ≡ 0 },
-    ghost reads: { (reading : Reading) → stage ≡ Reads reading → IsRead slots slot reading },
+    slots: Slots,
+    round: Round,
+    stage: Stage<Reading>,
+    ghost own_empty: { slice_index round.seen slots.own ≡ 0 },
+    ghost reads: { (reading : Reading) → stage ≡ Looks reading
+        → IsRead slots.count slots.own reading },
 }
 
 impl NameSlots {
@@ -73,14 +48,15 @@ impl NameSlots {
         if !Use::Name(base, slots, slot).fits(registers) {
             return Err(MakeFault { code: PAST_LIMIT });
         }
-        let mut names = NameSlots {
+        let slots = Slots {
             base: base as u8,
-            slots: slots as u8,
-            slot: slot as u8,
+            count: slots as u8,
+            own: slot as u8,
             registers,
-            later: LATER,
-            proposal: 1,
-            seen: [0; 8],
+        };
+        let mut names = NameSlots {
+            slots,
+            round: Round::first(),
             stage: Stage::Over,
         };
         names.reset();
@@ -94,38 +70,25 @@ impl NameSlots {
             ≡ ⟦<NameSlots as Machine>⟧.program self.old }
         ensures goes_on { (s : Replies)
             → ⟦<NameSlots as Machine>⟧.rest self.new s
-            ≡ from_after self.old.slots self.old.registers
-            (rounds_from self.old.base self.old.slots self.old.slot self.old.registers
-            self.old.later)
-            (at_slot self.old.proposal (bit reading.clash) reading.rank reading.at
-            (cells_of self.old.seen)) s }
+            ≡ end_rest self.old.slots self.old.round reading s }
     {
-        if !reading.clash {
-            self.stage = Stage::Named;
-        } else if self.later == 0 {
-            self.stage = Stage::Over;
-        } else {
-            self.later -= 1;
-            self.proposal = free_number(&self.seen[..usize::from(self.slots)], reading.rank);
-            self.stage = Stage::Proposes;
-        }
+        self.stage = self.round.end(self.slots, reading);
     }
 
     /// Reads a slot, which is not the own one; past the last one it ends the round.
     fn read(&mut self, reading: Reading)
-        requires inside { reading.at ≤ self.old.slots }
-        requires other { reading.at ≢ self.old.slot }
+        requires inside { reading.at ≤ self.old.slots.count }
+        requires other { reading.at ≢ self.old.slots.own }
         requires some { 1 ≤ reading.rank }
         requires small { reading.rank ≤ reading.at + 1 }
         ensures same { ⟦<NameSlots as Machine>⟧.program self.new
             ≡ ⟦<NameSlots as Machine>⟧.program self.old }
         ensures goes_on { (s : Replies)
             → ⟦<NameSlots as Machine>⟧.rest self.new s
-            ≡ from_reading self.old.base self.old.slots self.old.slot self.old.registers
-            self.old.later self.old.proposal self.old.seen reading s }
+            ≡ reading_rest self.old.slots self.old.round reading s }
     {
-        if reading.at < self.slots {
-            self.stage = Stage::Reads(reading);
+        if reading.at < self.slots.count {
+            self.stage = Stage::Looks(reading);
         } else {
             self.finish(reading);
         }
@@ -133,17 +96,16 @@ impl NameSlots {
 
     /// Goes on to a slot, past the own one.
     fn go_on(&mut self, reading: Reading)
-        requires inside { reading.at ≤ self.old.slots }
+        requires inside { reading.at ≤ self.old.slots.count }
         requires some { 1 ≤ reading.rank }
         requires small { reading.rank ≤ reading.at + 1 }
         ensures same { ⟦<NameSlots as Machine>⟧.program self.new
             ≡ ⟦<NameSlots as Machine>⟧.program self.old }
         ensures goes_on { (s : Replies)
             → ⟦<NameSlots as Machine>⟧.rest self.new s
-            ≡ from_reading self.old.base self.old.slots self.old.slot self.old.registers
-            self.old.later self.old.proposal self.old.seen reading s }
+            ≡ reading_rest self.old.slots self.old.round reading s }
     {
-        if reading.at == self.slot {
+        if reading.at == self.slots.own {
             self.read(Reading {
                 at: reading.at + 1,
                 ..reading
@@ -155,40 +117,43 @@ impl NameSlots {
 
     /// Takes what a slot holds, and goes on to the next one.
     fn take(&mut self, reading: Reading, reply: &[u32])
-        requires read { IsRead self.old.slots self.old.slot reading }
+        requires read { IsRead self.old.slots.count self.old.slots.own reading }
         ensures same { ⟦<NameSlots as Machine>⟧.program self.new
             ≡ ⟦<NameSlots as Machine>⟧.program self.old }
         ensures goes_on { (s : Replies)
             → ⟦<NameSlots as Machine>⟧.rest self.new s
-            ≡ from_reading self.old.base self.old.slots self.old.slot self.old.registers
-            self.old.later self.old.proposal self.old.seen reading (reply.now ∷ s) }
+            ≡ reading_rest self.old.slots self.old.round reading (reply.now ∷ s) }
     {
         let held = value_of(reply);
-        self.seen[usize::from(reading.at)] = held;
-        self.go_on(reading.after_slot(held, self.proposal, self.slot));
+        self.round.seen[usize::from(reading.at)] = held;
+        self.go_on(reading.after_slot(held, self.round.proposal, self.slots.own));
     }
 
     /// Puts the stage behind the numbers, with the numbers that it holds, but not what the slots held.
     fn put_stage(&self, numbers: &mut Told) -> Option<()>
         ensures { IfSome result
             (λ _. numbers.new.items
-            ≡ numbers.old.items ++ name_numbers self.now.later self.now.proposal self.now.stage) }
+            ≡ numbers.old.items ++ name_numbers self.now.round.later self.now.round.proposal
+            self.now.stage) }
     {
         match self.stage {
-            Stage::Proposes => put(&[0, u32::from(self.later), self.proposal], numbers),
-            Stage::Reads(reading) => {
+            Stage::Proposes => put(
+                &[0, u32::from(self.round.later), self.round.proposal],
+                numbers,
+            ),
+            Stage::Looks(reading) => {
                 put(
                     &[
                         reading.number(),
-                        u32::from(self.later),
-                        self.proposal,
+                        u32::from(self.round.later),
+                        self.round.proposal,
                         u32::from(reading.at),
                         u32::from(reading.rank),
                     ],
                     numbers,
                 )
             }
-            Stage::Named => put(&[3, self.proposal], numbers),
+            Stage::Named => put(&[3, self.round.proposal], numbers),
             Stage::Over => put(&[4], numbers),
         }
     }
@@ -200,38 +165,32 @@ impl NameSlots {
             (⟦<NameSlots as Machine>⟧.rest self.now) numbers.old.items numbers.new.items) }
     {
         self.put_stage(numbers)?;
-        match self.stage {
-            Stage::Proposes | Stage::Reads(_) => put_sparse(&self.seen, numbers),
-            Stage::Named | Stage::Over => Some(()),
-        }
+        self.round.put_seen(&self.stage, numbers)
     }
 }
 
 impl Machine for NameSlots {
-    ghost use Rattle.std.specs.Prelude.{suc};
     ghost use Rattle.uses.specs.declared.kinds.Use.TheVariants as kind;
     ghost use Rattle.uses.specs.Expansions.{expansion};
-    ghost use Rattle.natives.specs.Rounds.{cells_of};
-    ghost use Rattle.natives.specs.Names.{from_round, from_reading, name_rest, name_resumed};
+    ghost use Rattle.natives.specs.Rounds.{stage_rest};
+    ghost use Rattle.natives.specs.Names.{round_rest, reading_rest, name_resumed};
 
-    ghost program = { λ m. expansion (kind.Name m.base m.slots m.slot) m.registers };
+    ghost program = { λ m. expansion (kind.Name m.slots.base m.slots.count m.slots.own) m.slots.registers };
 
-    ghost rest = { λ m. name_rest (from_round m.base m.slots m.slot m.registers (suc m.later) m.proposal (cells_of m.seen)) (from_reading m.base m.slots m.slot m.registers m.later m.proposal m.seen) m.proposal m.stage };
+    ghost rest = { λ m. stage_rest (round_rest m.slots m.round) (reading_rest m.slots m.round) m.round.proposal m.stage };
 
-    ghost resumed = { λ m. name_resumed m.base m.slots m.slot m.registers };
+    ghost resumed = { λ m. name_resumed m.slots.base m.slots.count m.slots.own m.slots.registers };
 
     fn reset(&mut self) {
-        self.later = LATER;
-        self.proposal = 1;
-        self.seen = [0; 8];
+        self.round = Round::first();
         self.stage = Stage::Proposes;
     }
 
     fn pending(&self) -> Pending {
         match self.stage {
-            Stage::Proposes => Pending::Wants(Access::Write(self.base + self.slot, self.proposal)),
-            Stage::Reads(reading) => Pending::Wants(Access::Read(reading.at + self.base)),
-            Stage::Named => done_with(self.proposal),
+            Stage::Proposes => Pending::Wants(self.slots.write(self.round.proposal)),
+            Stage::Looks(reading) => Pending::Wants(Access::Read(reading.at + self.slots.base)),
+            Stage::Named => done_with(self.round.proposal),
             Stage::Over => done(),
         }
     }
@@ -239,7 +198,7 @@ impl Machine for NameSlots {
     fn feed(&mut self, reply: &[u32]) {
         match self.stage {
             Stage::Proposes => self.go_on(Reading::first()),
-            Stage::Reads(reading) => self.take(reading, reply),
+            Stage::Looks(reading) => self.take(reading, reply),
             Stage::Named | Stage::Over => {}
         }
     }

@@ -1,13 +1,117 @@
-//! What a round of a renaming reads in its slots, and the next proposal.
+//! The rounds of a renaming: its slots, what a round reads in them, and how it ends.
 
-ghost use Rattle.std.specs.Prelude.{◌≡◌, ◌+◌, ◌-◌, ◌*◌, ◌<◌, ◌≤◌, length};
-ghost use Rattle.regmodel.specs.declared.limits.TheConstants.{MOST_SLOTS};
-ghost use Rattle.natives.specs.Rounds.{first_slot, after_slot, after_slots, number_from, reading_number};
+ghost use Rattle.std.specs.Prelude.{◌≡◌, ◌+◌, ◌-◌, ◌*◌, ◌<◌, ◌≤◌, ◌++◌, IfSome, length, replicate};
+ghost use Rattle.regmodel.specs.declared.limits.TheConstants.{MOST_REGISTERS, MOST_SLOTS};
+ghost use Rattle.natives.specs.declared.rounds.TheConstants.{LATER};
+ghost use Rattle.natives.specs.Rounds.{first_slot, after_slot, after_slots, number_from, reading_number, stage_after, later_after, proposal_after, seen_numbers};
+ghost use Rattle.regmodel.specs.declared.accesses.Access.TheVariants.{Write};
 
+use machine::{Told, put_sparse};
+use regmodel::Access;
 use regmodel::limits::MOST_TURNS;
 
 /// How many rounds there are after the first.
-pub const LATER: u8 = MOST_TURNS as u8 - 1;
+const LATER: u8 = MOST_TURNS as u8 - 1;
+
+/// The slots of a renaming, a register each for the proposal of its process.
+#[derive(Clone, Copy)]
+pub struct Slots {
+    /// The register of the first one.
+    pub base: u8,
+    /// How many there are.
+    pub count: u8,
+    /// The one of this process.
+    pub own: u8,
+    /// How many registers the program has.
+    pub registers: u32,
+    ghost few: { registers ≤ MOST_REGISTERS },
+    ghost few_slots: { count ≤ MOST_SLOTS },
+    ghost room: { base + count ≤ registers },
+    ghost own_in: { own < count },
+}
+
+impl Slots {
+    /// The write of a proposal into the own slot.
+    pub fn write(self, proposal: u32) -> Access
+        ensures { result ≡ Write (self.base + self.own) proposal }
+    {
+        Access::Write(self.base + self.own, proposal)
+    }
+}
+
+/// Where a process stands in a round, with what it is about to look at where it looks.
+#[derive(Clone, Copy)]
+pub enum Stage<L> {
+    /// It writes its proposal into its slot.
+    Proposes,
+    /// It looks at slots.
+    Looks(L),
+    /// No other slot held its proposal, which is its name.
+    Named,
+    /// It has no rounds left, or was ended.
+    Over,
+}
+
+/// A round of a renaming.
+#[derive(Drop)]
+pub struct Round {
+    /// How many rounds there are after this one.
+    pub later: u8,
+    /// The name that the process proposes.
+    pub proposal: u32,
+    /// What the process last saw in each slot, 0 for its own.
+    pub seen: [u32; 8],
+    ghost eight: { length seen ≡ 8 },
+}
+
+impl Round {
+    /// The first one, which proposes 1.
+    pub fn first() -> Round
+        ensures later { result.later ≡ LATER }
+        ensures proposal { result.proposal ≡ 1 }
+        ensures seen { result.seen ≡ replicate 8 0 }
+    {
+        Round {
+            later: LATER,
+            proposal: 1,
+            seen: [0; 8],
+        }
+    }
+
+    /// Ends the round, and gives where the process stands then: its proposal is its name, or there is a new one for the
+    /// next round, where one is left.
+    pub fn end<L>(&mut self, slots: Slots, reading: Reading) -> Stage<L>
+        requires { 1 ≤ reading.rank }
+        ensures stage { result ≡ stage_after reading.clash self.old.later }
+        ensures later { self.new.later ≡ later_after reading.clash self.old.later }
+        ensures proposal { self.new.proposal
+            ≡ proposal_after reading.clash self.old.later slots.count reading.rank self.old.seen
+            self.old.proposal }
+        ensures seen { self.new.seen ≡ self.old.seen }
+    {
+        if !reading.clash {
+            return Stage::Named;
+        }
+        if self.later == 0 {
+            return Stage::Over;
+        }
+        self.later -= 1;
+        self.proposal = free_number(&self.seen[..usize::from(slots.count)], reading.rank);
+        Stage::Proposes
+    }
+
+    /// Puts what the slots held behind the numbers of a stage, where it is one in the round.
+    pub fn put_seen<L>(&self, stage: &Stage<L>, numbers: &mut Told) -> Option<()>
+        ensures { IfSome result
+            (λ _. numbers.new.items
+            ≡ numbers.old.items ++ seen_numbers stage.now self.now.seen) }
+    {
+        match stage {
+            Stage::Proposes | Stage::Looks(_) => put_sparse(&self.seen, numbers),
+            Stage::Named | Stage::Over => Some(()),
+        }
+    }
+}
 
 /// A slot that is read, and what the slots before it gave.
 #[derive(Clone, Copy)]

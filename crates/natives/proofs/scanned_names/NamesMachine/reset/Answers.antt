@@ -1,11 +1,9 @@
-use Rattle.std.proofs.Common.{ap, sym, replicate}
-use Rattle.regmodel.specs.Act.{flow_pending}
-use Rattle.natives.specs.Rounds.{at_slot}
 use Rattle.natives.specs.ScannedNames.{scan_rounds}
-use Rattle.natives.proofs.Steps.{then_stop}
+use Rattle.natives.proofs.RoundEnds.{starts}
 use Rattle.natives.proofs.scanned_names.NamesMachine.reset.Goals as goal
 
 pub returns-clause-starts : goal.returns-clause-starts
 returns-clause-starts c = λ s lawful.
-    let m = c.args.self.now in
-    sym (ap flow_pending (then_stop (scan_rounds m.base m.slots m.slot m.registers 99 (at_slot 1 0 0 0 (replicate 32 0)) s) m.registers))
+    let slots = c.args.self.now.slots in
+    let first = c.first-self in
+    starts (scan_rounds slots.base slots.count slots.own slots.registers) slots.registers first.result.later first.result.proposal first.result.seen s first.ensures.later first.ensures.proposal first.ensures.seen
