@@ -15,6 +15,7 @@ use crate::source::Process;
 use regmodel::limits::{MOST_OPEN_BLOCKS, MOST_OPEN_REPEATS, MOST_STATEMENTS};
 use regmodel::{Expr, Prog, Stmt, scan_fits};
 use std::alloc::Global;
+use std::mem::replace;
 use uses::Use;
 
 /// A block that is open, with the statements before it in the block around it.
@@ -116,23 +117,18 @@ impl OpenProcess {
     }
 
     /// Begins an `if`.
-    fn enter_if(self, alloc: Global, test: Expr) -> Result<Draft, LineRefusal>
+    fn enter_if(mut self, alloc: Global, test: Expr) -> Result<Draft, LineRefusal>
         ensures { Answers (take_line (inside_of self) (line.If test)) result }
     {
         if !self.may_enter() || !test.fits() {
             return Err(LineRefusal::Fault(PAST_LIMIT));
         }
-        let OpenProcess {
-            before,
-            blocks,
-            block,
-            statements,
-        } = self;
-        enter(alloc, before, blocks, Open::First(test, block), statements)
+        let outer = replace(&mut self.block, Vec::new(alloc));
+        self.enter(Open::First(test, outer))
     }
 
     /// Begins a `repeat`.
-    fn enter_repeat(self, alloc: Global, count: Expr) -> Result<Draft, LineRefusal>
+    fn enter_repeat(mut self, alloc: Global, count: Expr) -> Result<Draft, LineRefusal>
         ensures { Answers (take_line (inside_of self) (line.Repeat count)) result }
     {
         if !self.may_enter() || !count.fits() {
@@ -141,88 +137,73 @@ impl OpenProcess {
         if open_repeats(self.blocks.as_slice()) >= MOST_OPEN_REPEATS as usize {
             return Err(LineRefusal::Fault(PAST_LIMIT));
         }
-        let OpenProcess {
-            before,
-            blocks,
-            block,
-            statements,
-        } = self;
-        enter(alloc, before, blocks, Open::Turn(count, block), statements)
+        let outer = replace(&mut self.block, Vec::new(alloc));
+        self.enter(Open::Turn(count, outer))
+    }
+
+    /// Goes into a block, whose statements come from now on.
+    fn enter(mut self, opened: Open) -> Result<Draft, LineRefusal>
+        requires room { self.statements < MOST_STATEMENTS }
+        requires none { self.block.items ≡ [] }
+        ensures ok { Reads result (entered self.before opened self.blocks.items self.statements) }
+        ensures err { IfErr result (λ refusal. refusal ≡ LineRefusal.Memory) }
+    {
+        self.blocks.push(opened)?;
+        self.statements += 1;
+        Ok(Draft::Inside(self))
     }
 
     /// Begins the second part of the innermost `if`.
-    fn enter_else(self, alloc: Global) -> Result<Draft, LineRefusal>
+    fn enter_else(mut self, alloc: Global) -> Result<Draft, LineRefusal>
         ensures { Answers (take_line (inside_of self) line.Else) result }
     {
-        let OpenProcess {
-            before,
-            mut blocks,
-            block,
-            statements,
-        } = self;
-        match blocks.pop() {
+        let Some(Open::First(test, outer)) = self.blocks.pop() else {
+            return Err(LineRefusal::Fault(MISPLACED));
+        };
+        let first = replace(&mut self.block, Vec::new(alloc));
+        self.blocks.push(Open::Second(test, first, outer))?;
+        Ok(Draft::Inside(self))
+    }
+
+    /// Ends the innermost block, an `if`.
+    fn leave_if(mut self, alloc: Global) -> Result<Draft, LineRefusal>
+        ensures { Answers (take_line (inside_of self) line.Fi) result }
+    {
+        match self.blocks.pop() {
             Some(Open::First(test, outer)) => {
-                blocks.push(Open::Second(test, block, outer))?;
-                Ok(Draft::Inside(OpenProcess {
-                    before,
-                    blocks,
-                    block: Vec::new(alloc),
-                    statements,
-                }))
+                let first = replace(&mut self.block, outer);
+                self.leave(Stmt::If(test, first, Vec::new(alloc)))
+            }
+            Some(Open::Second(test, first, outer)) => {
+                let second = replace(&mut self.block, outer);
+                self.leave(Stmt::If(test, first, second))
             }
             _ => Err(LineRefusal::Fault(MISPLACED)),
         }
     }
 
-    /// Ends the innermost block, an `if`.
-    fn leave_if(self, alloc: Global) -> Result<Draft, LineRefusal>
-        ensures { Answers (take_line (inside_of self) line.Fi) result }
+    /// Ends the innermost block, a `repeat`.
+    fn leave_repeat(mut self) -> Result<Draft, LineRefusal>
+        ensures { Answers (take_line (inside_of self) line.Done) result }
     {
-        let OpenProcess {
-            before,
-            mut blocks,
-            block,
-            statements,
-        } = self;
-        match blocks.pop() {
-            Some(Open::First(test, outer)) => leave(
-                before,
-                blocks,
-                outer,
-                Stmt::If(test, block, Vec::new(alloc)),
-                statements,
-            ),
-            Some(Open::Second(test, first, outer)) => leave(
-                before,
-                blocks,
-                outer,
-                Stmt::If(test, first, block),
-                statements,
-            ),
+        match self.blocks.pop() {
+            Some(Open::Turn(count, outer)) => {
+                let body = replace(&mut self.block, outer);
+                self.leave(Stmt::Repeat(count, body))
+            }
             _ => Err(LineRefusal::Fault(MISPLACED)),
         }
     }
 
-    /// Ends the innermost block, a `repeat`.
-    fn leave_repeat(self) -> Result<Draft, LineRefusal>
-        ensures { Answers (take_line (inside_of self) line.Done) result }
+    /// Adds a block that has ended to the statements around it.
+    fn leave(mut self, stmt: Stmt) -> Result<Draft, LineRefusal>
+        ensures ok { Reads result
+            (open_with self.before self.blocks.items (pushed self.block.items stmt)
+            self.statements) }
+        ensures err { IfErr result (λ refusal. refusal ≡ LineRefusal.Memory) }
     {
-        let OpenProcess {
-            before,
-            mut blocks,
-            block,
-            statements,
-        } = self;
-        match blocks.pop() {
-            Some(Open::Turn(count, outer)) => leave(
-                before,
-                blocks,
-                outer,
-                Stmt::Repeat(count, block),
-                statements,
-            ),
-            _ => Err(LineRefusal::Fault(MISPLACED)),
-        }
+        self.block.push(stmt)?;
+        Ok(Draft::Inside(self))
     }
 
     /// Ends the process.
@@ -257,45 +238,4 @@ fn open_repeats(blocks: &[Open]) -> usize
     ensures { result ≡ count_by is_turn blocks.now }
 {
     blocks.iter().filter(|open| open.is_turn()).count()
-}
-
-/// Goes into a block.
-fn enter(
-    alloc: Global,
-    before: Parts,
-    mut blocks: Vec<Open>,
-    opened: Open,
-    statements: u32,
-) -> Result<Draft, LineRefusal>
-    requires { statements < MOST_STATEMENTS }
-    ensures ok { Reads result (entered before opened blocks.items statements) }
-    ensures err { IfErr result (λ refusal. refusal ≡ LineRefusal.Memory) }
-{
-    blocks.push(opened)?;
-    Ok(Draft::Inside(OpenProcess {
-        before,
-        blocks,
-        block: Vec::new(alloc),
-        statements: statements + 1,
-    }))
-}
-
-/// Goes back to the block around one that has ended, which is now its last statement.
-fn leave(
-    before: Parts,
-    blocks: Vec<Open>,
-    mut outer: Vec<Stmt>,
-    stmt: Stmt,
-    statements: u32,
-) -> Result<Draft, LineRefusal>
-    ensures ok { Reads result (open_with before blocks.items (pushed outer.items stmt) statements) }
-    ensures err { IfErr result (λ refusal. refusal ≡ LineRefusal.Memory) }
-{
-    outer.push(stmt)?;
-    Ok(Draft::Inside(OpenProcess {
-        before,
-        blocks,
-        block: outer,
-        statements,
-    }))
 }

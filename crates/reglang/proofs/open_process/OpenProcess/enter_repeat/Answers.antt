@@ -1,7 +1,8 @@
-use Rattle.std.proofs.Common.{ap, sym, ◌∙◌, arith}
+use Rattle.std.proofs.Common.{Ok, ap, sym, ◌∙◌, arith}
 use Rattle.std.specs.List.{count_by}
 use Rattle.regmodel.specs.Program.{block_of}
-use Rattle.reglang.specs.Drafts.{contents_before, is_turn}
+use Rattle.reglang.specs.Drafts.{contents_before, entered, is_turn}
+use Rattle.reglang.specs.declared.open_process.Open.TheVariants.{Turn}
 use Rattle.reglang.proofs.Taken.{answered, entered_repeat, no_more_turns}
 use Rattle.reglang.proofs.open_process.OpenProcess.enter_repeat.Goals as goal
 
@@ -18,4 +19,5 @@ returns c =
     let count = c.open_repeats.ensures ∙ ap (count_by is_turn) c.as_slice.ensures.value in
     answered _ _ _ c.enter.ensures.ok c.enter.ensures.err
     (entered_repeat (contents_before process.before) process.blocks.items (block_of process.block.items) process.statements c.args.count
-    (sym c.may_enter.ensures ∙ c.if-not-may_enter.false) (sym c.fits.ensures ∙ c.if-not-fits.false) (omega (arith, count, c.if-open_repeats.false)))
+    (sym c.may_enter.ensures ∙ c.if-not-may_enter.false) (sym c.fits.ensures ∙ c.if-not-fits.false) (omega (arith, count, c.if-open_repeats.false))
+    ∙ ap (λ block. Ok (entered process.before (Turn c.args.count block) process.blocks.items process.statements)) (sym c.replace-outer.ensures.value))
