@@ -1,5 +1,5 @@
 -- What is open behind some lines, line by line.
-use Rattle.std.proofs.Common.{◌≡◌, ℕ, zero, suc, ◌+◌, ◌-◌, ◌<◌, ◌≤◌, List, [], ◌∷◌, take, refl, ap, sym, subst, ◌∙◌, arith}
+use Rattle.std.proofs.Common.{◌≡◌, ℕ, zero, suc, ◌+◌, ◌-◌, ◌<◌, List, [], ◌∷◌, take, refl, ap, ◌∙◌, arith}
 use Rattle.explanations.specs.OpenBlocks.{open_behind, open_past}
 use Rattle.explanations.specs.declared.open_blocks.Opened.{Opened}
 use Rattle.reglang.specs.Forms.{read_line}

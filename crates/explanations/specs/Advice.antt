@@ -1,5 +1,5 @@
 -- What to change in a refused line.
-use Rattle.std.specs.Prelude.{ℕ, ◌==◌, ◌&&◌, ◌||◌, Bool, true, false, if◌then◌else◌, List, [], ◌∷◌, ◌++◌, Option, Some, None, codes, decimal}
+use Rattle.std.specs.Prelude.{ℕ, ◌==◌, ◌&&◌, ◌||◌, Bool, true, false, if◌then◌else◌, List, [], ◌++◌, Option, Some, None, codes, decimal}
 use Rattle.explanations.specs.Hints.{hint_of}
 use Rattle.explanations.specs.LineForms.{first_of, form_of}
 use Rattle.explanations.specs.PassedLimits.{limit_of}
@@ -10,25 +10,27 @@ use Rattle.explanations.specs.declared.open_blocks.Opened.{Opened}
 use Rattle.explanations.specs.declared.wording.Culprit.{Culprit}
 use Rattle.reglang.specs.Lines.{words}
 use Rattle.reglang.specs.declared.refusals.TheConstants.{MISPLACED, NO_CLAUSE, NO_FORM, PAST_LIMIT, UNKNOWN_WORD}
+use Rattle.reglang.specs.Spelling.{keyword_text}
+use Rattle.reglang.specs.declared.words.Keyword.{Keyword}
 use Rattle.reglang.specs.declared.words.Keyword.TheVariants as keyword
 use Rattle.reglang.specs.declared.words.Word.{Word}
 use Rattle.reglang.specs.declared.words.Word.TheVariants as word
 
--- the word that opens a block
-abbrev pub opener : Block → List ℕ
-opener block.Process = codes "process"
-opener block.If = codes "if"
-opener block.Repeat = codes "repeat"
+-- the first word of the line that opens a block
+abbrev pub opener : Block → Keyword
+opener block.Process = keyword.Process
+opener block.If = keyword.If
+opener block.Repeat = keyword.Repeat
 
--- the word that closes it
-abbrev pub closer : Block → List ℕ
-closer block.Process = codes "end"
-closer block.If = codes "fi"
-closer block.Repeat = codes "done"
+-- the first word of the line that closes it
+abbrev pub closer : Block → Keyword
+closer block.Process = keyword.End
+closer block.If = keyword.Fi
+closer block.Repeat = keyword.Done
 
 -- that a block is open
 abbrev pub open_text : Opened → List ℕ
-open_text opened = codes "the " ++ opener opened.block ++ codes " of line " ++ decimal opened.line ++ codes " is open here, and " ++ closer opened.block ++ codes " closes it"
+open_text opened = codes "the " ++ keyword_text (opener opened.block) ++ codes " of line " ++ decimal opened.line ++ codes " is open here, and " ++ keyword_text (closer opened.block) ++ codes " closes it"
 
 -- whether a line with this first word opens or closes a process or block, or is a check
 abbrev pub is_outer : Word → Bool

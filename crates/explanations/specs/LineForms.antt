@@ -1,6 +1,7 @@
 -- The form of a line, in words.
-use Rattle.std.specs.Prelude.{ℕ, List, [], ◌∷◌, Option, Some, None, codes}
+use Rattle.std.specs.Prelude.{ℕ, List, [], ◌∷◌, ◌++◌, Option, Some, None, codes}
 use Rattle.reglang.specs.Forms.{kind_of, property_of}
+use Rattle.reglang.specs.Spelling.{keyword_text, property_text}
 use Rattle.reglang.specs.Words.{word_of}
 use Rattle.reglang.specs.declared.words.Keyword.{Keyword}
 use Rattle.reglang.specs.declared.words.Keyword.TheVariants as keyword
@@ -11,24 +12,26 @@ use Rattle.reglang.specs.declared.words.Property.TheVariants as property
 use Rattle.reglang.specs.declared.words.Word.{Word}
 use Rattle.reglang.specs.declared.words.Word.TheVariants as word
 
+-- what an expression and an operand may be, and that a line has no more words
+abbrev sorts_words : List ℕ
+sorts_words = codes "EXPR is an operand, or two with + - * = or < between them, and an operand is a number, a variable or a cell"
+
+abbrev nothing_behind : List ℕ
+nothing_behind = codes ", and nothing behind it"
+
 -- the form of a line with this first word
 abbrev pub keyword_form : Keyword → List ℕ
 keyword_form keyword.Registers = codes "registers NUMBER"
-keyword_form keyword.Process = codes "process, and nothing behind it"
-keyword_form keyword.End = codes "end, and nothing behind it"
-keyword_form keyword.Set = codes "set TARGET EXPR; TARGET is a variable or a cell, EXPR is an operand, or two with + - * = or < between them, and an operand is a number, a variable or a cell"
+keyword_form keyword.Set = codes "set TARGET EXPR; TARGET is a variable or a cell, " ++ sorts_words
 keyword_form keyword.Read = codes "read TARGET OPERAND; TARGET is the variable or cell that takes the value, and OPERAND the register, as a number, a variable or a cell"
 keyword_form keyword.Write = codes "write OPERAND EXPR; OPERAND is the register, as a number, a variable or a cell, and EXPR is such an operand, or two with + - * = or < between them"
 keyword_form keyword.Scan = codes "scan CELL REG COUNT with three numbers: the first cell, the first register, and how many"
-keyword_form keyword.If = codes "if EXPR; EXPR is an operand, or two with + - * = or < between them, and an operand is a number, a variable or a cell"
-keyword_form keyword.Else = codes "else, and nothing behind it"
-keyword_form keyword.Fi = codes "fi, and nothing behind it"
-keyword_form keyword.Repeat = codes "repeat EXPR; EXPR is an operand, or two with + - * = or < between them, and an operand is a number, a variable or a cell"
-keyword_form keyword.Done = codes "done, and nothing behind it"
-keyword_form keyword.Emit = codes "emit EXPR; EXPR is an operand, or two with + - * = or < between them, and an operand is a number, a variable or a cell"
-keyword_form keyword.Halt = codes "halt, and nothing behind it"
+keyword_form keyword.If = codes "if EXPR; " ++ sorts_words
+keyword_form keyword.Repeat = codes "repeat EXPR; " ++ sorts_words
+keyword_form keyword.Emit = codes "emit EXPR; " ++ sorts_words
 keyword_form keyword.Use = codes "use KIND NUMBERS; the kinds are split, grid, tree, name and names"
 keyword_form keyword.Check = codes "check CLAUSE; the clauses are distinct, atmost V C, within LO HI, adaptive, triangle, selfseen, ended and nofault"
+keyword_form key = keyword_text key ++ nothing_behind
 
 -- the form of a use of this kind
 abbrev pub kind_form : Kind → List ℕ
@@ -40,14 +43,9 @@ kind_form kind.Names = codes "use names BASE SLOTS SLOT with three numbers"
 
 -- the form of a check of this property
 abbrev pub property_form : Property → List ℕ
-property_form property.Distinct = codes "check distinct, and nothing behind it"
 property_form property.AtMost = codes "check atmost V C; V is 0 to 1000000000, and C is 0 to 8"
 property_form property.Within = codes "check within LO HI; LO and HI are 0 to 1000000000"
-property_form property.Adaptive = codes "check adaptive, and nothing behind it"
-property_form property.Triangle = codes "check triangle, and nothing behind it"
-property_form property.SelfSeen = codes "check selfseen, and nothing behind it"
-property_form property.Ended = codes "check ended, and nothing behind it"
-property_form property.NoFault = codes "check nofault, and nothing behind it"
+property_form property = codes "check " ++ property_text property ++ nothing_behind
 
 -- the form of a use, by the kind where there is one
 abbrev pub use_form : Option Kind → List ℕ

@@ -3,6 +3,7 @@
 ghost use Rattle.std.specs.Prelude.{◌≡◌};
 ghost use Rattle.explanations.specs.Advice as spec;
 ghost use Rattle.reglang.specs.Lines.{words};
+ghost use Rattle.reglang.specs.Spelling.{keyword_text};
 
 use crate::hints::hint_of;
 use crate::line_forms::{first_of, form_of};
@@ -15,7 +16,7 @@ use texts::{Block, Text, WriteFault};
 
 /// The word that opens a block.
 fn opener(block: Inside) -> &'static str
-    ensures { result.now ≡ spec.opener block }
+    ensures { result.now ≡ keyword_text (spec.opener block) }
 {
     match block {
         Inside::Process => "process",
@@ -26,7 +27,7 @@ fn opener(block: Inside) -> &'static str
 
 /// The word that closes it.
 fn closer(block: Inside) -> &'static str
-    ensures { result.now ≡ spec.closer block }
+    ensures { result.now ≡ keyword_text (spec.closer block) }
 {
     match block {
         Inside::Process => "end",

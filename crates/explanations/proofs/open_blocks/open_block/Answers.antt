@@ -1,4 +1,4 @@
-use Rattle.std.proofs.Common.{rules, ◌≡◌, ◌+◌, ◌-◌, ◌<◌, [], take, ap, sym, subst, ◌∙◌, arith}
+use Rattle.std.proofs.Common.{rules, ◌≡◌, ◌+◌, ◌-◌, ◌<◌, take, ap, sym, subst, ◌∙◌, arith}
 use Rattle.explanations.specs.OpenBlocks.{innermost, open_after, open_behind}
 use Rattle.reglang.specs.Lines.{lines}
 use Rattle.explanations.proofs.BlocksBehind.{past_line, past_none}

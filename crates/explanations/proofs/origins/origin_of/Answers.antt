@@ -1,4 +1,4 @@
-use Rattle.std.proofs.Common.{◌≡◌, suc, ◌∷◌, ◌+◌, ◌-◌, ◌≤◌, length, take, ap, sym, ◌∙◌, arith}
+use Rattle.std.proofs.Common.{◌≡◌, suc, ◌∷◌, ◌+◌, ◌-◌, length, take, ap, sym, ◌∙◌, arith}
 use Rattle.explanations.specs.Origins.{number_behind, path_behind}
 use Rattle.reglang.specs.Lines.{lines}
 use Rattle.explanations.proofs.origins.origin_of.Goals as goal
