@@ -1,5 +1,3 @@
-mod BoundedReads
+mod PartsFound
 mod VerdictsFound
-mod Numbers
-mod PartWords
 mod Steps

@@ -1,10 +1,5 @@
-pub mod Bounds
 pub mod Findings
-pub mod Inputs
 pub mod Merges
-pub mod NumberTexts
-pub mod Orders
-pub mod PatternTexts
 pub mod Performing
 pub mod Progress
 pub mod Runs

@@ -5,10 +5,10 @@ use Rattle.texts.specs.Appending.{Writes}
 use Rattle.command_words.specs.declared.TheConstants.{VERSION}
 use Rattle.cli.specs.Findings.{HasBeginning, IsAnswered, IsRefusedWith}
 use Rattle.cli.specs.Merges.{AreMergedIn}
-use Rattle.cli.specs.declared.orders.Order as orders
-use Rattle.cli.specs.declared.orders.Request.{Request}
-use Rattle.cli.specs.declared.orders.Request.TheVariants.{Merge, Order, Version}
-use Rattle.cli.specs.declared.orders.Task.{Task}
+use Rattle.orders.specs.declared.orders.Order as orders
+use Rattle.orders.specs.declared.orders.Request.{Request}
+use Rattle.orders.specs.declared.orders.Request.TheVariants.{Merge, Order, Version}
+use Rattle.orders.specs.declared.tasks.Task.{Task}
 
 -- the line that tells the version
 abbrev pub version_text : List ℕ

@@ -1,23 +1,14 @@
--- The statuses of the program.
+-- The statuses with which the program tells that there is no answer.
 use Rattle.std.specs.Prelude.{ℕ}
-use Rattle.cli.specs.declared.refusals.Refusal.{Refusal}
-use Rattle.cli.specs.declared.refusals.Refusal.TheVariants.{Words, Setting, Bound, Schedule, Pattern, PatternLine, NoPattern, TwiceStandard, Misfit, File, LongFile, Source, Memory, Letter, Merge, Run, Write}
+use Rattle.orders.specs.Statuses as orders
+use Rattle.cli.specs.declared.faults.AnswerFault.{AnswerFault}
+use Rattle.cli.specs.declared.faults.AnswerFault.TheVariants.{Refused, Misfit, Source, Letter, Merge, Run, Write}
 
 -- 2 where what was asked is refused, 3 where it could not be done
-abbrev pub status_of : Refusal → ℕ
-status_of Words = 2
-status_of (Setting code) = 2
-status_of (Bound bound) = 2
-status_of Schedule = 2
-status_of (Pattern place standing) = 2
-status_of (PatternLine place standing) = 2
-status_of NoPattern = 2
-status_of TwiceStandard = 2
+abbrev pub status_of : AnswerFault → ℕ
+status_of (Refused refusal) = orders.status_of refusal
 status_of (Misfit place) = 2
-status_of File = 2
-status_of LongFile = 2
 status_of (Source rejection) = 2
-status_of Memory = 3
 status_of (Letter refused) = 2
 status_of (Merge fault) = 2
 status_of (Run code) = 3

@@ -5,14 +5,14 @@ ghost use Rattle.reglang.specs.Grammar.{Spells};
 ghost use Rattle.reglang.specs.Sources.{contents_of};
 ghost use Rattle.cli.specs.Runs.{IsNextAim, IsReached, IsUnreached};
 
+use crate::faults::AnswerFault;
 use crate::findings::{Finding, found_by};
 use crate::machines::machine_of;
-use crate::orders::Task;
-use crate::refusals::Refusal;
 use crate::runs::Run;
 use crate::shortest::failing;
 use explorer::{Effort, Gate};
 use machine::Machine;
+use orders::Task;
 use std::sync::Wait;
 use std::thread::Threads;
 
@@ -58,7 +58,7 @@ impl Aim<'_> {
 pub fn reached<H: Threads + Wait + Sync, G: Gate>(
     run: &Run<'_, H, G>,
     aim: &Aim<'_>,
-) -> Result<Option<Finding>, Refusal>
+) -> Result<Option<Finding>, AnswerFault>
     requires spelled { Spells run.now.text.now (contents_of run.now.source.now) }
     requires next { IsNextAim aim.now run.now.text.now }
     ensures found { IfOk result (IsReached aim.now run.now.text.now) }

@@ -2,14 +2,13 @@
 
 ghost use Rattle.std.specs.Prelude.{◌≡◌, ◌≤◌, ◌⊎◌, IfErr, IfOk, IsNone, None, OnErr, OnOk, if◌then◌else◌, option_and_then};
 ghost use Rattle.texts.specs.Appending.{Writes};
-ghost use Rattle.cli.specs.Findings.{HasBeginning, IsAnswered, IsCutShort, IsRefusal, IsRefusedWith, finding_text};
+ghost use Rattle.cli.specs.Findings.{HasBeginning, IsAnswered, IsCutShort, IsRefusedWith, IsUnanswered, finding_text};
 
+use crate::faults::{AnswerFault, refuse};
 use crate::findings::{Finding, found};
-use crate::inputs::bytes_of;
-use crate::orders::Question;
 use crate::progress::Progress;
-use crate::refusals::{Refusal, refuse};
 use crate::wording::{explain, refuse_in_words};
+use orders::{Question, Refusal, bytes_of};
 use std::alloc::Global;
 use std::io::{Read, Write};
 use std::sync::Wait;
@@ -43,10 +42,8 @@ pub fn answer<H: Threads + Wait + Sync, R: Read + Drop, W: Write, E: Write + Sen
 {
     match written(rt, alloc, question, file, out, err) {
         Ok(fails) => u8::from(fails),
-        Err(refusal) if question.task.is_in_words() => {
-            refuse_in_words(question.path, &refusal, err)
-        }
-        Err(refusal) => refuse(&refusal, err),
+        Err(fault) if question.task.is_in_words() => refuse_in_words(question.path, &fault, err),
+        Err(fault) => refuse(&fault, err),
     }
 }
 
@@ -59,19 +56,19 @@ fn written<H: Threads + Wait + Sync, R: Read + Drop, W: Write, E: Write + Send>(
     file: Option<R>,
     out: &mut W,
     err: &mut E,
-) -> Result<bool, Refusal>
-    ensures no_file { IsNone file → result ≡ Err Refusal.File }
+) -> Result<bool, AnswerFault>
+    ensures no_file { IsNone file → result ≡ Err (AnswerFault.Refused Refusal.File) }
     ensures answered { IfOk result
         (λ fails. IsAnswered question.now.path.now question.now.task.now
         (option_and_then R.remaining file)
         (W.contents out.old) (W.contents out.new) (if fails then 1 else 0)) }
     ensures refused { IfErr result
-        (IsRefusal W.contents question.now.path.now question.now.task.now
+        (IsUnanswered W.contents question.now.path.now question.now.task.now
         (option_and_then R.remaining file)
         out.old out.new) }
 {
     let Some(file) = file else {
-        return Err(Refusal::File);
+        return Err(AnswerFault::Refused(Refusal::File));
     };
     let text = bytes_of(alloc, file)?;
     let progress = Progress::new(rt, err, question.progress);
@@ -79,42 +76,47 @@ fn written<H: Threads + Wait + Sync, R: Read + Drop, W: Write, E: Write + Send>(
     drop(progress);
     let finding = match found {
         Ok(finding) => finding,
-        Err(refusal) => return Err(explained(question, text.as_slice(), refusal, err)),
+        Err(fault) => return Err(explained(question, text.as_slice(), fault, err)),
     };
     tell(question.path, text.as_slice(), &finding, out)?;
     Ok(finding.fails())
 }
 
-/// The refusal of a text. Where refusals are told in words, a refused source is explained.
+/// Why nothing is found of a text. Where refusals are told in words, a refused source is explained.
 fn explained<E: Write>(
     question: &Question<'_>,
     text: &[u8],
-    refusal: Refusal,
+    fault: AnswerFault,
     err: &mut E,
-) -> Refusal
-    ensures { result ≡ refusal }
+) -> AnswerFault
+    ensures { result ≡ fault }
 {
     if question.task.is_in_words() {
-        explain(question.path, text, &refusal, err);
+        explain(question.path, text, &fault, err);
     }
-    refusal
+    fault
 }
 
 /// Writes what was found of the text in the file of this path, and has the writer pass it on.
-fn tell<W: Write>(path: &str, text: &[u8], finding: &Finding, out: &mut W) -> Result<(), Refusal>
+fn tell<W: Write>(
+    path: &str,
+    text: &[u8],
+    finding: &Finding,
+    out: &mut W,
+) -> Result<(), AnswerFault>
     ensures whole { OnOk result
         (Writes (W.contents out.old) (W.contents out.new)
         (finding_text path.now text.now finding.now) None) }
     ensures begun { OnErr result
         (HasBeginning (W.contents out.old) (W.contents out.new)
         (finding_text path.now text.now finding.now)) }
-    ensures err { IfErr result (λ refusal. refusal ≡ Refusal.Write) }
+    ensures err { IfErr result (λ fault. fault ≡ AnswerFault.Write) }
 {
     if finding.write(path, text, out).is_err() {
-        return Err(Refusal::Write);
+        return Err(AnswerFault::Write);
     }
     if out.flush().is_err() {
-        return Err(Refusal::Write);
+        return Err(AnswerFault::Write);
     }
     Ok(())
 }

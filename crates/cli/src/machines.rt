@@ -6,9 +6,9 @@ ghost use Rattle.reglang.specs.Sources.{source_programs};
 ghost use Rattle.uses.specs.Uses.{use_fits};
 ghost use Rattle.cli.specs.declared.machines.ProcessMachine.TheVariants as process;
 
-use crate::refusals::Refusal;
 use machine::{Interp, Machine, Told};
 use natives::{Grid, MakeFault, NameSlots, Names, Split, Tree};
+use orders::Refusal;
 use reglang::{Source, Use};
 use regmodel::Pending;
 use std::alloc::Global;

@@ -7,9 +7,10 @@ ghost use Rattle.merging.specs.MergedText.{merged_text};
 ghost use Rattle.cli.specs.Findings.{HasBeginning};
 ghost use Rattle.cli.specs.Merges.{AreMergedIn};
 
-use crate::refusals::Refusal;
+use crate::faults::AnswerFault;
 use crate::wording::refuse_in_words;
 use merging::{MergeFault, Merged, merge_parts, write_merged};
+use orders::Refusal;
 use std::alloc::Global;
 use std::io::{BufReader, Read, Write};
 
@@ -27,44 +28,44 @@ pub fn merge_file<R: Read + Drop, W: Write, E: Write>(
 {
     let merged = match merged_in(alloc, file) {
         Ok(merged) => merged,
-        Err(refusal) => return refuse_in_words(path, &refusal, err),
+        Err(fault) => return refuse_in_words(path, &fault, err),
     };
     match tell(&merged, out) {
         Ok(()) => u8::from(merged.fails()),
-        Err(refusal) => refuse_in_words(path, &refusal, err),
+        Err(fault) => refuse_in_words(path, &fault, err),
     }
 }
 
 /// What the parts in the file tell together.
-fn merged_in<R: Read + Drop>(alloc: Global, file: Option<R>) -> Result<Merged, Refusal>
+fn merged_in<R: Read + Drop>(alloc: Global, file: Option<R>) -> Result<Merged, AnswerFault>
     ensures merged { IfOk result (IsMergedOf (option_and_then R.remaining file)) }
 {
     let Some(file) = file else {
-        return Err(Refusal::File);
+        return Err(AnswerFault::Refused(Refusal::File));
     };
     let Ok(reader) = BufReader::new(alloc, file) else {
-        return Err(Refusal::Memory);
+        return Err(AnswerFault::Refused(Refusal::Memory));
     };
     match merge_parts(alloc, reader) {
         Ok(merged) => Ok(merged),
-        Err(MergeFault::NoMemory) => Err(Refusal::Memory),
-        Err(fault) => Err(Refusal::Merge(fault)),
+        Err(MergeFault::NoMemory) => Err(AnswerFault::Refused(Refusal::Memory)),
+        Err(fault) => Err(AnswerFault::Merge(fault)),
     }
 }
 
 /// Writes what parts tell together, and has the writer pass it on.
-fn tell<W: Write>(merged: &Merged, out: &mut W) -> Result<(), Refusal>
+fn tell<W: Write>(merged: &Merged, out: &mut W) -> Result<(), AnswerFault>
     ensures whole { OnOk result
         (Writes (W.contents out.old) (W.contents out.new) (merged_text merged.now) None) }
     ensures begun { OnErr result
         (HasBeginning (W.contents out.old) (W.contents out.new) (merged_text merged.now)) }
-    ensures err { IfErr result (λ refusal. refusal ≡ Refusal.Write) }
+    ensures err { IfErr result (λ fault. fault ≡ AnswerFault.Write) }
 {
     if write_merged(merged, out).is_err() {
-        return Err(Refusal::Write);
+        return Err(AnswerFault::Write);
     }
     if out.flush().is_err() {
-        return Err(Refusal::Write);
+        return Err(AnswerFault::Write);
     }
     Ok(())
 }

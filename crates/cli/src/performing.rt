@@ -1,39 +1,19 @@
 //! The whole program, over what opens its files and what takes its texts.
 
-ghost use Rattle.std.specs.Prelude.{◌≡◌, ◌⊎◌, IfErr, Option, option_and_then};
+ghost use Rattle.std.specs.Prelude.{◌≡◌, Option, option_and_then};
 ghost use Rattle.std.specs.Fn.{FnReturnsAt};
 ghost use Rattle.cli.specs.Performing.{AreAnswered, IsPerformed, IsVersionTold};
 
 use crate::answers::answer;
+use crate::faults::{AnswerFault, refuse};
 use crate::merges::merge_file;
-use crate::orders::{Order, Question, Request};
-use crate::refusals::{Refusal, refuse};
 use command_words::VERSION;
+use orders::{Order, Question, Request};
 use std::alloc::Global;
-use std::env;
-use std::env::Env;
-use std::io::{ErrorKind, Read, Write};
+use std::io::{Read, Write};
 use std::sync::Wait;
 use std::thread::Threads;
 use texts::write;
-
-/// The words of the command line, the program's name first. One that is not UTF-8 is refused.
-pub fn words_of<H: Env + AllocGlobal>(rt: &H) -> Result<Vec<String>, Refusal>
-    ensures { IfErr result (λ refusal. (refusal ≡ Refusal.Words) ⊎ (refusal ≡ Refusal.Memory)) }
-{
-    let words = match env::args(rt) {
-        Ok(words) => words,
-        Err(error) if error.kind() == ErrorKind::OutOfMemory => return Err(Refusal::Memory),
-        Err(_) => return Err(Refusal::Words),
-    };
-    let mut list = Vec::new(rt.alloc());
-    for word in words {
-        if list.push(word).is_err() {
-            return Err(Refusal::Memory);
-        }
-    }
-    Ok(list)
-}
 
 /// Does what was asked for, and gives the status: that of the words where they were refused, and nothing is done then; 0 where the version was written, else the
 /// highest of those with which
@@ -73,10 +53,10 @@ fn tell_version<W: Write, E: Write>(out: &mut W, err: &mut E) -> u8
     ensures { IsVersionTold W.contents out.old out.new result }
 {
     if write(&("regtry ", VERSION, "\n"), out).is_err() {
-        return refuse(&Refusal::Write, err);
+        return refuse(&AnswerFault::Write, err);
     }
     if out.flush().is_err() {
-        return refuse(&Refusal::Write, err);
+        return refuse(&AnswerFault::Write, err);
     }
     0
 }

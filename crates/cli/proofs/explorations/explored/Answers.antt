@@ -1,16 +1,20 @@
+use Rattle.std.proofs.Common.{sym, ◌∙◌}
 use Rattle.std.proofs.lemmas.Result.{err_from_is_err_and}
-use Rattle.reglang.specs.Sources.{contents_of}
+use Rattle.cli.proofs.PartsFound.{part_found, report_found}
 use Rattle.cli.proofs.explorations.explored.Goals as goal
-
-pub returns-in-Ok-clause-found : goal.returns-in-Ok-clause-found
-returns-in-Ok-clause-found g c =
-    λ native. rw c.in_default.is (record { source = contents_of c.args.run.now.source.now; spelled = c.requires.spelled; report_is = rw c.clauses-judge.ensures.value at c.in-Ok.ensures.explored.report; tried = c.in-Ok.ensures.explored.tried })
 
 pub returns-in_err-head-clause-refused : goal.returns-in_err-head-clause-refused
 returns-in_err-head-clause-refused g c =
-    λ native. let p = err_from_is_err_and c.from_residual.result c.from_residual.ensures.1 in rw (p.1, p.2, c.in_err-head.ensures.err) tt
+    λ native. let p = err_from_is_err_and c.from_residual.result c.from_residual.ensures.1 in rw (p.1, p.2) c.in_err-head.ensures.err
 
-pub returns-in-Ok-explore_part-clause-found : goal.returns-in-Ok-explore_part-clause-found
-returns-in-Ok-explore_part-clause-found g c =
-    λ native.
-    rw c.in-Some.is (record { source = c.args.run.now.source.now; spelled = c.requires.spelled; head_is = c.in_ok-head.ensures.head; explored = rw c.clauses-judge.ensures.value at c.in-Ok-explore_part.ensures.explored })
+pub returns-in-Some-clause-found : goal.returns-in-Some-clause-found
+returns-in-Some-clause-found g c =
+    let run = c.args.run.now in
+    let found = rw c.clauses.ensures.value at c.in-Ok.ensures.explored in
+    λ native. part_found run.source.now c.args.effort native run.text.now c.requires.spelled c.args.part c.in-Some.head c.in-Ok.found (sym c.in-Some.is ∙ c.in_ok-head.ensures.head) found
+
+pub returns-in-None-clause-found : goal.returns-in-None-clause-found
+returns-in-None-clause-found g c =
+    let run = c.args.run.now in
+    let found = rw c.clauses.ensures.value at c.in-Ok.ensures.explored in
+    λ native. report_found run.source.now c.args.effort native run.text.now c.requires.spelled c.args.part c.in-Ok.found (sym c.in-None.is ∙ c.in_ok-head.ensures.head) found

@@ -1,0 +1,3 @@
+mod BoundedReads
+mod Numbers
+mod PartWords

@@ -1,0 +1,17 @@
+-- What is read, and how standard input is named.
+use Rattle.std.specs.Prelude.{◌≡◌, ℕ, ◌<◌, ◌≤◌, Bool, List, length, Option, IfSome, codes}
+use Rattle.std.specs.Str.{bytes_eq}
+use Rattle.orders.specs.declared.inputs.TheConstants.{MOST_BYTES}
+
+-- whether a path names standard input: it is one dash
+abbrev pub is_standard : List ℕ → Bool
+is_standard path = bytes_eq path (codes "-")
+
+-- the bytes of the file, where they are known; not too many
+pub record IsTextOf (file : Option (List ℕ)) (text : List ℕ) : Type 0 where
+  pub known : IfSome file (λ bytes. text ≡ bytes)
+  pub short : length text ≤ MOST_BYTES
+
+-- more bytes than that, where they are known
+abbrev pub IsTooLong : Option (List ℕ) → Type 0
+IsTooLong file = IfSome file (λ bytes. MOST_BYTES < length bytes)

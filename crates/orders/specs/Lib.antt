@@ -1,0 +1,6 @@
+pub mod Bounds
+pub mod Inputs
+pub mod NumberTexts
+pub mod Orders
+pub mod PatternTexts
+pub mod Statuses

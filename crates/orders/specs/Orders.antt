@@ -1,0 +1,151 @@
+-- What the words of the command line ask for.
+use Rattle.std.specs.Prelude.{◌≡◌, ℕ, ◌+◌, ◌++◌, ◌≤◌, Bool, true, false, if◌then◌else◌, nat_lt, not, List, [], map, Option, Some, None, codes, decimal}
+use Rattle.std.specs.Option.{option_map}
+use Rattle.std.specs.Str.Parse.{digits_value, without_leading_plus}
+use Rattle.clap.specs.Matches.{first_value}
+use Rattle.clap.specs.Words.{matched_of, raw_values}
+use Rattle.clap.specs.declared.parser.matches.Found.{Found}
+use Rattle.patterns.specs.PatternText.{pattern_text}
+use Rattle.regmodel.specs.Settings.{Bounds}
+use Rattle.regmodel.specs.declared.limits.TheConstants.{MOST_LETTERS}
+use Rattle.regmodel.specs.ScheduleText.{schedule_text}
+use Rattle.report.specs.declared.effort.Effort.{Effort}
+use Rattle.report.specs.declared.parts.Part.{Part}
+use Rattle.orders.specs.Bounds.{IsBoundTold}
+use Rattle.orders.specs.NumberTexts.{IsNumberText}
+use Rattle.orders.specs.declared.tasks.Task.{Task}
+use Rattle.orders.specs.declared.bounds.TheConstants.{CACHE, MOST_CACHE, ROOM, SHARED_CUT}
+use Rattle.orders.specs.declared.tasks.Task.TheVariants.{Check, Explore, Least, Find, Replay, Show}
+
+-- to replay the schedule of this text
+abbrev pub IsReplayOf : List ℕ → Task → Type 0
+IsReplayOf text (Check effort native allows_faults shortest) = ⊥
+IsReplayOf text (Explore effort native part) = ⊥
+IsReplayOf text (Least effort native part) = ⊥
+IsReplayOf text (Find effort native patterns) = ⊥
+IsReplayOf text (Replay schedule) = schedule_text schedule ≡ text
+IsReplayOf text (Show schedule all) = ⊥
+
+-- to draw the schedule of this text, with all registers or with those that fit
+abbrev pub IsShowOf : List ℕ → Bool → Task → Type 0
+IsShowOf text all (Check effort native allows_faults shortest) = ⊥
+IsShowOf text all (Explore effort native part) = ⊥
+IsShowOf text all (Least effort native part) = ⊥
+IsShowOf text all (Find effort native patterns) = ⊥
+IsShowOf text all (Replay schedule) = ⊥
+IsShowOf text all (Show schedule with_all) = (schedule_text schedule ≡ text) × (with_all ≡ all)
+
+-- the number that a text writes, where it writes one; else another one
+pub record IsNumberIn (text : List ℕ) (other n : ℕ) : Type 0 where
+  pub number : IsNumberText text → n ≡ digits_value 10 (without_leading_plus text)
+  pub none : (IsNumberText text → ⊥) → n ≡ other
+
+-- the number that the text of an option writes, or another one where there is no such option
+abbrev pub IsNumberTold : Option (List ℕ) → ℕ → ℕ → Type 0
+IsNumberTold None other n = n ≡ other
+IsNumberTold (Some text) other n = IsNumberIn text other n
+
+-- whether a flag is given, as clap says it in text
+pub record IsFlagTold (text : Option (List ℕ)) (given : Bool) : Type 0 where
+  pub none : text ≡ None → given ≡ false
+  pub yes : text ≡ Some (codes "true") → given ≡ true
+  pub no : text ≡ Some (codes "false") → given ≡ false
+
+-- the settings of an exploration are those of its words; `told` gives the text of each
+pub record AreSettingsTold (told : List ℕ → Option (List ℕ)) (settings : Bounds) : Type 0 where
+  pub length : IsNumberTold (told (codes "length")) 0 settings.length
+  pub crashes : IsNumberTold (told (codes "crashes")) 0 settings.crashes
+  pub workers : IsNumberTold (told (codes "workers")) 0 settings.workers
+  pub cut : IsNumberTold (told (codes "cut")) 0 settings.cut
+  pub room : IsNumberTold (told (codes "room")) 0 settings.room
+
+-- up to which length so many workers of a check split pieces: a single one splits none
+abbrev pub cut_for : ℕ → ℕ
+cut_for workers = if nat_lt 1 workers then SHARED_CUT else 0
+
+-- the bounds of a check or a search are those of its words: without them the greatest length, no crash, and as many workers as there are processors
+pub record AreBoundsTold (told : List ℕ → Option (List ℕ)) (processors : ℕ) (settings : Bounds) : Type 0 where
+  pub length : IsBoundTold (told (codes "length")) MOST_LETTERS settings.length
+  pub crashes : IsBoundTold (told (codes "crashes")) 0 settings.crashes
+  pub workers : IsBoundTold (told (codes "workers")) processors settings.workers
+  pub cut : settings.cut ≡ cut_for settings.workers
+  pub room : settings.room ≡ ROOM
+
+-- so it is with a check or a search; the megabytes in which states are remembered are those of the words, or else CACHE
+abbrev pub IsEffortTold : (List ℕ → Option (List ℕ)) → ℕ → Effort → Type 0
+IsEffortTold told processors effort = AreBoundsTold told processors effort.settings × IsBoundTold (told (codes "cache")) CACHE effort.cache
+
+-- the megabytes in which states are remembered are those of the words, or else so many; there is a limit
+abbrev pub IsCacheTold : (List ℕ → Option (List ℕ)) → ℕ → ℕ → Type 0
+IsCacheTold told other cache = IsNumberTold (told (codes "cache")) other cache × (cache ≤ MOST_CACHE)
+
+-- use lines run as native machines, unless the words ask for interpreters
+abbrev pub IsNativeTold : (List ℕ → Option (List ℕ)) → Bool → Type 0
+IsNativeTold told native = (text : Bool) × IsFlagTold (told (codes "text")) text × (native ≡ not text)
+
+-- the word for a part: its number, and how many there are
+abbrev pub part_word : Part → List ℕ
+part_word part = decimal part.number ++ codes "/" ++ decimal part.count
+
+-- the part that an option tells, if there is one
+abbrev pub IsPartTold : Option (List ℕ) → Option Part → Type 0
+IsPartTold text part = text ≡ option_map part_word part
+
+-- the word that is given for a part, by what clap found
+abbrev pub word_told : Found → Option (List ℕ)
+word_told found = first_value found (codes "part")
+
+-- to explore as the words tell, the whole or the part of this text, for all that comes out or for the least failing schedule alone
+abbrev pub IsExploration : (List ℕ → Option (List ℕ)) → Option (List ℕ) → Task → Type 0
+IsExploration told text (Check effort native allows_faults shortest) = ⊥
+IsExploration told text (Explore effort native part) =
+    AreSettingsTold told effort.settings × IsCacheTold told 0 effort.cache × IsNativeTold told native × IsFlagTold (told (codes "least")) false
+    × IsPartTold text part
+IsExploration told text (Least effort native part) =
+    AreSettingsTold told effort.settings × IsCacheTold told 0 effort.cache × IsNativeTold told native × IsFlagTold (told (codes "least")) true
+    × IsPartTold text part
+IsExploration told text (Find effort native patterns) = ⊥
+IsExploration told text (Replay schedule) = ⊥
+IsExploration told text (Show schedule all) = ⊥
+
+-- whether use lines run as native machines
+abbrev pub is_native : Task → Bool
+is_native (Check effort native allows_faults shortest) = native
+is_native (Explore effort native part) = native
+is_native (Least effort native part) = native
+is_native (Find effort native patterns) = native
+is_native (Replay schedule) = false
+is_native (Show schedule all) = false
+
+-- to check as the words tell, and say in words what fails first, or what fails with the fewest letters
+abbrev pub IsCheck : (List ℕ → Option (List ℕ)) → ℕ → Task → Type 0
+IsCheck told processors (Check effort native allows_faults shortest) =
+    IsEffortTold told processors effort × IsNativeTold told native × IsFlagTold (told (codes "allow-faults")) allows_faults × IsFlagTold (told (codes "shortest")) shortest
+IsCheck told processors (Explore effort native part) = ⊥
+IsCheck told processors (Least effort native part) = ⊥
+IsCheck told processors (Find effort native patterns) = ⊥
+IsCheck told processors (Replay schedule) = ⊥
+IsCheck told processors (Show schedule all) = ⊥
+
+-- the texts that stand where patterns do, by what clap found
+abbrev pub texts_told : Found → List (List ℕ)
+texts_told found = elim (option_map raw_values (matched_of found (codes "PATTERN"))) [ Some texts ↦ texts | None ↦ [] ]
+
+-- to look as far as the words tell for outcomes that match one of the patterns of these texts
+abbrev pub IsFind : (List ℕ → Option (List ℕ)) → ℕ → List (List ℕ) → Task → Type 0
+IsFind told processors texts (Check effort native allows_faults shortest) = ⊥
+IsFind told processors texts (Explore effort native part) = ⊥
+IsFind told processors texts (Least effort native part) = ⊥
+IsFind told processors texts (Find effort native patterns) =
+    IsEffortTold told processors effort × IsNativeTold told native × (map pattern_text patterns.items ≡ texts)
+IsFind told processors texts (Replay schedule) = ⊥
+IsFind told processors texts (Show schedule all) = ⊥
+
+-- how many lists of machines it takes: one for each worker, and one more where a schedule that is found is to be drawn
+abbrev pub lists_of : Task → ℕ
+lists_of (Check effort native allows_faults shortest) = effort.settings.workers + 1
+lists_of (Explore effort native part) = effort.settings.workers
+lists_of (Least effort native part) = effort.settings.workers
+lists_of (Find effort native patterns) = effort.settings.workers + 1
+lists_of (Replay schedule) = 1
+lists_of (Show schedule all) = 1

@@ -1,0 +1,18 @@
+-- The statuses with which the program tells that the words of the command line, or what they name, are refused.
+use Rattle.std.specs.Prelude.{ℕ}
+use Rattle.orders.specs.declared.refusals.Refusal.{Refusal}
+use Rattle.orders.specs.declared.refusals.Refusal.TheVariants.{Words, Setting, Bound, Schedule, Pattern, PatternLine, NoPattern, TwiceStandard, File, LongFile, Memory}
+
+-- 2 where what was asked is refused, 3 where it could not be done
+abbrev pub status_of : Refusal → ℕ
+status_of Words = 2
+status_of (Setting code) = 2
+status_of (Bound bound) = 2
+status_of Schedule = 2
+status_of (Pattern place standing) = 2
+status_of (PatternLine place standing) = 2
+status_of NoPattern = 2
+status_of TwiceStandard = 2
+status_of File = 2
+status_of LongFile = 2
+status_of Memory = 3

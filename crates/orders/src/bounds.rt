@@ -1,0 +1,131 @@
+//! How far the words of a check or a search ask to go.
+
+ghost use Rattle.std.specs.Prelude.{◌≡◌, ◌<◌, ◌≤◌, ℕ, IfErr, IfOk};
+ghost use Rattle.clap.specs.Words.{found_of, one_text};
+ghost use Rattle.regmodel.specs.declared.limits.TheConstants.{MOST_WORKERS};
+ghost use Rattle.orders.specs.Bounds as spec;
+ghost use Rattle.orders.specs.Bounds.{IsBoundTold};
+ghost use Rattle.orders.specs.Orders.{AreBoundsTold};
+
+use crate::refusals::Refusal;
+use clap::ArgMatches;
+use regmodel::Settings;
+use regmodel::limits::{MOST_CRASHES, MOST_LETTERS, MOST_WORKERS};
+use std::thread;
+use std::thread::Threads;
+
+/// Up to which length a check splits beginnings of schedules into pieces where several workers share them. Each piece begins with nothing
+/// remembered, so they are few.
+const SHARED_CUT: u32 = 1;
+
+/// How many pieces each worker of a check may put up for the others.
+const ROOM: u32 = 64;
+
+/// In how many megabytes a check or a search remembers states, unless its words say.
+pub const CACHE: u32 = 128;
+
+/// The most megabytes in which states are remembered.
+pub const MOST_CACHE: u32 = 65536;
+
+/// How many processors there are taken to be where the system does not tell.
+const PROCESSORS: u32 = 4;
+
+/// What an option of a check or a search bounds.
+#[derive(Clone, Copy, PartialEq, Eq, Debug)]
+pub enum Bound {
+    /// The letters of a schedule.
+    Length,
+    /// The processes that crash.
+    Crashes,
+    /// The workers, at least one.
+    Workers,
+    /// The megabytes in which states are remembered.
+    Cache,
+}
+
+impl Bound {
+    ghost use Rattle.std.specs.Prelude.{◌≡◌};
+    ghost use Rattle.orders.specs.Bounds as spec;
+
+    /// The name of its option.
+    pub fn name(self) -> &'static str
+        ensures { result.now ≡ spec.name_of self }
+    {
+        match self {
+            Bound::Length => "length",
+            Bound::Crashes => "crashes",
+            Bound::Workers => "workers",
+            Bound::Cache => "cache",
+        }
+    }
+
+    /// The least number that it takes.
+    pub fn least(self) -> u32
+        ensures { result ≡ spec.least_of self }
+    {
+        match self {
+            Bound::Length | Bound::Crashes | Bound::Cache => 0,
+            Bound::Workers => 1,
+        }
+    }
+
+    /// The greatest number that it takes.
+    pub fn most(self) -> u32
+        ensures { result ≡ spec.most_of self }
+    {
+        match self {
+            Bound::Length => MOST_LETTERS,
+            Bound::Crashes => MOST_CRASHES,
+            Bound::Workers => MOST_WORKERS,
+            Bound::Cache => MOST_CACHE,
+        }
+    }
+}
+
+/// How many processors there are, as far as workers can be as many: so many workers has a check or a search whose words do not say.
+pub(crate) fn processors<H: Threads>(rt: &H) -> u32
+    ensures some { 0 < result }
+    ensures few { result ≤ MOST_WORKERS }
+{
+    match thread::available_parallelism(rt) {
+        Ok(count) => count.get().min(MOST_WORKERS as usize) as u32,
+        Err(_) => PROCESSORS,
+    }
+}
+
+/// How far the words of a check or a search ask to go. The error tells the first bound whose text is no number, or not one that it takes.
+pub fn bounds_of(words: &ArgMatches<'_>, processors: u32) -> Result<Settings, Refusal>
+    requires some { 0 < processors }
+    requires few { processors ≤ MOST_WORKERS }
+    ensures ok { IfOk result (AreBoundsTold (one_text (found_of words.now)) processors) }
+    ensures err { IfErr result spec.IsBoundRefused }
+{
+    let length = bound_of(words, Bound::Length, MOST_LETTERS)?;
+    let crashes = bound_of(words, Bound::Crashes, 0)?;
+    let workers = bound_of(words, Bound::Workers, processors)?;
+    let cut = if workers > 1 { SHARED_CUT } else { 0 };
+    match Settings::new(length, crashes, workers, cut, ROOM) {
+        Ok(settings) => Ok(settings),
+        Err(_) => unreachable!(),
+    }
+}
+
+/// The number that the words give for a bound, or another one where they give none.
+pub(crate) fn bound_of(words: &ArgMatches<'_>, bound: Bound, other: u32) -> Result<u32, Refusal>
+    requires { (spec.least_of bound ≤ other) × (other ≤ spec.most_of bound) }
+    ensures told { IfOk result
+        (IsBoundTold (one_text (found_of words.now) (spec.name_of bound)) other) }
+    ensures within { IfOk result
+        (λ number. (spec.least_of bound ≤ number) × (number ≤ spec.most_of bound)) }
+    ensures refused { IfErr result
+        (λ refusal. (number : ℕ)
+        → IsBoundTold (one_text (found_of words.now) (spec.name_of bound)) other number
+        → spec.least_of bound ≤ number → number ≤ spec.most_of bound → ⊥) }
+    ensures err { IfErr result (λ refusal. refusal ≡ Refusal.Bound bound) }
+{
+    match words.try_get_one::<u32>(bound.name()) {
+        Ok(Some(number)) if bound.least() <= number && number <= bound.most() => Ok(number),
+        Ok(None) => Ok(other),
+        _ => Err(Refusal::Bound(bound)),
+    }
+}

@@ -1,0 +1,83 @@
+//! Where a source and patterns are read from: a file, or standard input.
+
+ghost use Rattle.std.specs.Prelude.{◌≡◌, ◌⊎◌, IfErr, IfOk, Option, Some, false, option_map, true};
+ghost use Rattle.std.specs.Fn.{FnOnceReturnsAt};
+ghost use Rattle.orders.specs.Inputs.{IsTextOf, IsTooLong, is_standard};
+ghost use Rattle.orders.specs.declared.inputs.Input.TheVariants as input;
+
+use crate::refusals::Refusal;
+use std::alloc::Global;
+use std::io;
+use std::io::{ErrorKind, Read};
+
+/// How standard input is named where a file may be.
+pub const STANDARD_INPUT: &str = "-";
+
+/// The most bytes of a source, and of patterns.
+pub const MOST_BYTES: u64 = 1048576;
+
+/// What is read: standard input, or a file.
+#[derive(Drop)]
+pub enum Input<S, F> {
+    /// Standard input.
+    Standard(S),
+    /// A file.
+    File(F),
+}
+
+impl<S: Read, F: Read> Read for Input<S, F> {
+    ghost remaining = { λ i. elim i [ input.Standard s ↦ S.remaining s | input.File f ↦ F.remaining f ] };
+
+    fn read(&mut self, buf: &mut [u8]) -> io::Result<usize> {
+        match self {
+            Input::Standard(standard) => standard.read(buf),
+            Input::File(file) => file.read(buf),
+        }
+    }
+}
+
+/// What a path names: standard input where it is a dash, else the file that `opener` gives for it, which is None where it cannot be opened.
+pub fn input_of<S: Drop, F, O: FnOnce(&str) -> Option<F> + Drop>(
+    path: &str,
+    standard: S,
+    opener: O,
+) -> Option<Input<S, F>>
+    requires { O.IsAlwaysCallable opener }
+    ensures standard { is_standard path.now ≡ true → result ≡ Some (input.Standard standard) }
+    ensures file { is_standard path.now ≡ false
+        → (file : Option F) × FnOnceReturnsAt O.FnOnce opener path.now file
+        × (result ≡ option_map input.File file) }
+{
+    if is_standard(path) {
+        return Some(Input::Standard(standard));
+    }
+    match opener(path) {
+        Some(file) => Some(Input::File(file)),
+        None => None,
+    }
+}
+
+/// Whether a path names standard input.
+pub(crate) fn is_standard(path: &str) -> bool
+    ensures { result ≡ is_standard path.now }
+{
+    path == STANDARD_INPUT
+}
+
+/// All bytes of a file, where they are not too many.
+pub fn bytes_of<R: Read + Drop>(alloc: Global, file: R) -> Result<Vec<u8>, Refusal>
+    ensures text { IfOk result (λ bytes. IsTextOf (R.remaining file) bytes.items) }
+    ensures err { IfErr result
+        (λ refusal. (refusal ≡ Refusal.File) ⊎ (refusal ≡ Refusal.LongFile)
+        ⊎ (refusal ≡ Refusal.Memory)) }
+    ensures long { IfErr result
+        (λ refusal. refusal ≡ Refusal.LongFile → IsTooLong (R.remaining file)) }
+{
+    let mut bytes = Vec::new(alloc);
+    match file.take(MOST_BYTES + 1).read_to_end(&mut bytes) {
+        Ok(count) if count as u64 <= MOST_BYTES => Ok(bytes),
+        Ok(_) => Err(Refusal::LongFile),
+        Err(error) if error.kind() == ErrorKind::OutOfMemory => Err(Refusal::Memory),
+        Err(_) => Err(Refusal::File),
+    }
+}

@@ -1,0 +1,21 @@
+//! The words of the command line, and the order that they give.
+#![tactic(auto)]
+
+mod bounds;
+mod inputs;
+mod options;
+mod orders;
+mod parts_told;
+mod patterns_told;
+mod refusals;
+mod tasks;
+mod wording;
+mod words;
+
+pub use bounds::Bound;
+pub use inputs::{Input, MOST_BYTES, bytes_of, input_of};
+pub use orders::{Order, Request, command};
+pub use refusals::{Refusal, refuse};
+pub use tasks::{Question, Task};
+pub use wording::write_words;
+pub use words::words_of;

@@ -1,0 +1,34 @@
+//! The options and flags that the words of the command line give.
+
+ghost use Rattle.clap.specs.Words.{found_of, one_text};
+ghost use Rattle.orders.specs.Orders.{IsFlagTold, IsNativeTold, IsNumberTold};
+
+use clap::ArgMatches;
+
+/// Whether use lines run as native machines, by the words.
+pub(crate) fn is_native(words: &ArgMatches<'_>) -> bool
+    ensures { IsNativeTold (one_text (found_of words.now)) result }
+{
+    !has_flag(words, "text")
+}
+
+/// Whether a flag is given.
+pub(crate) fn has_flag(words: &ArgMatches<'_>, name: &str) -> bool
+    ensures { IsFlagTold (one_text (found_of words.now) name.now) result }
+{
+    words.get_flag(name)
+}
+
+/// The number of a required option.
+pub(crate) fn number_of(words: &ArgMatches<'_>, name: &str) -> u32
+    ensures { IsNumberTold (one_text (found_of words.now) name.now) 0 result }
+{
+    number_or(words, name, 0)
+}
+
+/// The number of an option, or another one where it is not given.
+pub(crate) fn number_or(words: &ArgMatches<'_>, name: &str, other: u32) -> u32
+    ensures { IsNumberTold (one_text (found_of words.now) name.now) other result }
+{
+    words.get_one::<u32>(name).unwrap_or(other)
+}

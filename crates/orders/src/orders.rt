@@ -1,0 +1,302 @@
+//! What the words of the command line ask for.
+
+ghost use Rattle.std.specs.Prelude.{◌≡◌, ◌≢◌, ◌<◌, ◌≤◌, ◌⊎◌, ℕ, Err, IfErr, IfOk, List, Option, codes, map, not, option_and_then};
+ghost use Rattle.std.specs.Fn.{FnReturnsAt};
+ghost use Rattle.clap.specs.Words.{found_of, one_text};
+ghost use Rattle.regmodel.specs.declared.letters.Letter.{Letter};
+ghost use Rattle.regmodel.specs.declared.limits.TheConstants.{MOST_WORKERS};
+ghost use Rattle.regmodel.specs.Prefixes.{FitsPrefix};
+ghost use Rattle.regmodel.specs.ScheduleText.{schedule_text};
+ghost use Rattle.orders.specs.Bounds.{IsBoundRefused};
+ghost use Rattle.orders.specs.Orders.{IsCheck, IsEffortTold, IsExploration, IsFind, IsReplayOf, IsShowOf, texts_told, word_told};
+ghost use Rattle.orders.specs.Inputs.{IsTextOf};
+ghost use Rattle.orders.specs.PatternTexts.{AreTextsOf};
+ghost use Rattle.orders.specs.Statuses.{status_of};
+
+use crate::bounds::{Bound, CACHE, MOST_CACHE, bound_of, bounds_of, processors};
+use crate::inputs::{STANDARD_INPUT, is_standard};
+use crate::options::{has_flag, is_native, number_of};
+use crate::parts_told::part_told;
+use crate::patterns_told::{are_standard, patterns_told};
+use crate::refusals::{Refusal, refuse};
+use crate::tasks::Task;
+use crate::wording::refuse_in_words;
+use clap::ArgMatches;
+use clap::error::ErrorKind;
+use command_words::matches_of;
+use regmodel::{Prefix, Settings, read_schedule};
+use report::Effort;
+use std::alloc::Global;
+use std::convert::AsStr;
+use std::io::{Read, Write};
+use std::thread::Threads;
+
+/// The number of the setting that says in how many megabytes states are remembered. Those of `Settings` are 1 to 5.
+const CACHE_SETTING: u8 = 7;
+
+/// What is asked for.
+#[derive(Debug, Drop)]
+pub struct Order<'a> {
+    /// The files that hold sources, in the order in which they are named: one, but for a check any number of them.
+    pub paths: Vec<&'a str>,
+    /// What to do with each of them.
+    pub task: Task,
+    /// Whether it is to be told meanwhile how far it has come. A replay and a drawing never tell.
+    pub progress: bool,
+}
+
+/// What the words of the command line ask for.
+#[derive(Debug, Drop)]
+pub enum Request<'a> {
+    /// The version of the program.
+    Version,
+    /// To do something with files.
+    Order(Order<'a>),
+    /// To merge the parts of an exploration that are in this file.
+    Merge(&'a str),
+}
+
+/// Reads the words of the command line, the program's name first. Where they are refused, also where they ask for help, a setting is past
+/// its limit, or a schedule or a pattern is no text of one, it prints why, and the error is the status. A check or a search has as many
+/// workers as there are processors, 1 to 16, where the words do not say how many: `rt` tells that. `opener` gives what is read for a path,
+/// here for that of standard input where the words say that patterns are read from it.
+pub fn command<
+    'a,
+    H: Threads + AllocGlobal,
+    S: AsStr,
+    R: Read + Drop,
+    F: Fn(&str) -> Option<R>,
+    E: Write,
+>(rt: &H, words: &'a Result<Vec<S>, Refusal>, opener: &F, err: &mut E) -> Result<Request<'a>, u8>
+    requires { F.IsAlwaysCallable opener.now }
+    ensures words { IfErr words.now (λ refusal. result ≡ Err (status_of refusal)) }
+    ensures err { IfErr result (λ status. (status ≡ 2) ⊎ (status ≡ 3)) }
+{
+    let words = match words {
+        Ok(words) => words.as_slice(),
+        Err(refusal) => return Err(refuse(refusal, err)),
+    };
+    match matches_of(rt.alloc(), words) {
+        Ok(matches) => {
+            if let Some(path) = merge_of(&matches) {
+                return Ok(Request::Merge(path));
+            }
+            let order = order_of(rt, &matches, opener, err)?;
+            Ok(Request::Order(order))
+        }
+        Err(error) if matches!(error.kind(), ErrorKind::DisplayVersion) => Ok(Request::Version),
+        Err(error) => {
+            let _ = write!(err, "{error}");
+            Err(2)
+        }
+    }
+}
+
+/// The file whose parts are to be merged, where words that clap took ask for that.
+fn merge_of<'a>(matches: &ArgMatches<'a>) -> Option<&'a str> {
+    match matches.subcommand() {
+        Some(("merge", words)) => words.get_str("FILE"),
+        _ => None,
+    }
+}
+
+/// The order of words that clap took.
+fn order_of<'a, H: Threads + AllocGlobal, R: Read + Drop, F: Fn(&str) -> Option<R>, E: Write>(
+    rt: &H,
+    matches: &ArgMatches<'a>,
+    opener: &F,
+    err: &mut E,
+) -> Result<Order<'a>, u8>
+    requires { F.IsAlwaysCallable opener.now }
+    ensures { IfErr result (λ status. (status ≡ 2) ⊎ (status ≡ 3)) }
+{
+    let Some((name, words)) = matches.subcommand() else {
+        return Err(2);
+    };
+    let task = match name {
+        "check" => check_of(words, processors(rt)),
+        "find" => find_of(rt.alloc(), words, processors(rt), opener),
+        "replay" => replay_of(words.get_str("SCHEDULE").unwrap_or("")),
+        "show" => show_of(
+            words.get_str("SCHEDULE").unwrap_or(""),
+            words.get_flag("all"),
+        ),
+        _ => exploration_of(words),
+    };
+    let refusal = match task {
+        Ok(task) => match Vec::from_slice(rt.alloc(), words.get_strs("FILE").unwrap_or(&[])) {
+            Ok(paths) => {
+                return Ok(Order {
+                    paths,
+                    task,
+                    progress: words.get_flag("progress"),
+                });
+            }
+            Err(_) => Refusal::Memory,
+        },
+        Err(refusal) => refusal,
+    };
+    if name == "check" || name == "find" || name == "show" {
+        let subject = subject_of(words, &refusal);
+        return Err(refuse_in_words(subject, &refusal, err));
+    }
+    Err(refuse(&refusal, err))
+}
+
+/// Of what a refusal of words tells: the text that is given for a bound, or standard input, of which patterns are read.
+fn subject_of<'a>(words: &ArgMatches<'a>, refusal: &Refusal) -> &'a str {
+    match refusal {
+        Refusal::Bound(bound) => words.get_str(bound.name()).unwrap_or(""),
+        _ => STANDARD_INPUT,
+    }
+}
+
+/// How far the words of `check` ask to check, whether they allow faults, and whether they ask for the shortest failing schedule.
+fn check_of(words: &ArgMatches<'_>, processors: u32) -> Result<Task, Refusal>
+    requires some { 0 < processors }
+    requires few { processors ≤ MOST_WORKERS }
+    ensures ok { IfOk result (IsCheck (one_text (found_of words.now)) processors) }
+    ensures err { IfErr result (λ refusal. status_of refusal ≡ 2) }
+{
+    let effort = effort_of(words, processors)?;
+    let native = is_native(words);
+    let allows_faults = has_flag(words, "allow-faults");
+    let shortest = has_flag(words, "shortest");
+    Ok(Task::Check {
+        effort,
+        native,
+        allows_faults,
+        shortest,
+    })
+}
+
+/// How far the words of a check or a search ask to go, and in how many megabytes states are remembered.
+fn effort_of(words: &ArgMatches<'_>, processors: u32) -> Result<Effort, Refusal>
+    requires some { 0 < processors }
+    requires few { processors ≤ MOST_WORKERS }
+    ensures ok { IfOk result (IsEffortTold (one_text (found_of words.now)) processors) }
+    ensures err { IfErr result IsBoundRefused }
+{
+    let settings = bounds_of(words, processors)?;
+    let cache = bound_of(words, Bound::Cache, CACHE)?;
+    Ok(Effort { settings, cache })
+}
+
+/// How far the words of `find` ask to look, and for which outcomes. Standard input cannot be both the source and the patterns.
+fn find_of<R: Read + Drop, F: Fn(&str) -> Option<R>>(
+    alloc: Global,
+    words: &ArgMatches<'_>,
+    processors: u32,
+    opener: &F,
+) -> Result<Task, Refusal>
+    requires callable { F.IsAlwaysCallable opener.now }
+    requires some { 0 < processors }
+    requires few { processors ≤ MOST_WORKERS }
+    ensures ok { IfOk result
+        (λ task. (texts : List (List ℕ))
+        × AreTextsOf
+        (λ text. (file : Option R) × FnReturnsAt F.Fn opener.now (codes "-") file
+        × IsTextOf (option_and_then R.remaining file) text)
+        (texts_told (found_of words.now)) texts
+        × IsFind (one_text (found_of words.now)) processors texts task) }
+    ensures err { IfErr result
+        (λ refusal. (status_of refusal ≡ 2) ⊎ (refusal ≡ Refusal.Memory)) }
+{
+    let effort = effort_of(words, processors)?;
+    let native = is_native(words);
+    let texts = pattern_words(words);
+    if is_standard(words.get_str("FILE").unwrap_or("")) && are_standard(texts) {
+        return Err(Refusal::TwiceStandard);
+    }
+    let patterns = patterns_told(alloc, texts, opener)?;
+    Ok(Task::Find {
+        effort,
+        native,
+        patterns,
+    })
+}
+
+/// The words that are patterns.
+fn pattern_words<'a>(words: &'a ArgMatches<'_>) -> &'a [&'a str]
+    ensures { map (λ text. text.now) result.now ≡ texts_told (found_of words.now) }
+{
+    words.get_strs("PATTERN").unwrap_or(&[])
+}
+
+/// How far the words of `explore` ask to explore. The error tells the lowest setting that they give past its limit, by its number: 1 to 5
+/// are those of `Settings`, 6 is the part, 7 the megabytes.
+fn exploration_of(words: &ArgMatches<'_>) -> Result<Task, Refusal>
+    ensures ok { IfOk result
+        (IsExploration (one_text (found_of words.now)) (word_told (found_of words.now))) }
+    ensures err { IfErr result (λ refusal. status_of refusal ≡ 2) }
+{
+    let settings = Settings::new(
+        number_of(words, "length"),
+        number_of(words, "crashes"),
+        number_of(words, "workers"),
+        number_of(words, "cut"),
+        number_of(words, "room"),
+    );
+    let settings = match settings {
+        Ok(settings) => settings,
+        Err(fault) => return Err(Refusal::Setting(fault.code)),
+    };
+    let part = part_told(words)?;
+    let cache = number_of(words, "cache");
+    if cache > MOST_CACHE {
+        return Err(Refusal::Setting(CACHE_SETTING));
+    }
+    let effort = Effort { settings, cache };
+    let native = is_native(words);
+    if has_flag(words, "least") {
+        return Ok(Task::Least {
+            effort,
+            native,
+            part,
+        });
+    }
+    Ok(Task::Explore {
+        effort,
+        native,
+        part,
+    })
+}
+
+/// To replay the schedule of this text.
+fn replay_of(text: &str) -> Result<Task, Refusal>
+    ensures ok { IfOk result (λ task. IsReplayOf text.now task) }
+    ensures none { IfErr result
+        (λ refusal. (w : List Letter) → FitsPrefix w → schedule_text w ≢ text.now) }
+    ensures err { IfErr result (λ refusal. refusal ≡ Refusal.Schedule) }
+{
+    match schedule_of(text) {
+        Ok(schedule) => Ok(Task::Replay { schedule }),
+        Err(refusal) => Err(refusal),
+    }
+}
+
+/// To draw the schedule of this text.
+fn show_of(text: &str, all: bool) -> Result<Task, Refusal>
+    ensures ok { IfOk result (λ task. IsShowOf text.now all task) }
+    ensures none { IfErr result
+        (λ refusal. (w : List Letter) → FitsPrefix w → schedule_text w ≢ text.now) }
+    ensures err { IfErr result (λ refusal. refusal ≡ Refusal.Schedule) }
+{
+    match schedule_of(text) {
+        Ok(schedule) => Ok(Task::Show { schedule, all }),
+        Err(refusal) => Err(refusal),
+    }
+}
+
+/// The schedule of this text.
+fn schedule_of(text: &str) -> Result<Prefix, Refusal>
+    ensures ok { IfOk result (λ schedule. schedule_text schedule ≡ text.now) }
+    ensures none { IfErr result
+        (λ refusal. (w : List Letter) → FitsPrefix w → schedule_text w ≢ text.now) }
+    ensures err { IfErr result (λ refusal. refusal ≡ Refusal.Schedule) }
+{
+    match read_schedule(text.as_bytes()) {
+        Some(schedule) => Ok(schedule),
+        None => Err(Refusal::Schedule),
+    }
+}

@@ -1,0 +1,109 @@
+//! The patterns that the words of the command line tell.
+
+ghost use Rattle.std.specs.Prelude.{◌≡◌, ◌⊎◌, List, IfErr, IfOk, Option, codes, map, option_and_then};
+ghost use Rattle.std.specs.Fn.{FnReturnsAt};
+ghost use Rattle.patterns.specs.PatternText.{pattern_text};
+ghost use Rattle.orders.specs.Inputs.{IsTextOf};
+ghost use Rattle.orders.specs.PatternTexts as spec;
+ghost use Rattle.orders.specs.PatternTexts.{AreTextsOf};
+ghost use Rattle.orders.specs.Statuses.{status_of};
+
+use crate::inputs::{STANDARD_INPUT, bytes_of, is_standard};
+use crate::refusals::Refusal;
+use patterns::{Pattern, read_pattern};
+use reglang::split_line;
+use std::alloc::Global;
+use std::io::Read;
+
+/// What stands before an outcome in a report.
+const LABEL: &[u8] = b"outcome ";
+
+/// The patterns of the words that stand where patterns do; or where that is one dash, of the lines of standard input, which `opener` gives for it.
+/// The first text that no pattern has is refused, and standard input without a line.
+pub fn patterns_told<R: Read + Drop, F: Fn(&str) -> Option<R>>(
+    alloc: Global,
+    words: &[&str],
+    opener: &F,
+) -> Result<Vec<Pattern>, Refusal>
+    requires { F.IsAlwaysCallable opener.now }
+    ensures ok { IfOk result
+        (λ patterns. AreTextsOf
+        (λ text. (file : Option R) × FnReturnsAt F.Fn opener.now (codes "-") file
+        × IsTextOf (option_and_then R.remaining file) text)
+        (map (λ word. word.now) words.now) (map pattern_text patterns.items)) }
+    ensures err { IfErr result
+        (λ refusal. (status_of refusal ≡ 2) ⊎ (refusal ≡ Refusal.Memory)) }
+{
+    if !are_standard(words) {
+        return patterns_of(alloc, words);
+    }
+    let Some(file) = opener(STANDARD_INPUT) else {
+        return Err(Refusal::File);
+    };
+    match bytes_of(alloc, file) {
+        Ok(text) => patterns_in(alloc, text.as_slice()),
+        Err(refusal) => Err(refusal),
+    }
+}
+
+/// Whether patterns are read from standard input: one word stands where they do, and names it.
+pub fn are_standard(words: &[&str]) -> bool
+    ensures { result ≡ spec.are_standard (map (λ word. word.now) words.now) }
+{
+    match words {
+        [word] => is_standard(word),
+        _ => false,
+    }
+}
+
+/// The patterns of these texts.
+fn patterns_of(alloc: Global, texts: &[&str]) -> Result<Vec<Pattern>, Refusal>
+    ensures ok { IfOk result
+        (λ patterns. map pattern_text patterns.items ≡ map (λ text. text.now) texts.now) }
+    ensures err { IfErr result
+        (λ refusal. (status_of refusal ≡ 2) ⊎ (refusal ≡ Refusal.Memory)) }
+{
+    let mut patterns = Vec::new(alloc);
+    for text in texts {
+        let pattern = match read_pattern(text.as_bytes()) {
+            Ok(pattern) => pattern,
+            Err(bad) => return Err(Refusal::Pattern(patterns.len(), bad.place)),
+        };
+        patterns.push(pattern)?;
+    }
+    Ok(patterns)
+}
+
+/// The patterns of the lines of a text, of which there has to be one.
+fn patterns_in(alloc: Global, text: &[u8]) -> Result<Vec<Pattern>, Refusal>
+    ensures ok { IfOk result
+        (λ patterns. map pattern_text patterns.items ≡ spec.texts_in text.now) }
+    ensures err { IfErr result
+        (λ refusal. (status_of refusal ≡ 2) ⊎ (refusal ≡ Refusal.Memory)) }
+{
+    let mut patterns = Vec::new(alloc);
+    let mut rest = text;
+    while let Some((line, after)) = split_line(rest) {
+        let pattern = match read_pattern(past_label(line)) {
+            Ok(pattern) => pattern,
+            Err(bad) => return Err(Refusal::PatternLine(patterns.len(), bad.place)),
+        };
+        patterns.push(pattern)?;
+        rest = after;
+    }
+    if patterns.is_empty() {
+        return Err(Refusal::NoPattern);
+    }
+    Ok(patterns)
+}
+
+/// A line without the word that a report puts before an outcome.
+fn past_label(line: &[u8]) -> &[u8]
+    ensures { result.now ≡ spec.past_label line.now }
+{
+    if line.starts_with(LABEL) {
+        &line[LABEL.len()..]
+    } else {
+        line
+    }
+}

@@ -1,0 +1,96 @@
+//! What to do with a source.
+
+ghost use Rattle.std.specs.Prelude.{◌≡◌};
+
+use patterns::Pattern;
+use regmodel::Prefix;
+use report::{Effort, Part};
+
+/// What to do with a source.
+#[derive(Debug, Drop)]
+pub enum Task {
+    /// Check it this far, and say in words what fails: the least failing schedule, or the least
+    /// of the shortest; a process at fault fails it unless that is allowed.
+    Check {
+        effort: Effort,
+        native: bool,
+        allows_faults: bool,
+        shortest: bool,
+    },
+    /// Explore it this far, or one part of it, with native machines for use lines or with interpreters alone.
+    Explore {
+        effort: Effort,
+        native: bool,
+        part: Option<Part>,
+    },
+    /// Look for its least failing schedule alone, as far and with the same machines, or for that of one part.
+    Least {
+        effort: Effort,
+        native: bool,
+        part: Option<Part>,
+    },
+    /// Look this far for the least schedule whose outcome matches one of these patterns.
+    Find {
+        effort: Effort,
+        native: bool,
+        patterns: Vec<Pattern>,
+    },
+    /// Replay this schedule.
+    Replay {
+        schedule: Prefix,
+    },
+    /// Draw this schedule, with all registers or with those that fit into a line.
+    Show {
+        schedule: Prefix,
+        all: bool,
+    },
+}
+
+impl Task {
+    ghost use Rattle.orders.specs.Orders.{is_native, lists_of};
+
+    /// How many lists of machines it takes: one for each worker; a check and a search take one more, to draw what is found.
+    pub fn lists(&self) -> u32
+        ensures { result ≡ lists_of self.now }
+    {
+        match self {
+            Task::Check { effort, .. } => effort.settings.workers() + 1,
+            Task::Explore { effort, .. } => effort.settings.workers(),
+            Task::Least { effort, .. } => effort.settings.workers(),
+            Task::Find { effort, .. } => effort.settings.workers() + 1,
+            Task::Replay { .. } | Task::Show { .. } => 1,
+        }
+    }
+
+    /// Whether use lines run as native machines. A replay and a drawing have interpreters alone.
+    pub fn is_native(&self) -> bool
+        ensures { result ≡ is_native self.now }
+    {
+        match self {
+            Task::Check { native, .. } => *native,
+            Task::Explore { native, .. } => *native,
+            Task::Least { native, .. } => *native,
+            Task::Find { native, .. } => *native,
+            Task::Replay { .. } | Task::Show { .. } => false,
+        }
+    }
+
+    /// Whether its refusals are told in words.
+    pub fn is_in_words(&self) -> bool {
+        matches!(
+            self,
+            Task::Check { .. } | Task::Find { .. } | Task::Show { .. }
+        )
+    }
+}
+
+/// What is asked of one file.
+#[derive(Clone, Copy, Debug)]
+pub struct Question<'a> {
+    /// The file that holds the source.
+    pub path: &'a str,
+    /// What to do with it.
+    pub task: &'a Task,
+    /// Whether it is to be told meanwhile how far it has come.
+    pub progress: bool,
+}
