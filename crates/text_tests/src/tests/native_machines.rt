@@ -19,11 +19,6 @@ const LIMIT: u32 = 1000000000;
 /// How many lists of replies each pair of machines is given.
 const LISTS: u32 = 1000;
 
-/// The interpreter of a use line over so many registers.
-fn text(alloc: Global, kind: &Use, registers: u32) -> Result<Interp, Fail> {
-    Ok(Interp::make(alloc, expand(alloc, kind, registers)?)?)
-}
-
 /// Whether these are as many values as are read, each of which a register may hold.
 fn are_values(reply: &[u32], count: u8) -> bool
     ensures { IsTrue result
@@ -59,16 +54,17 @@ fn done(numbers: &[u32]) -> Pending {
 }
 
 #[test]
-fn numbers_past_a_limit_are_refused(rt: HostRuntime) -> Result<(), Fail> {
-    let refused = Some(MakeFault { code: 1 });
-    assert!(rt; Split::make(0, 0, 2).err() == refused);
-    assert!(rt; Split::make(1, 1, 2).err() == refused);
-    assert!(rt; Grid::make(0, 8, 1, 64).err() == refused);
-    assert!(rt; Tree::make(0, 5, 1, 1, 64).err() == refused);
-    assert!(rt; NameSlots::make(0, 2, 2, 2).err() == refused);
-    assert!(rt; Names::make(0, 2, 2, 2).err() == refused);
-    assert!(rt; Names::make(1, 2, 0, 2).err() == refused);
-    Ok(())
+fn numbers_past_a_limit_are_refused(rt: HostRuntime) {
+    let made = [
+        Split::make(0, 0, 2).err(),
+        Split::make(1, 1, 2).err(),
+        Grid::make(0, 8, 1, 64).err(),
+        Tree::make(0, 5, 1, 1, 64).err(),
+        NameSlots::make(0, 2, 2, 2).err(),
+        Names::make(0, 2, 2, 2).err(),
+        Names::make(1, 2, 0, 2).err(),
+    ];
+    assert!(rt; made == [Some(MakeFault { code: 1 }); 7]);
 }
 
 /// A value that is read: often what the machine wrote last, 0 or a small number, and now and then any number.
@@ -123,43 +119,48 @@ fn beside<M: Machine>(
     native.pending()
 }
 
-/// Gives a native machine and its interpreter many lists of replies. Gives how many of them ended like this.
-fn beside_often<M: Machine>(
-    rt: &impl Abort,
+/// Gives a native machine and the interpreter of its use line many lists of replies, some of which end like this.
+fn does_as_its_program<M: Machine>(
+    rt: &(impl Abort + AllocGlobal),
     native: &mut M,
-    text: &mut Interp,
+    kind: &Use,
+    registers: u32,
     end: &Pending,
-) -> u32 {
+) -> Result<(), Fail> {
+    let mut text = Interp::make(rt.alloc(), expand(rt.alloc(), kind, registers)?)?;
     let mut random = SmallRng::seed_from_u64(20250917);
-    let mut found = 0u32;
+    let mut ended = false;
     for _ in 0..LISTS {
-        if &beside(rt, native, text, &mut random) == end {
-            found = found.saturating_add(1);
+        if &beside(rt, native, &mut text, &mut random) == end {
+            ended = true;
         }
     }
-    found
+    assert!(rt; ended, "{kind:?}");
+    Ok(())
 }
 
 #[test]
 fn splitters_do_as_their_programs(rt: HostRuntime) -> Result<(), Fail> {
+    let stops = done(&[1]);
     for (base, id, registers) in [(0, 1, 2), (62, LIMIT, 64), (5, 9, 40)] {
         let mut native = Split::make(base, id, registers)?;
-        let kind = Use::Split(base, id);
-        let mut text = text(rt.alloc(), &kind, registers)?;
-        let stopped = beside_often(&rt, &mut native, &mut text, &done(&[1]));
-        assert!(rt; stopped > 0, "{kind:?}");
+        does_as_its_program(&rt, &mut native, &Use::Split(base, id), registers, &stops)?;
     }
     Ok(())
 }
 
 #[test]
 fn grids_do_as_their_programs(rt: HostRuntime) -> Result<(), Fail> {
+    let stops = done(&[1]);
     for (base, side, id, registers) in [(0, 1, 1, 2), (8, 7, LIMIT, 64), (3, 4, 1, 30)] {
         let mut native = Grid::make(base, side, id, registers)?;
-        let kind = Use::Grid(base, side, id);
-        let mut text = text(rt.alloc(), &kind, registers)?;
-        let stopped = beside_often(&rt, &mut native, &mut text, &done(&[1]));
-        assert!(rt; stopped > 0, "{kind:?}");
+        does_as_its_program(
+            &rt,
+            &mut native,
+            &Use::Grid(base, side, id),
+            registers,
+            &stops,
+        )?;
     }
     Ok(())
 }
@@ -173,43 +174,35 @@ fn trees_do_as_their_programs(rt: HostRuntime) -> Result<(), Fail> {
     ] {
         let mut native = Tree::make(base, depth, id, value, registers)?;
         let kind = Use::Tree(base, depth, id, value);
-        let mut text = text(rt.alloc(), &kind, registers)?;
-        let ended = beside_often(&rt, &mut native, &mut text, &end);
-        assert!(rt; ended > 0, "{kind:?}");
+        does_as_its_program(&rt, &mut native, &kind, registers, &end)?;
     }
     Ok(())
 }
 
+/// A first register, a number of slots and a slot, over so many registers, and the numbers with which some lists of replies end.
+const CHOICES: [(u32, u32, u32, u32, &[u32]); 4] = [
+    (0, 1, 0, 1, &[1]),
+    (0, 2, 1, 2, &[3]),
+    (56, 8, 7, 64, &[]),
+    (0, 8, 0, 8, &[1]),
+];
+
 #[test]
 fn choices_of_names_do_as_their_programs(rt: HostRuntime) -> Result<(), Fail> {
-    for (base, slots, slot, registers, end) in [
-        (0, 1, 0, 1, done(&[1])),
-        (0, 2, 1, 2, done(&[3])),
-        (56, 8, 7, 64, done(&[])),
-        (0, 8, 0, 8, done(&[1])),
-    ] {
+    for (base, slots, slot, registers, numbers) in CHOICES {
         let mut native = NameSlots::make(base, slots, slot, registers)?;
         let kind = Use::Name(base, slots, slot);
-        let mut text = text(rt.alloc(), &kind, registers)?;
-        let ended = beside_often(&rt, &mut native, &mut text, &end);
-        assert!(rt; ended > 0, "{kind:?}");
+        does_as_its_program(&rt, &mut native, &kind, registers, &done(numbers))?;
     }
     Ok(())
 }
 
 #[test]
 fn scanned_choices_of_names_do_as_their_programs(rt: HostRuntime) -> Result<(), Fail> {
-    for (base, slots, slot, registers, end) in [
-        (0, 1, 0, 1, done(&[1])),
-        (0, 2, 1, 2, done(&[3])),
-        (56, 8, 7, 64, done(&[])),
-        (0, 8, 0, 8, done(&[1])),
-    ] {
+    for (base, slots, slot, registers, numbers) in CHOICES {
         let mut native = Names::make(base, slots, slot, registers)?;
         let kind = Use::Names(base, slots, slot);
-        let mut text = text(rt.alloc(), &kind, registers)?;
-        let ended = beside_often(&rt, &mut native, &mut text, &end);
-        assert!(rt; ended > 0, "{kind:?}");
+        does_as_its_program(&rt, &mut native, &kind, registers, &done(numbers))?;
     }
     Ok(())
 }

@@ -1,7 +1,8 @@
-use reglang::{Use, expand, read_source, read_text, write_source};
+use reglang::{Source, Use, expand, read_source, read_text, write_source};
 use regmodel::{Clause, Expr, Operand, Prog, Stmt};
 use std::alloc::Global;
 use std::io::Write;
+use std::process::Abort;
 use std::test::Fail;
 
 /// A text that is refused at its end, and one that is refused before.
@@ -63,16 +64,24 @@ fn shown(alloc: Global, prog: &Prog) -> Result<Vec<u8>, Fail> {
     Ok(text)
 }
 
+/// Compares the program of a source's one process with the expansion of a use line over as many registers.
+fn expands_to(rt: &(impl Abort + AllocGlobal), source: &Source, kind: &Use) -> Result<(), Fail> {
+    assert!(rt; source.processes() == 1);
+    let prog = source.prog(rt.alloc(), 0)?;
+    let expanded = expand(rt.alloc(), kind, source.registers())?;
+    assert!(rt;
+        shown(rt.alloc(), &prog)? == shown(rt.alloc(), &expanded)?,
+        "{kind:?}"
+    );
+    Ok(())
+}
+
 #[test]
 fn use_lines_stand_for_their_expansions(rt: HostRuntime) -> Result<(), Fail> {
     for (text, kind) in USES {
-        let source = read_source(rt.alloc(), text).ok().ok_or("refused")?;
-        assert!(rt; (source.processes(), source.use_of(0)) == (1, Some(&kind)));
-        let prog = source.prog(rt.alloc(), 0)?;
-        let expanded = expand(rt.alloc(), &kind, source.registers())
-            .ok()
-            .ok_or("no expansion")?;
-        assert!(rt; shown(rt.alloc(), &prog)? == shown(rt.alloc(), &expanded)?);
+        let source = read_source(rt.alloc(), text)?;
+        assert!(rt; source.use_of(0) == Some(&kind));
+        expands_to(&rt, &source, &kind)?;
     }
     Ok(())
 }
@@ -83,13 +92,7 @@ const NAMES: &[u8] =
 
 #[test]
 fn the_program_of_names_is_written_out(rt: HostRuntime) -> Result<(), Fail> {
-    let source = read_source(rt.alloc(), NAMES).ok().ok_or("refused")?;
-    let prog = source.prog(rt.alloc(), 0)?;
-    let expanded = expand(rt.alloc(), &Use::Names(4, 2, 1), 6)
-        .ok()
-        .ok_or("no expansion")?;
-    assert!(rt; shown(rt.alloc(), &prog)? == shown(rt.alloc(), &expanded)?);
-    Ok(())
+    expands_to(&rt, &read_source(rt.alloc(), NAMES)?, &Use::Names(4, 2, 1))
 }
 
 const EVERY_LINE: &[u8] =
@@ -97,7 +100,7 @@ const EVERY_LINE: &[u8] =
 
 #[test]
 fn reads_every_line(rt: HostRuntime) -> Result<(), Fail> {
-    let source = read_source(rt.alloc(), EVERY_LINE).ok().ok_or("refused")?;
+    let source = read_source(rt.alloc(), EVERY_LINE)?;
     assert!(rt; (source.registers(), source.processes()) == (64, 2));
     let uses = (source.use_of(0), source.use_of(1));
     assert!(rt; uses == (None, Some(&Use::Split(62, 1))));
@@ -112,7 +115,7 @@ fn reads_every_line(rt: HostRuntime) -> Result<(), Fail> {
 
 #[test]
 fn reads_the_parts_of_an_if(rt: HostRuntime) -> Result<(), Fail> {
-    let source = read_source(rt.alloc(), EVERY_LINE).ok().ok_or("refused")?;
+    let source = read_source(rt.alloc(), EVERY_LINE)?;
     let prog = source.prog(rt.alloc(), 0)?;
     let Some(Stmt::If(test, first, second)) = prog.body().get(5) else {
         return Err(Fail::from("no if"));
@@ -125,7 +128,7 @@ fn reads_the_parts_of_an_if(rt: HostRuntime) -> Result<(), Fail> {
 
 #[test]
 fn a_source_is_written_or_nothing_where_memory_is_refused(rt: HostRuntime) -> Result<(), Fail> {
-    let source = read_source(rt.alloc(), EVERY_LINE).ok().ok_or("refused")?;
+    let source = read_source(rt.alloc(), EVERY_LINE)?;
     let mut out = Vec::new(rt.alloc());
     out.extend_from_slice(b"before")?;
     match write_source(&source, &mut out) {
