@@ -3,8 +3,7 @@
 ghost use Rattle.std.specs.Prelude.{◌≡◌, Bool, IfErr, IfOk, option_map};
 ghost use Rattle.reglang.specs.Grammar.{Spells};
 ghost use Rattle.reglang.specs.Sources.{contents_of, source_programs};
-ghost use Rattle.orders.specs.declared.tasks.Task.TheVariants as asked;
-ghost use Rattle.cli.specs.Findings.{IsFoundBy, IsRefusedBy, part_head};
+ghost use Rattle.cli.specs.Findings.{IsFoundBy, IsRefusedBy, exploring_task, part_head};
 ghost use Rattle.cli.specs.Runs.{AreListsOf};
 
 use crate::faults::AnswerFault;
@@ -41,13 +40,15 @@ fn head_for<H, G>(
     }
 }
 
-/// What an exploration, or a part of it, finds, by a list of the machines of its source for each worker.
+/// What an exploration, or a part of it, finds, or its least failing schedule where that alone is sought, by a list of the machines of its
+/// source for each worker.
 // In a frame of its own, which other orders do not touch.
 #[inline(never)]
 pub fn explored<H: Threads + Wait + Sync, G: Gate>(
     run: &Run<'_, H, G>,
     effort: Effort,
     part: Option<Part>,
+    least_alone: bool,
     lists: Vec<Vec<Box<dyn Machine + Send>>>,
 ) -> Result<Finding, AnswerFault>
     requires spelled { Spells run.now.text.now (contents_of run.now.source.now) }
@@ -55,10 +56,10 @@ pub fn explored<H: Threads + Wait + Sync, G: Gate>(
         effort.settings.workers lists.items }
     ensures found { (native : Bool)
         → IfOk result
-        (IsFoundBy (asked.Explore effort native part) run.now.text.now) }
+        (IsFoundBy (exploring_task least_alone effort native part) run.now.text.now) }
     ensures refused { (native : Bool)
         → IfErr result
-        (IsRefusedBy (asked.Explore effort native part) run.now.text.now) }
+        (IsRefusedBy (exploring_task least_alone effort native part) run.now.text.now) }
 {
     let head = head_for(run, effort.settings, part)?;
     let (rt, alloc, source, gate) = (run.rt, run.alloc, run.source, run.gate);
@@ -70,6 +71,16 @@ pub fn explored<H: Threads + Wait + Sync, G: Gate>(
         judge: source.clauses(),
         gate,
     };
+    if least_alone {
+        let least = match least_failing(rt, &job, lists) {
+            Ok(least) => least,
+            Err(fault) => return Err(AnswerFault::Run(fault.code)),
+        };
+        return match head {
+            Some(head) => Ok(Finding::LeastPart(head, least)),
+            None => Ok(Finding::Least(least)),
+        };
+    }
     let found = match exploration_of(rt, &job, lists) {
         Ok(found) => found,
         Err(fault) => return Err(AnswerFault::Run(fault.code)),
@@ -77,44 +88,5 @@ pub fn explored<H: Threads + Wait + Sync, G: Gate>(
     match head {
         Some(head) => Ok(Finding::Part(head, found)),
         None => Ok(Finding::Report(found)),
-    }
-}
-
-/// What a search for the least failing schedule alone, or for that of a part, finds, by a list of the machines of its source for each worker.
-// In a frame of its own, which other orders do not touch.
-#[inline(never)]
-pub fn least_found<H: Threads + Wait + Sync, G: Gate>(
-    run: &Run<'_, H, G>,
-    effort: Effort,
-    part: Option<Part>,
-    lists: Vec<Vec<Box<dyn Machine + Send>>>,
-) -> Result<Finding, AnswerFault>
-    requires spelled { Spells run.now.text.now (contents_of run.now.source.now) }
-    requires machines { AreListsOf program (source_programs run.now.source.now)
-        effort.settings.workers lists.items }
-    ensures found { (native : Bool)
-        → IfOk result
-        (IsFoundBy (asked.Least effort native part) run.now.text.now) }
-    ensures refused { (native : Bool)
-        → IfErr result
-        (IsRefusedBy (asked.Least effort native part) run.now.text.now) }
-{
-    let head = head_for(run, effort.settings, part)?;
-    let (rt, alloc, source, gate) = (run.rt, run.alloc, run.source, run.gate);
-    let job = Job {
-        alloc,
-        source,
-        effort,
-        part,
-        judge: source.clauses(),
-        gate,
-    };
-    let least = match least_failing(rt, &job, lists) {
-        Ok(least) => least,
-        Err(fault) => return Err(AnswerFault::Run(fault.code)),
-    };
-    match head {
-        Some(head) => Ok(Finding::LeastPart(head, least)),
-        None => Ok(Finding::Least(least)),
     }
 }

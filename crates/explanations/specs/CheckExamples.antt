@@ -1,5 +1,5 @@
 -- Where checks stand in a text, and the words at fault of lines.
-use Rattle.std.specs.Prelude.{◌≡◌, [], ◌∷◌, Some, None, refl, codes}
+use Rattle.std.specs.Prelude.{◌≡◌, ℕ, List, [], ◌∷◌, Option, Some, None, map, refl, codes}
 use Rattle.explanations.specs.Checks.{line_at, check_lines}
 use Rattle.explanations.specs.Hints.{hint_of}
 use Rattle.explanations.specs.LineForms.{form_of}
@@ -16,52 +16,20 @@ second_line = refl
 pub checks : check_lines (codes "# check ended\ncheck\nprocess\nend\n\ncheck ended\n") ≡ 2 ∷ 6 ∷ []
 checks = refl
 
--- a word that no line begins with
-pub unknown_line : word_at_fault 2 (codes "reads v0 v16") ≡ Some (codes "reads")
-unknown_line = refl
+-- the code of a fault, a line, and the word of it that is at fault
+abbrev faulty : List (ℕ × List ℕ × Option (List ℕ))
+faulty =
+    -- a word that no line begins with, one that is unknown, and a first and a later word in the other's place
+    (2, codes "reads v0 v16", Some (codes "reads")) ∷ (2, codes "set v0 v16 + x", Some (codes "v16")) ∷ (2, codes "read v0 scan", Some (codes "scan")) ∷ (2, codes "names 0 2 0", Some (codes "names"))
+    -- a number where a target stands, and one too many; an operand, and how many registers, that are missing
+    ∷ (4, codes "read 0 v0", Some (codes "0")) ∷ (4, codes "use split 0 1 2", Some (codes "2")) ∷ (4, codes "emit v0 +", None) ∷ (4, codes "scan 0 0", None)
+    -- the numbers of a scan and of a use are words of the text, no variables
+    ∷ (4, codes "scan v0 0 1", Some (codes "v0")) ∷ (4, codes "scan 0 0 [1]", Some (codes "[1]")) ∷ (4, codes "use names 0 2 v1", Some (codes "v1"))
+    -- the first number past the greatest one, and more names than there can be
+    ∷ (6, codes "set v0 1000000001", Some (codes "1000000001")) ∷ (8, codes "check atmost 9 9", Some (codes "9")) ∷ []
 
-pub unknown_word : word_at_fault 2 (codes "set v0 v16 + x") ≡ Some (codes "v16")
-unknown_word = refl
-
--- a number where a target stands
-pub wrong_sort : word_at_fault 4 (codes "read 0 v0") ≡ Some (codes "0")
-wrong_sort = refl
-
-pub one_too_many : word_at_fault 4 (codes "use split 0 1 2") ≡ Some (codes "2")
-one_too_many = refl
-
--- an operand is missing
-pub missing : word_at_fault 4 (codes "emit v0 +") ≡ None
-missing = refl
-
--- at most 8 processes have a name
-pub past_limit : word_at_fault 8 (codes "check atmost 9 9") ≡ Some (codes "9")
-past_limit = refl
-
--- the numbers of a scan are words of the text, no variables
-pub variable_in_a_scan : word_at_fault 4 (codes "scan v0 0 1") ≡ Some (codes "v0")
-variable_in_a_scan = refl
-
-pub cell_in_a_scan : word_at_fault 4 (codes "scan 0 0 [1]") ≡ Some (codes "[1]")
-cell_in_a_scan = refl
-
--- how many registers is missing
-pub no_count : word_at_fault 4 (codes "scan 0 0") ≡ None
-no_count = refl
-
--- a first word, and no later one; and the other way round
-pub scan_later : word_at_fault 2 (codes "read v0 scan") ≡ Some (codes "scan")
-scan_later = refl
-
-pub names_first : word_at_fault 2 (codes "names 0 2 0") ≡ Some (codes "names")
-names_first = refl
-
-pub names_of_a_variable : word_at_fault 4 (codes "use names 0 2 v1") ≡ Some (codes "v1")
-names_of_a_variable = refl
-
--- the first number past the greatest one
-pub past_greatest : word_at_fault 6 (codes "set v0 1000000001") ≡ Some (codes "1000000001")
-past_greatest = refl
+pub words_at_fault : map (λ (fault : ℕ × List ℕ × Option (List ℕ)). word_at_fault fault.0 fault.1) faulty ≡ map (λ (fault : ℕ × List ℕ × Option (List ℕ)). fault.2) faulty
+words_at_fault = refl
 
 -- what to write for a word of another language, for the name of a register, and for an unknown kind
 pub turned_round : hint_of (words (codes "if v0 > 1")) ≡ codes "write B < A for A > B"

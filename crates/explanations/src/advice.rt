@@ -14,25 +14,15 @@ use reglang::{Keyword, MISPLACED, NO_CLAUSE, NO_FORM, PAST_LIMIT, UNKNOWN_WORD, 
 use std::io::Write;
 use texts::{Block, Text, WriteFault};
 
-/// The word that opens a block.
-fn opener(block: Inside) -> &'static str
-    ensures { result.now ≡ keyword_text (spec.opener block) }
+/// The word that opens a block, and the one that closes it.
+fn edges_of(block: Inside) -> (&'static str, &'static str)
+    ensures opener { result.0.now ≡ keyword_text (spec.opener block) }
+    ensures closer { result.1.now ≡ keyword_text (spec.closer block) }
 {
     match block {
-        Inside::Process => "process",
-        Inside::If => "if",
-        Inside::Repeat => "repeat",
-    }
-}
-
-/// The word that closes it.
-fn closer(block: Inside) -> &'static str
-    ensures { result.now ≡ keyword_text (spec.closer block) }
-{
-    match block {
-        Inside::Process => "end",
-        Inside::If => "fi",
-        Inside::Repeat => "done",
+        Inside::Process => ("process", "end"),
+        Inside::If => ("if", "fi"),
+        Inside::Repeat => ("repeat", "done"),
     }
 }
 
@@ -41,14 +31,9 @@ impl Text for Opened {
     ghost text = { spec.open_text };
 
     fn put<W: Write>(&self, out: &mut W, block: &mut Block) -> Result<(), WriteFault> {
-        let which = ("the ", opener(self.block), " of line ", self.line);
-        (
-            which,
-            " is open here, and ",
-            closer(self.block),
-            " closes it",
-        )
-            .put(out, block)
+        let (opener, closer) = edges_of(self.block);
+        let which = ("the ", opener, " of line ", self.line);
+        (which, " is open here, and ", closer, " closes it").put(out, block)
     }
 }
 

@@ -2,6 +2,7 @@ pub mod Blocks
 pub mod CellLists
 pub mod Fitting
 pub mod Flows
+pub mod GoingOn
 pub mod KeptStates
 pub mod Packed
 pub mod Padding

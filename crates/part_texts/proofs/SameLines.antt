@@ -2,12 +2,10 @@
 use Rattle.std.proofs.Common.{◌≡◌, ℕ, suc, ◌+◌, ◌^◌, ◌<◌, ◌≤◌, Bool, true, false, leb, eqb, not, List, [], ◌∷◌, ◌++◌, length, codes, decimal, All, refl, ap, sym, ◌∙◌, arith, append_assoc}
 use Rattle.std.specs.List.{flat_map, list_all}
 use Rattle.std.specs.Int.{IsInRange}
-use Rattle.std.specs.Str.Parse.{AllDigits}
 use Rattle.std.proofs.lemmas.Bool.{and_parts, and_from, leb-true}
 use Rattle.std.proofs.lemmas.Bool.Decides.{nat_tests}
 use Rattle.std.proofs.lemmas.Fmt.{decimal_injective, decimal_is_IsNumeral}
 use Rattle.std.proofs.lemmas.List.Elements.{All-head, All-tail}
-use Rattle.std.proofs.lemmas.Str.Parse.{digit_from_value}
 use Rattle.regmodel.specs.declared.letters.Letter.{Letter}
 use Rattle.regmodel.specs.declared.letters.Letter.TheVariants.{Run, Crash}
 use Rattle.regmodel.specs.declared.outcomes.End.{End}
@@ -22,7 +20,8 @@ use Rattle.patterns.specs.declared.standings.Standing.TheVariants.{Just}
 use Rattle.patterns.specs.declared.standings.Standing.TheVariants as standing
 use Rattle.patterns.specs.Cuts.{has_no}
 use Rattle.patterns.specs.PatternText.{FitsPattern, end_fits, idle_text}
-use Rattle.patterns.proofs.Bytes.{cut_same, has_no-append}
+use Rattle.patterns.proofs.Bytes.{cut_same, has_no-append, no_digit}
+use Rattle.patterns.proofs.Ends.{IsOutside, none-end}
 use Rattle.patterns.proofs.Sames.{pattern_text-same}
 use Rattle.part_texts.specs.FitsPart.{FitsOutcome}
 use Rattle.part_texts.specs.PartText.{number_text}
@@ -51,10 +50,6 @@ line-same x s y t hx hy e =
     (same.0, tail-same 10 10 s t same.1)
 
 -- ---- numbers
-
-no_digit : (byte : ℕ) (ds : List ℕ) → AllDigits 10 ds → ((d : ℕ) → IsInRange 48 57 d → eqb d byte ≡ false) → has_no byte ds ≡ true
-no_digit byte [] h apart = refl
-no_digit byte (d ∷ ds) h apart = and_from (not (eqb d byte)) (has_no byte ds) (ap not (apart d (digit_from_value d h.0))) (no_digit byte ds h.1 apart)
 
 pub no_feed-decimal : (n : ℕ) → n < 2 ^ 64 → has_no 10 (decimal n) ≡ true
 no_feed-decimal n h = no_digit 10 (decimal n) (decimal_is_IsNumeral n h).0.1 apart
@@ -100,27 +95,11 @@ part_numbers-same p q n m s t hp hq hn hm e =
 
 -- ---- outcomes
 
-no_feed-numbers : (numbers : List ℕ) → list_all (λ n. leb n 1000000000) numbers ≡ true → has_no 10 (numbers_text numbers) ≡ true
-no_feed-numbers [] h = refl
-no_feed-numbers (n ∷ numbers) h =
-    let parts = and_parts (leb n 1000000000) (list_all (λ m. leb m 1000000000) numbers) h in
-    let low : n ≤ 1000000000 = leb-true n 1000000000 parts.0 in
-    has_no-append 10 (32 ∷ decimal n) (numbers_text numbers) (no_feed-decimal n (omega arith)) (no_feed-numbers numbers parts.1)
-
-no_feed-fate : (fate : End) → end_fits fate ≡ true → has_no 10 (fate_text fate) ≡ true
-no_feed-fate (Done numbers) h = no_feed-numbers numbers.items (and_parts (leb (length numbers.items) 8) (list_all (λ n. leb n 1000000000) numbers.items) h).1
-no_feed-fate (Fault code) h =
-    let low = leb-true code 4 (and_parts (leb 1 code) (leb code 4) h).1 in
-    no_feed-decimal code (omega arith)
-no_feed-fate Crashed h = refl
-no_feed-fate Running h = refl
-
-no_feed-idle : (started : Bool) → has_no 10 (idle_text started) ≡ true
-no_feed-idle true = refl
-no_feed-idle false = refl
+feed_outside : IsOutside 10
+feed_outside = record { number = λ n low. no_feed-decimal n (omega (arith, low)); fault = refl; done = refl; crashed = refl; running = refl; idle = refl }
 
 no_feed-end : (p : ProcEnd) → end_fits p.fate ≡ true → has_no 10 (end_text p) ≡ true
-no_feed-end p h = has_no-append 10 (fate_text p.fate) (idle_text p.started) (no_feed-fate p.fate h) (no_feed-idle p.started)
+no_feed-end = none-end 10 feed_outside
 
 no_feed-later : (ends : List ProcEnd) → list_all (λ end. end_fits end.fate) ends ≡ true → has_no 10 (flat_map (λ e. codes "; " ++ end_text e) ends) ≡ true
 no_feed-later [] h = refl

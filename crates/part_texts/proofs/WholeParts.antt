@@ -31,7 +31,7 @@ use Rattle.part_texts.proofs.LineSizes.{number-fits, numbers-fit, schedule-fits}
 use Rattle.part_texts.proofs.ReadTexts.{clash}
 use Rattle.part_texts.proofs.SameLines.{first-same, front-same, number-same, numbers-same, numbers_of, parted, told-same}
 use Rattle.part_texts.proofs.SameParts.{bounds-parts, bytes-same, explored_parts, failing-parts, found-same, head-parts, head-same, outcomes-same, part-parts, plain-same}
-use Rattle.part_texts.proofs.WholeTexts.{first_is, leaves, line_of, reads_on}
+use Rattle.part_texts.proofs.WholeTexts.{first_is, leaves, line_of, number_is, reads_on}
 
 -- where nothing is there, what is said of that
 pub none_said : {X : Type 0} (Q : Type 0) (o : Option X) → false ≡ is_some o → IfNone o Q → Q
@@ -181,6 +181,12 @@ explored_wanted n b line now tried (Least least) rest Q fits l same here k =
     let is = first_is b line (first_of (Least least)) (found_text (Least least) ++ rest) (behind_first (Least least) rest) l (found-fits n (Least least) fits).one (found-first (Least least) rest) in
     absurd (no_tried _ _ (here ∙ same ∙ is.0))
 
+-- where all was told, the least failing schedule stands behind the outcomes
+pub behind_outcomes : (n : ℕ) (a b : Option (List ℕ)) (line now : List ℕ) (tried : ℕ) (found : Found) (rest : List ℕ) (v : List (List ProcEnd)) (Q : Type 0) → 1 ≤ n → n ≤ 8 → FitsFound n found → IsLineOf a line (found_text found ++ rest) → now ≡ line → (codes "tried" ++ codes " ") ++ decimal tried ≡ now
+    → length v < 2 ^ 64 → All (FitsOutcome n) v → Consumes a b (number_line (codes "outcomes") (length v) ++ flat_map outcome_line v) → ((least : Option (Schedule × List ProcEnd)) → FitsLeast n least → b ≡ Some (least_text least ++ rest) → Q) → Q
+behind_outcomes n a b line now tried found rest v Q some few fits l same here low each read k =
+    explored_wanted n a line now tried found rest Q fits l same here (λ s fs known. k s.least fs.4 (outcomes_are n v s.outcomes a b (least_text s.least ++ rest) some few low fs.1 each fs.2 read known).1)
+
 -- ---- heads
 
 -- the line with the numbers of a part
@@ -219,6 +225,20 @@ bounds_are a b p bounds h rest small fits c e =
     let four = number-same (codes "cut") bounds.cut h.cut _ _ refl small.3 (omega (arith, fits.cut)) three.1 in
     (record { processes = one.0; letters = two.0; crashes = three.0; cut = four.0 }, l.known ∙ ap Some four.1)
 
+-- the first numbers of the bounds, read one after another
+module _ (h : PlainHead) (rest : List ℕ) (fits : FitsHead h) (a b : Option (List ℕ)) (p : ℕ) (low : p < 2 ^ 64) (read : Consumes a b (number_line (codes "processes") p)) (known : a ≡ Some (bounds_text h.processes h.length h.crashes h.cut ++ rest)) where
+  pub one_bound : (p ≡ h.processes) × (b ≡ Some (number_line (codes "length") h.length ++ (number_line (codes "crashes") h.crashes ++ (number_line (codes "cut") h.cut ++ rest))))
+  one_bound = number_is a b (codes "processes") p h.processes _ refl low (omega (arith, fits.processes)) read (known ∙ ap Some (bounds-parts h.processes h.length h.crashes h.cut rest))
+
+  pub two_bounds : (d : Option (List ℕ)) (l : ℕ) → l < 2 ^ 64 → Consumes b d (number_line (codes "length") l) → (l ≡ h.length) × (d ≡ Some (number_line (codes "crashes") h.crashes ++ (number_line (codes "cut") h.cut ++ rest)))
+  two_bounds d l low-2 read-2 = number_is b d (codes "length") l h.length _ refl low-2 (omega (arith, fits.letters)) read-2 one_bound.1
+
+  pub three_bounds : (d e : Option (List ℕ)) (l k : ℕ) → l < 2 ^ 64 → k < 2 ^ 64 → Consumes b d (number_line (codes "length") l) → Consumes d e (number_line (codes "crashes") k) → (l ≡ h.length) × (k ≡ h.crashes) × (e ≡ Some (number_line (codes "cut") h.cut ++ rest))
+  three_bounds d e l k low-2 low-3 read-2 read-3 =
+      let two = two_bounds d l low-2 read-2 in
+      let three = number_is d e (codes "crashes") k h.crashes _ refl low-3 (omega (arith, fits.crashes)) read-3 two.1 in
+      (two.0, three.0, three.1)
+
 -- the source that was read
 pub source_is : (a b : Option (List ℕ)) (read source rest : List ℕ) → length read ≤ 1048576 → length source ≤ 1048576 → Consumes a b (number_line (codes "source") (length read) ++ read) → a ≡ Some (number_line (codes "source") (length source) ++ (source ++ rest)) → read ≡ source
 source_is a b read source rest few enough p e =
@@ -242,6 +262,12 @@ head_left a b c line h report rest read fits p clean q e =
     let l = reads_on b c line (head_text h) (head_text report.head ++ behind) q (line_of a b line (head_text report.head ++ behind) p clean (e ∙ ap Some (part-parts report rest))) in
     let same = head-same h report.head l.rest behind read fits.head l.parts in
     (same.0, l.known ∙ ap Some same.1)
+
+-- and how many processes it tells of
+pub behind_head : (a b c : Option (List ℕ)) (line : List ℕ) (h : PlainHead) (n : ℕ) (report : PartReport) (rest : List ℕ) → n ≡ h.processes → FitsHead h → FitsPart report → Consumes a b (line ++ 10 ∷ []) → has_no 10 line ≡ true → ReadsOn b c line (head_text h) → a ≡ Some (part_text report ++ rest) → (n ≡ report.head.processes) × (c ≡ Some (found_text report.found ++ (end_text ++ rest)))
+behind_head a b c line h n report rest count read fits p clean q e =
+    let left = head_left a b c line h report rest read fits p clean q e in
+    (count ∙ ap (λ h. h.processes) left.0, left.1)
 
 -- what stands behind what was found
 pub found_left : (a b : Option (List ℕ)) (found : Found) (report : PartReport) (rest : List ℕ) → FitsPart report → FitsFound report.head.processes found → Consumes a b (found_text found) → a ≡ Some (found_text report.found ++ (end_text ++ rest)) → b ≡ Some (end_text ++ rest)

@@ -13,7 +13,6 @@ use Rattle.part_texts.specs.FitsPart.{FitsOutcome}
 use Rattle.part_texts.specs.Streams.{FitsLine, IsLineOf, ReadsOn}
 use Rattle.part_texts.specs.declared.faults.Cause.{Cause}
 use Rattle.part_texts.specs.declared.faults.Cause.TheVariants.{Other}
-use Rattle.part_texts.proofs.LineSizes.{outcome-fits-line}
 use Rattle.part_texts.proofs.SameLines.{first-same, line-same, number-same, tail-same, told-same}
 
 -- what was read and what is left are a text
@@ -125,7 +124,7 @@ number_refused a b read line word (Some x) p clean same none = tt
 number_refused a b read line word None p clean same none = λ n rest low fits e.
     absurd (none n low (sym (line_is a b read ((word ++ codes " ") ++ decimal n) rest p clean fits.one e).0 ∙ sym same))
 
-pub outcome_refused : (a b : Option (List ℕ)) (read line word : List ℕ) (count : ℕ) (o : Option (List ProcEnd)) → Consumes a b (read ++ 10 ∷ []) → has_no 10 read ≡ true → line ≡ read → has_no 10 word ≡ true → length word ≤ 16 → IfNone o ((ends : List ProcEnd) → 1 ≤ count → count ≤ 8 → FitsOutcome count ends → word ++ outcome_text ends ≢ line) → IfNone o ((ends : List ProcEnd) (rest : List ℕ) → 1 ≤ count → count ≤ 8 → FitsOutcome count ends → a ≡ Some (((word ++ outcome_text ends) ++ codes "\n") ++ rest) → IsOutward Other)
-outcome_refused a b read line word count (Some x) p clean same one short none = tt
-outcome_refused a b read line word count None p clean same one short none = λ ends rest some few fits e.
-    absurd (none ends some few fits (sym (line_is a b read (word ++ outcome_text ends) rest p clean (outcome-fits-line word count ends one short few fits).one e).0 ∙ sym same))
+pub outcome_refused : (a b : Option (List ℕ)) (read line word : List ℕ) (count : ℕ) (o : Option (List ProcEnd)) → Consumes a b (read ++ 10 ∷ []) → has_no 10 read ≡ true → line ≡ read → IfNone o ((ends : List ProcEnd) → 1 ≤ count → count ≤ 8 → FitsOutcome count ends → word ++ outcome_text ends ≢ line) → IfNone o ((ends : List ProcEnd) (rest : List ℕ) → 1 ≤ count → count ≤ 8 → FitsOutcome count ends → FitsLine (word ++ outcome_text ends) → a ≡ Some (((word ++ outcome_text ends) ++ codes "\n") ++ rest) → IsOutward Other)
+outcome_refused a b read line word count (Some x) p clean same none = tt
+outcome_refused a b read line word count None p clean same none = λ ends rest some few fits told e.
+    absurd (none ends some few fits (sym (line_is a b read (word ++ outcome_text ends) rest p clean told.one e).0 ∙ sym same))

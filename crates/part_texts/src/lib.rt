@@ -5,7 +5,6 @@ mod faults;
 mod heads;
 pub mod laws;
 mod lines;
-mod numbers;
 mod outcomes;
 mod parts;
 mod ranges;

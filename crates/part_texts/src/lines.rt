@@ -9,8 +9,8 @@ ghost use Rattle.report.specs.declared.parts.TheConstants.{MOST_PARTS};
 ghost use Rattle.texts.specs.OutcomeText.{outcome_text};
 ghost use Rattle.part_texts.specs.FitsPart.{FitsOutcome};
 
-use crate::numbers::number_of;
 use crate::outcomes::read_outcome;
+use patterns::long_number_of;
 use regmodel::Outcome;
 
 /// What follows a word at the beginning of a text. None where it does not begin so.
@@ -29,7 +29,7 @@ pub(crate) fn number_after(line: &[u8], word: &[u8]) -> Option<u64>
 {
     let rest = after(line, word)?;
     let digits = after(rest, b" ")?;
-    number_of(digits)
+    long_number_of(digits)
 }
 
 /// The number of a part and how many there are. None for any other line.
@@ -43,9 +43,9 @@ pub(crate) fn part_in(line: &[u8]) -> Option<(u64, u64)>
 {
     let rest = after(line, b"part ")?;
     let (digits, rest) = cut_at_space(rest);
-    let number = number_of(digits)?;
+    let number = long_number_of(digits)?;
     let digits = after(rest, b" of ")?;
-    let count = number_of(digits)?;
+    let count = long_number_of(digits)?;
     Some((number, count))
 }
 

@@ -13,9 +13,9 @@ use std::io::BufRead;
 use tallies::Partial;
 
 impl<R: BufRead> PartStream<R> {
-    ghost use Rattle.std.specs.Prelude.{◌≡◌, ◌++◌, ◌^◌, ◌<◌, ◌≤◌, ℕ, [], All, AllPairs, IfErr, IfNone, IfOk, IfSome, List, OnOk, Option, Some, codes, decimal, length};
+    ghost use Rattle.std.specs.Prelude.{◌≡◌, ◌++◌, ◌^◌, ◌<◌, ◌≤◌, ℕ, [], All, AllPairs, IfErr, IfOk, List, OnOk, Option, Some, codes, decimal, length};
     ghost use Rattle.std.specs.List.{flat_map};
-    ghost use Rattle.std.specs.Io.KnownBytes.{Consumes, IsAtEnd};
+    ghost use Rattle.std.specs.Io.KnownBytes.{Consumes};
     ghost use Rattle.std.specs.declared.cmp.Ordering.TheVariants.{Less};
     ghost use Rattle.regmodel.specs.Letters.{Schedule};
     ghost use Rattle.regmodel.specs.Outcomes.{outcome_cmp};
@@ -27,6 +27,7 @@ impl<R: BufRead> PartStream<R> {
     ghost use Rattle.part_texts.specs.declared.faults.Cause.TheVariants.{Unreadable};
     ghost use Rattle.part_texts.specs.Causes.{IsOutward};
     ghost use Rattle.part_texts.specs.FitsPart.{FitsFound, FitsLeast, FitsOutcome, FitsPart};
+    ghost use Rattle.part_texts.specs.NextParts.{IsNextPart};
     ghost use Rattle.part_texts.specs.PlainHead.{FitsHead, PlainHead};
     ghost use Rattle.part_texts.specs.PartText.{bounds_text, end_text, found_text, head_text, part_text};
     ghost use Rattle.part_texts.specs.Streams.{FitsLine, IsLineOf, ReadsOn, left_of};
@@ -38,14 +39,8 @@ impl<R: BufRead> PartStream<R> {
     /// was refused, or that the reader answered an error. Where what is left begins with the text of a part, it is one of the last two; where
     /// nothing is left, it is the last one. After an error the stream stands in the midst of a text.
     pub fn next_part(&mut self, alloc: Global) -> Result<Option<PartReport>, BadPart>
-        ensures some { IfOk result (λ next. IfSome next
-            (λ report. Consumes (left_of R.remaining self.old) (left_of R.remaining self.new)
-            (part_text report))) }
-        ensures fits { IfOk result (λ next. IfSome next FitsPart) }
-        ensures before { IfOk result
-            (λ next. IfNone next (IsAtEnd (left_of R.remaining self.old))) }
-        ensures end { IfOk result
-            (λ next. IfNone next (IsAtEnd (left_of R.remaining self.new))) }
+        ensures next { IfOk result
+            (IsNextPart (left_of R.remaining self.old) (left_of R.remaining self.new)) }
         ensures err { IfErr result
             (λ bad. left_of R.remaining self.old ≡ Some [] → bad.cause ≡ Unreadable) }
         ensures whole { IfErr result (λ bad. (report : PartReport) (rest : List ℕ)
@@ -65,14 +60,8 @@ impl<R: BufRead> PartStream<R> {
 
     /// The next part; None where nothing is left.
     fn part(&mut self, alloc: Global) -> Result<Option<PartReport>, Cause>
-        ensures some { IfOk result (λ next. IfSome next
-            (λ report. Consumes (left_of R.remaining self.old) (left_of R.remaining self.new)
-            (part_text report))) }
-        ensures fits { IfOk result (λ next. IfSome next FitsPart) }
-        ensures before { IfOk result
-            (λ next. IfNone next (IsAtEnd (left_of R.remaining self.old))) }
-        ensures end { IfOk result
-            (λ next. IfNone next (IsAtEnd (left_of R.remaining self.new))) }
+        ensures next { IfOk result
+            (IsNextPart (left_of R.remaining self.old) (left_of R.remaining self.new)) }
         ensures err { IfErr result
             (λ cause. left_of R.remaining self.old ≡ Some [] → cause ≡ Unreadable) }
         ensures whole { IfErr result (λ cause. (report : PartReport) (rest : List ℕ)
@@ -242,7 +231,7 @@ impl<R: BufRead> PartStream<R> {
         let count = self.number_behind(b"outcomes")?;
         let mut outcomes = Vec::new(alloc);
         for _ in 0..count {
-            let outcome = self.outcome(processes)?;
+            let outcome = self.outcome_behind(b"outcome ", processes)?;
             if !comes_last(outcomes.as_slice(), &outcome) {
                 return Err(Cause::NotRising);
             }
@@ -251,19 +240,21 @@ impl<R: BufRead> PartStream<R> {
         Ok(outcomes)
     }
 
-    /// The outcome of so many processes on the next line.
-    fn outcome(&mut self, processes: u32) -> Result<Outcome, Cause>
+    /// The outcome of so many processes behind a word on the next line.
+    fn outcome_behind(&mut self, word: &[u8], processes: u32) -> Result<Outcome, Cause>
         ensures text { IfOk result
             (λ outcome. Consumes (left_of R.remaining self.old) (left_of R.remaining self.new)
-            (outcome_line outcome)) }
+            (word.now ++ outcome_text outcome ++ codes "\n")) }
         ensures fits { IfOk result (FitsOutcome processes) }
         ensures whole { IfErr result (λ cause. (ends : List ProcEnd) (rest : List ℕ)
             → 1 ≤ processes → processes ≤ MOST_PROCESSES → FitsOutcome processes ends
-            → left_of R.remaining self.old ≡ Some (outcome_line ends ++ rest)
+            → FitsLine (word.now ++ outcome_text ends)
+            → left_of R.remaining self.old
+            ≡ Some (word.now ++ outcome_text ends ++ codes "\n" ++ rest)
             → IsOutward cause) }
     {
         self.wanted_line()?;
-        outcome_after(self.line.as_slice(), b"outcome ", processes).ok_or(Cause::Other)
+        outcome_after(self.line.as_slice(), word, processes).ok_or(Cause::Other)
     }
 
     /// The least failing schedule with its outcome, whose first line is read; None where none fails.
@@ -285,23 +276,7 @@ impl<R: BufRead> PartStream<R> {
         }
         let schedule = read_schedule(word).ok_or(Cause::Other)?;
         let _letters = schedule.letters();
-        let outcome = self.failing(processes)?;
+        let outcome = self.outcome_behind(b"fails ", processes)?;
         Ok(Some((schedule, outcome)))
-    }
-
-    /// The outcome of the least failing schedule on the next line.
-    fn failing(&mut self, processes: u32) -> Result<Outcome, Cause>
-        ensures text { IfOk result
-            (λ outcome. Consumes (left_of R.remaining self.old) (left_of R.remaining self.new)
-            (codes "fails " ++ outcome_text outcome ++ codes "\n")) }
-        ensures fits { IfOk result (FitsOutcome processes) }
-        ensures whole { IfErr result (λ cause. (ends : List ProcEnd) (rest : List ℕ)
-            → 1 ≤ processes → processes ≤ MOST_PROCESSES → FitsOutcome processes ends
-            → left_of R.remaining self.old
-            ≡ Some (codes "fails " ++ outcome_text ends ++ codes "\n" ++ rest)
-            → IsOutward cause) }
-    {
-        self.wanted_line()?;
-        outcome_after(self.line.as_slice(), b"fails ", processes).ok_or(Cause::Other)
     }
 }

@@ -69,7 +69,7 @@ has_no-append byte (x ∷ xs) ys hx hy =
 
 -- ---- digits
 
-no_digit : (byte : ℕ) (ds : List ℕ) → AllDigits 10 ds → ((d : ℕ) → IsInRange 48 57 d → eqb d byte ≡ false) → has_no byte ds ≡ true
+pub no_digit : (byte : ℕ) (ds : List ℕ) → AllDigits 10 ds → ((d : ℕ) → IsInRange 48 57 d → eqb d byte ≡ false) → has_no byte ds ≡ true
 no_digit byte [] h apart = refl
 no_digit byte (d ∷ ds) h apart = and_from (not (eqb d byte)) (has_no byte ds) (ap not (apart d (digit_from_value d h.0))) (no_digit byte ds h.1 apart)
 

@@ -247,25 +247,38 @@ none-running text word after cut w none p fits e = running-at p.fate p.started w
 pub none-other : (text word after : List ℕ) → IsCut 32 text word after → word ≢ codes "done" → word ≢ codes "fault" → word ≢ codes "crashed" → word ≢ codes "running" → (p : ProcEnd) → end_fits p.fate ≡ true → end_text p ≢ text
 none-other text word after cut d f c r p fits e = other-at p.fate p.started word after (end-cut p.fate p.started text word after cut e) d f c r
 
--- ---- no mark stands in the text of a process
+-- ---- a byte that stands in no number and no word does not stand in the text of a process
 
-no_mark-numbers : (numbers : List ℕ) → are_small numbers ≡ true → has_no 59 (numbers_text numbers) ≡ true
-no_mark-numbers [] h = refl
-no_mark-numbers (n ∷ numbers) h =
-    let parts = and_parts (leb n 1000000000) (are_small numbers) h in
-    has_no-append 59 (32 ∷ decimal n) (numbers_text numbers) (no_mark-decimal n (leb-true n 1000000000 parts.0)) (no_mark-numbers numbers parts.1)
+-- the byte stands in none of what the text is put together from
+pub record IsOutside (b : ℕ) : Type 0 where
+  pub number : (n : ℕ) → n ≤ 1000000000 → has_no b (32 ∷ decimal n) ≡ true
+  pub fault : has_no b (codes "fault") ≡ true
+  pub done : has_no b (codes "done") ≡ true
+  pub crashed : has_no b (codes "crashed") ≡ true
+  pub running : has_no b (codes "running") ≡ true
+  pub idle : has_no b (codes " idle") ≡ true
 
-no_mark-fate : (fate : End) → end_fits fate ≡ true → has_no 59 (fate_text fate) ≡ true
-no_mark-fate (Done numbers) h = no_mark-numbers numbers.items (and_parts (leb (length numbers.items) 8) (are_small numbers.items) h).1
-no_mark-fate (Fault code) h =
-    let low = leb-true code 4 (and_parts (leb 1 code) (leb code 4) h).1 in
-    no_mark-decimal code (omega arith)
-no_mark-fate Crashed h = refl
-no_mark-fate Running h = refl
+pub mark_outside : IsOutside 59
+mark_outside = record { number = no_mark-decimal; fault = refl; done = refl; crashed = refl; running = refl; idle = refl }
 
-no_mark-idle : (started : Bool) → has_no 59 (idle_text started) ≡ true
-no_mark-idle true = refl
-no_mark-idle false = refl
+module _ (b : ℕ) (outside : IsOutside b) where
+  none-numbers : (numbers : List ℕ) → are_small numbers ≡ true → has_no b (numbers_text numbers) ≡ true
+  none-numbers [] h = refl
+  none-numbers (n ∷ numbers) h =
+      let parts = and_parts (leb n 1000000000) (are_small numbers) h in
+      has_no-append b (32 ∷ decimal n) (numbers_text numbers) (outside.number n (leb-true n 1000000000 parts.0)) (none-numbers numbers parts.1)
 
-pub no_mark-end : (p : ProcEnd) → end_fits p.fate ≡ true → has_no 59 (end_text p) ≡ true
-no_mark-end p h = has_no-append 59 (fate_text p.fate) (idle_text p.started) (no_mark-fate p.fate h) (no_mark-idle p.started)
+  none-fate : (fate : End) → end_fits fate ≡ true → has_no b (fate_text fate) ≡ true
+  none-fate (Done numbers) h = has_no-append b (codes "done") (numbers_text numbers.items) outside.done (none-numbers numbers.items (and_parts (leb (length numbers.items) 8) (are_small numbers.items) h).1)
+  none-fate (Fault code) h =
+      let low = leb-true code 4 (and_parts (leb 1 code) (leb code 4) h).1 in
+      has_no-append b (codes "fault") (32 ∷ decimal code) outside.fault (outside.number code (omega arith))
+  none-fate Crashed h = outside.crashed
+  none-fate Running h = outside.running
+
+  none-idle : (started : Bool) → has_no b (idle_text started) ≡ true
+  none-idle true = refl
+  none-idle false = outside.idle
+
+  pub none-end : (p : ProcEnd) → end_fits p.fate ≡ true → has_no b (end_text p) ≡ true
+  none-end p h = has_no-append b (fate_text p.fate) (idle_text p.started) (none-fate p.fate h) (none-idle p.started)

@@ -10,7 +10,7 @@ use Rattle.patterns.specs.declared.standings.Standing.TheVariants as standing
 use Rattle.patterns.specs.Cuts.{has_no, begins_at}
 use Rattle.patterns.specs.PatternText.{FitsPattern, IsBadAt, ended_text, pattern_text, standing_fits, standing_text}
 use Rattle.patterns.proofs.Bytes.{IsCut, cut_same, cut_is}
-use Rattle.patterns.proofs.Ends.{no_mark-end}
+use Rattle.patterns.proofs.Ends.{mark_outside, none-end}
 
 abbrev pub all_fit : List Standing → Bool
 all_fit standings = list_all standing_fits standings
@@ -18,7 +18,7 @@ all_fit standings = list_all standing_fits standings
 pub no_mark : (s : Standing) → standing_fits s ≡ true → has_no 59 (standing_text s) ≡ true
 no_mark standing.Any h = refl
 no_mark standing.Done h = refl
-no_mark (standing.Just end) h = no_mark-end end h
+no_mark (standing.Just end) h = none-end 59 mark_outside end h
 
 -- the later standings of a pattern, each behind `; `
 abbrev later_text : List Standing → List ℕ

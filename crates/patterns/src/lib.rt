@@ -10,6 +10,6 @@ mod standings;
 
 pub use cuts::cut_at;
 pub use matching::NoneOf;
-pub use numbers::number_of;
+pub use numbers::{long_number_of, number_of};
 pub use reading::{BadPattern, read_pattern};
 pub use standings::{Pattern, Standing};

@@ -1,6 +1,6 @@
 //! Numbers as words.
 
-ghost use Rattle.std.specs.Prelude.{◌≡◌, ◌≢◌, ◌≤◌, ℕ, IfNone, IfSome, Some, decimal};
+ghost use Rattle.std.specs.Prelude.{◌≡◌, ◌≢◌, ◌<◌, ◌≤◌, ◌^◌, ℕ, IfNone, IfSome, Some, decimal};
 ghost use Rattle.regmodel.specs.declared.limits.TheConstants.{GREATEST_VALUE};
 
 use itoa::Buffer;
@@ -13,10 +13,19 @@ pub fn number_of(word: &[u8]) -> Option<u32>
     ensures small { IfSome result (λ n. n ≤ GREATEST_VALUE) }
     ensures none { IfNone result ((n : ℕ) → n ≤ GREATEST_VALUE → decimal n ≢ word.now) }
 {
-    let number = number_in(word)?;
-    if number > GREATEST_VALUE {
+    let number = long_number_of(word)?;
+    if number > u64::from(GREATEST_VALUE) {
         return None;
     }
+    Some(number as u32)
+}
+
+/// The number that a word writes so, below 2 to the 64. None for any other word.
+pub fn long_number_of(word: &[u8]) -> Option<u64>
+    ensures some { IfSome result (λ n. decimal n ≡ word.now) }
+    ensures none { IfNone result ((n : ℕ) → n < 2 ^ 64 → decimal n ≢ word.now) }
+{
+    let number = number_in(word)?;
     let mut buffer = Buffer::new();
     if buffer.format(number).as_bytes() != word {
         return None;
@@ -24,12 +33,12 @@ pub fn number_of(word: &[u8]) -> Option<u32>
     Some(number)
 }
 
-/// The number that a word is read as, also where it is not written so. None where it is no number of 32 bits.
-fn number_in(word: &[u8]) -> Option<u32>
-    ensures { (n : ℕ) → n ≤ GREATEST_VALUE → decimal n ≡ word.now → result ≡ Some n }
+/// The number that a word is read as, also where it is not written so. None where it is no number of 64 bits.
+fn number_in(word: &[u8]) -> Option<u64>
+    ensures { (n : ℕ) → n < 2 ^ 64 → decimal n ≡ word.now → result ≡ Some n }
 {
     match str::from_utf8(word) {
-        Ok(text) => text.parse::<u32>().ok(),
+        Ok(text) => text.parse::<u64>().ok(),
         Err(_) => None,
     }
 }

@@ -1,6 +1,6 @@
 -- What is read of a schedule's text, and what is left of it, determine its letters.
-use Rattle.std.proofs.Common.{◌≡◌, ◌≢◌, ℕ, ◌+◌, ◌<◌, ◌≤◌, List, [], ◌∷◌, ◌++◌, length, get_or, codes, refl, ap, ◌∙◌, sym, arith, append_assoc, length-append}
-use Rattle.std.proofs.lemmas.List.{append-nil}
+use Rattle.std.proofs.Common.{◌≡◌, ◌≢◌, ℕ, ◌+◌, ◌<◌, ◌≤◌, List, [], ◌∷◌, ◌++◌, length, get_or, take, codes, refl, ap, ◌∙◌, sym, arith, append_assoc, length-append}
+use Rattle.std.proofs.lemmas.List.{append-nil, take_more}
 use Rattle.std.proofs.lemmas.Grind.{flat_map-append}
 use Rattle.std.proofs.Math.Seq.{get_or-append_seam}
 use Rattle.std.specs.List.{flat_map}
@@ -113,3 +113,16 @@ spaced-one_more (b ∷ v) a text h = cc
 pub all-read : (v : List Letter) (a : Letter) (rest after text : List ℕ) → IsReadUpTo v rest text → letter_text a ++ after ≡ rest → length after < 1 → schedule_text (v ++ a ∷ []) ≡ text
 all-read v a rest [] text read e ends = spaced-one_more v a text (simp flat_map-append (cc (read.so_far, e)))
 all-read v a rest (b ∷ after) text read e ends = absurd (omega arith)
+
+spaced_more : (w : List Letter) (a : Letter) → spaced (w ++ a ∷ []) ≡ spaced w ++ (codes " " ++ letter_text a)
+spaced_more w a = flat_map-append (λ b. codes " " ++ letter_text b) w (a ∷ []) ∙ ap (λ t. spaced w ++ t) (append-nil (codes " " ++ letter_text a))
+
+-- a text is followed by a space and the next letter
+pub spaced_on : (w : List Letter) (i : ℕ) (a d : Letter) (start old mid new : List ℕ) → i < length w → a ≡ get_or w i d → old ≡ start ++ spaced (take i w) → mid ≡ old ++ codes " " → new ≡ mid ++ letter_text a → new ≡ start ++ spaced (take (i + 1) w)
+spaced_on w i a d start old mid new some is so_far space letter =
+    let front = take i w in
+    letter
+    ∙ ap (λ t. t ++ letter_text a) (space ∙ ap (λ t. t ++ codes " ") so_far)
+    ∙ append_assoc (start ++ spaced front) (codes " ") (letter_text a)
+    ∙ append_assoc start (spaced front) (codes " " ++ letter_text a)
+    ∙ ap (λ t. start ++ t) (sym (spaced_more front a) ∙ ap spaced (sym (take_more w i d some ∙ ap (λ b. front ++ b ∷ []) (sym is))))

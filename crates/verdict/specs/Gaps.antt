@@ -12,28 +12,29 @@ use Rattle.verdict.specs.declared.gaps.Gap.{Gap}
 use Rattle.verdict.specs.declared.gaps.Want.{Want}
 use Rattle.verdict.specs.declared.gaps.Want.TheVariants as want
 
--- some process has a name in one of these outcomes
-abbrev pub some_named : List (List ProcEnd) → Bool
-some_named outcomes = list_any (λ ends. list_any (λ end. is_some (name_of end)) ends) outcomes
+-- a process has a name, or is done
+abbrev pub is_wanted : Want → ProcEnd → Bool
+is_wanted want.Name end = is_some (name_of end)
+is_wanted want.Done end = elim end.fate [ Done numbers ↦ true | Fault code ↦ false | Crashed ↦ false | Running ↦ false ]
 
--- a process is done
-abbrev pub is_done : ProcEnd → Bool
-is_done end = elim end.fate [ Done numbers ↦ true | Fault code ↦ false | Crashed ↦ false | Running ↦ false ]
+-- one of these outcomes has such a process
+abbrev pub is_met : Want → List (List ProcEnd) → Bool
+is_met w outcomes = list_any (λ ends. list_any (is_wanted w) ends) outcomes
 
--- some process is done in one of these outcomes
-abbrev pub some_done : List (List ProcEnd) → Bool
-some_done outcomes = list_any (λ ends. list_any is_done ends) outcomes
+-- what a clause speaks of, where some outcomes may lack it
+abbrev pub spoken_of : Clause → Option Want
+spoken_of Distinct = Some want.Name
+spoken_of (AtMost name count) = Some want.Name
+spoken_of (Within low high) = Some want.Name
+spoken_of Adaptive = Some want.Name
+spoken_of Triangle = Some want.Name
+spoken_of SelfSeen = Some want.Done
+spoken_of Ended = None
+spoken_of NoFault = None
 
--- what a clause speaks of and none of these outcomes has, so that it is vacuous: it asks nothing of them
+-- what it speaks of and none of these outcomes has, so that it is vacuous: it asks nothing of them
 abbrev pub want_of : Clause → List (List ProcEnd) → Option Want
-want_of Distinct outcomes = if some_named outcomes then None else Some want.Name
-want_of (AtMost name count) outcomes = if some_named outcomes then None else Some want.Name
-want_of (Within low high) outcomes = if some_named outcomes then None else Some want.Name
-want_of Adaptive outcomes = if some_named outcomes then None else Some want.Name
-want_of Triangle outcomes = if some_named outcomes then None else Some want.Name
-want_of SelfSeen outcomes = if some_done outcomes then None else Some want.Done
-want_of Ended outcomes = None
-want_of NoFault outcomes = None
+want_of clause outcomes = elim (spoken_of clause) [ Some w ↦ if is_met w outcomes then None else Some w | None ↦ None ]
 
 -- the line of clause i and what it wants, where it is vacuous
 abbrev pub gap_at : List ℕ → List Clause → List (List ProcEnd) → ℕ → Option Gap

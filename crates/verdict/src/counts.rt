@@ -8,12 +8,26 @@ use texts::{Block, Text, WriteFault};
 /// A number of things: a noun, and its ending, which is left out for one thing.
 #[derive(Clone, Copy)]
 pub struct Counted<'a> {
-    /// The number.
-    pub number: u64,
-    /// The noun.
-    pub noun: &'a str,
-    /// The ending.
-    pub ending: &'a str,
+    number: u64,
+    noun: &'a str,
+    ending: &'a str,
+}
+
+impl<'a> Counted<'a> {
+    ghost use Rattle.std.specs.Prelude.{◌≡◌};
+
+    /// So many of what the noun says.
+    pub fn of(number: u64, noun: &'a str, ending: &'a str) -> Counted<'a>
+        ensures number { result.number ≡ number }
+        ensures noun { result.noun.now ≡ noun.now }
+        ensures ending { result.ending.now ≡ ending.now }
+    {
+        Counted {
+            number,
+            noun,
+            ending,
+        }
+    }
 }
 
 impl Text for Counted<'_> {
@@ -33,12 +47,7 @@ impl Text for Letters {
     ghost text = { λ l. spec.letters_text l.0 };
 
     fn put<W: Write>(&self, out: &mut W, block: &mut Block) -> Result<(), WriteFault> {
-        let letters = Counted {
-            number: self.0,
-            noun: "letter",
-            ending: "s",
-        };
-        letters.put(out, block)
+        Counted::of(self.0, "letter", "s").put(out, block)
     }
 }
 
@@ -53,12 +62,7 @@ impl Text for Crashes {
         if self.0 == 0 {
             return "no crashes".put(out, block);
         }
-        let crashes = Counted {
-            number: self.0,
-            noun: "crash",
-            ending: "es",
-        };
-        crashes.put(out, block)
+        Counted::of(self.0, "crash", "es").put(out, block)
     }
 }
 

@@ -1,8 +1,7 @@
 //! Checks that no outcome could break, for want of a process of which they speak.
 
-ghost use Rattle.std.specs.Prelude.{◌≡◌, ◌≤◌, is_some, length};
+ghost use Rattle.std.specs.Prelude.{◌≡◌, ◌≤◌, length};
 ghost use Rattle.std.specs.List.{list_any};
-ghost use Rattle.regmodel.specs.Judging.{name_of};
 ghost use Rattle.regmodel.specs.declared.limits.TheConstants.{MOST_CHECKS};
 ghost use Rattle.verdict.specs.Gaps as spec;
 
@@ -59,69 +58,50 @@ fn gap_at(text: &[u8], clauses: &[Clause], found: &Exploration, i: usize) -> Opt
 fn want_of(clause: &Clause, found: &Exploration) -> Option<Want>
     ensures { result ≡ spec.want_of clause.now found.now.outcomes }
 {
+    let want = spoken_of(clause)?;
+    if is_met(want, found.outcomes()) {
+        return None;
+    }
+    Some(want)
+}
+
+/// What a clause speaks of, where some outcomes may lack it.
+fn spoken_of(clause: &Clause) -> Option<Want>
+    ensures { result ≡ spec.spoken_of clause.now }
+{
     match *clause {
         Clause::Distinct
         | Clause::AtMost(_, _)
         | Clause::Within(_, _)
         | Clause::Adaptive
-        | Clause::Triangle => {
-            if some_named(found.outcomes()) {
-                None
-            } else {
-                Some(Want::Name)
-            }
-        }
-        Clause::SelfSeen => {
-            if some_done(found.outcomes()) {
-                None
-            } else {
-                Some(Want::Done)
-            }
-        }
+        | Clause::Triangle => Some(Want::Name),
+        Clause::SelfSeen => Some(Want::Done),
         Clause::Ended | Clause::NoFault => None,
     }
 }
 
-/// Whether a process has a name in one of these outcomes.
-fn some_named(outcomes: Outcomes<'_>) -> bool
-    ensures { result ≡ spec.some_named outcomes.entry }
+/// Whether one of these outcomes has a process as it is wanted.
+fn is_met(want: Want, outcomes: Outcomes<'_>) -> bool
+    ensures { result ≡ spec.is_met want outcomes.entry }
 {
     for outcome in outcomes {
-        if has_name(&outcome) {
+        if has(want, &outcome) {
             return true;
         }
     }
     false
 }
 
-/// Whether a process of an outcome has a name.
-fn has_name(outcome: &Outcome) -> bool
-    ensures { result ≡ list_any (λ end. is_some (name_of end)) outcome.now }
+/// Whether an outcome has a process as it is wanted.
+fn has(want: Want, outcome: &Outcome) -> bool
+    ensures { result ≡ list_any (spec.is_wanted want) outcome.now }
 {
-    outcome.ends().iter().any(|end| match &end.fate {
-        End::Done(numbers) => numbers.as_slice().first().is_some(),
-        _ => false,
-    })
-}
-
-/// Whether a process is done in one of these outcomes.
-fn some_done(outcomes: Outcomes<'_>) -> bool
-    ensures { result ≡ spec.some_done outcomes.entry }
-{
-    for outcome in outcomes {
-        if has_done(&outcome) {
-            return true;
-        }
+    let mut ends = outcome.ends().iter();
+    match want {
+        Want::Name => ends.any(|end| match &end.fate {
+            End::Done(numbers) => numbers.as_slice().first().is_some(),
+            _ => false,
+        }),
+        Want::Done => ends.any(|end| matches!(end.fate, End::Done(_))),
     }
-    false
-}
-
-/// Whether a process of an outcome is done.
-fn has_done(outcome: &Outcome) -> bool
-    ensures { result ≡ list_any spec.is_done outcome.now }
-{
-    outcome
-        .ends()
-        .iter()
-        .any(|end| matches!(end.fate, End::Done(_)))
 }

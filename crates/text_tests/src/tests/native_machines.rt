@@ -190,19 +190,13 @@ const CHOICES: [(u32, u32, u32, u32, &[u32]); 4] = [
 #[test]
 fn choices_of_names_do_as_their_programs(rt: HostRuntime) -> Result<(), Fail> {
     for (base, slots, slot, registers, numbers) in CHOICES {
+        let end = done(numbers);
         let mut native = NameSlots::make(base, slots, slot, registers)?;
         let kind = Use::Name(base, slots, slot);
-        does_as_its_program(&rt, &mut native, &kind, registers, &done(numbers))?;
-    }
-    Ok(())
-}
-
-#[test]
-fn scanned_choices_of_names_do_as_their_programs(rt: HostRuntime) -> Result<(), Fail> {
-    for (base, slots, slot, registers, numbers) in CHOICES {
-        let mut native = Names::make(base, slots, slot, registers)?;
+        does_as_its_program(&rt, &mut native, &kind, registers, &end)?;
+        let mut scanned = Names::make(base, slots, slot, registers)?;
         let kind = Use::Names(base, slots, slot);
-        does_as_its_program(&rt, &mut native, &kind, registers, &done(numbers))?;
+        does_as_its_program(&rt, &mut scanned, &kind, registers, &end)?;
     }
     Ok(())
 }

@@ -4,12 +4,12 @@ use Rattle.cli.proofs.findings.checked.Goals as goal
 
 pub verdict_on-verdict-requires-clause-checked : goal.verdict_on-verdict-requires-clause-checked
 verdict_on-verdict-requires-clause-checked g c =
-    let checked = rw c.clauses.ensures.value at c.in-Ok.ensures.checked in
+    let checked = rw (c.whole-job.ensures, c.clauses.ensures.value) at c.in-Ok.ensures.checked in
     plain_check c.args.effort.settings c.args.run.now.source.now c.args.allows_faults c.in-Ok.found checked
 
 pub returns-in_ok-new-in-Ok-clause-found : goal.returns-in_ok-new-in-Ok-clause-found
 returns-in_ok-new-in-Ok-clause-found g c =
     λ native.
-    let checked = rw c.clauses.ensures.value at c.in-Ok.ensures.checked in
+    let checked = rw (c.whole-job.ensures, c.clauses.ensures.value) at c.in-Ok.ensures.checked in
     let verdict = verdict_is c.args.effort.settings c.args.run.now.source.now c.args.allows_faults c.args.run.now.text.now c.in-Ok.found c.verdict_on-verdict.result c.requires.spelled checked c.verdict_on-verdict.ensures in
     (verdict_asked c.args.shortest c.args.effort native c.args.allows_faults c.args.run.now.text.now c.verdict_on-verdict.result c.in_ok-new-in-Ok.field-0.value c.in_ok-new-in-Ok.ensures.ok (c.requires.tried native) verdict, refl)

@@ -16,10 +16,10 @@ pub returns-in-Explore-clause-refused : goal.returns-in-Explore-clause-refused
 returns-in-Explore-clause-refused g c = rw c.in-Explore.is (c.explored.ensures.refused c.in-Explore.native)
 
 pub returns-in-Least-clause-found : goal.returns-in-Least-clause-found
-returns-in-Least-clause-found g c = rw c.in-Least.is (c.least_found.ensures.found c.in-Least.native)
+returns-in-Least-clause-found g c = rw c.in-Least.is (c.explored-in-Least.ensures.found c.in-Least.native)
 
 pub returns-in-Least-clause-refused : goal.returns-in-Least-clause-refused
-returns-in-Least-clause-refused g c = rw c.in-Least.is (c.least_found.ensures.refused c.in-Least.native)
+returns-in-Least-clause-refused g c = rw c.in-Least.is (c.explored-in-Least.ensures.refused c.in-Least.native)
 
 pub returns-in-Find-clause-found : goal.returns-in-Find-clause-found
 returns-in-Find-clause-found g c = rw c.in-Find.is (c.searched.ensures.found c.in-Find.native)

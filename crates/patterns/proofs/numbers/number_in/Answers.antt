@@ -9,5 +9,5 @@ returns-in-Err c = λ n low e. absurd (c.in-Err.ensures.cases.0 (subst IsUtf8 e 
 
 pub returns-in-Ok : goal.returns-in-Ok
 returns-in-Ok c = λ n low e.
-    let read : c.parse.result ≡ Ok n = parse-decimal 32 n c.in-Ok.text.now c.parse.result (omega arith) (omega arith) (c.in-Ok.ensures.cases.0 ∙ sym e) c.parse.ensures.value.0 in
+    let read : c.parse.result ≡ Ok n = parse-decimal 64 n c.in-Ok.text.now c.parse.result (omega arith) (omega arith) (c.in-Ok.ensures.cases.0 ∙ sym e) c.parse.ensures.value.0 in
     rw read at c.ok.ensures.value

@@ -4,7 +4,7 @@ use Rattle.std.specs.List.{flat_map}
 use Rattle.report.specs.ReportText.{least_text}
 use Rattle.texts.specs.NumberText.{number_line}
 use Rattle.texts.specs.OutcomeText.{outcome_line}
-use Rattle.part_texts.proofs.WholeParts.{behind_first, behind_word, explored_wanted, first_of, found-first, found-fits, least-first, least-fits, least_wanted, outcomes_are, word_of}
+use Rattle.part_texts.proofs.WholeParts.{behind_first, behind_outcomes, behind_word, explored_wanted, first_of, found-first, found-fits, least-first, least-fits, least_wanted, word_of}
 use Rattle.part_texts.proofs.WholeTexts.{line_of}
 use Rattle.part_texts.proofs.streams.PartStream.found.Goals as goal
 
@@ -32,16 +32,12 @@ pub returns-in_err-wanted_line-2-clause-whole : goal.returns-in_err-wanted_line-
 returns-in_err-wanted_line-2-clause-whole g c =
     let p = err_from_is_err_and c.from_residual-in_err-wanted_line-2.result c.from_residual-in_err-wanted_line-2.ensures.1 in
     rw (p.1, p.2) (λ found rest some few fits e.
-    explored_wanted c.args.processes _ c.wanted_line.new.self.line.items c.as_slice.result.now c.in-Some.tried found rest _ fits (line_of _ _ _ _ c.in_ok-wanted_line.ensures.line c.in_ok-wanted_line.ensures.one e) c.as_slice.ensures.value c.in-Some.ensures.some
-    (λ s fs known.
-    let are = outcomes_are c.args.processes c.in_ok-outcomes.outcomes.items s.outcomes _ _ (least_text s.least ++ rest) some few c.in_ok-outcomes.ensures.count fs.1 c.in_ok-outcomes.ensures.fit fs.2 c.in_ok-outcomes.ensures.text known in
-    c.in_err-wanted_line-2.ensures.whole (codes "least " ++ word_of s.least) (behind_word s.least rest) (least-fits c.args.processes s.least fs.4) (are.1 ∙ ap Some (least-first s.least rest))))
+    behind_outcomes c.args.processes _ _ c.wanted_line.new.self.line.items c.as_slice.result.now c.in-Some.tried found rest c.in_ok-outcomes.outcomes.items _ some few fits (line_of _ _ _ _ c.in_ok-wanted_line.ensures.line c.in_ok-wanted_line.ensures.one e) c.as_slice.ensures.value c.in-Some.ensures.some c.in_ok-outcomes.ensures.count c.in_ok-outcomes.ensures.fit c.in_ok-outcomes.ensures.text
+    (λ least fl known. c.in_err-wanted_line-2.ensures.whole (codes "least " ++ word_of least) (behind_word least rest) (least-fits c.args.processes least fl) (known ∙ ap Some (least-first least rest))))
 
 pub returns-in_err-least-2-clause-whole : goal.returns-in_err-least-2-clause-whole
 returns-in_err-least-2-clause-whole g c =
     let p = err_from_is_err_and c.from_residual-in_err-least-2.result c.from_residual-in_err-least-2.ensures.1 in
     rw (p.1, p.2) (λ found rest some few fits e.
-    explored_wanted c.args.processes _ c.wanted_line.new.self.line.items c.as_slice.result.now c.in-Some.tried found rest _ fits (line_of _ _ _ _ c.in_ok-wanted_line.ensures.line c.in_ok-wanted_line.ensures.one e) c.as_slice.ensures.value c.in-Some.ensures.some
-    (λ s fs known.
-    let are = outcomes_are c.args.processes c.in_ok-outcomes.outcomes.items s.outcomes _ _ (least_text s.least ++ rest) some few c.in_ok-outcomes.ensures.count fs.1 c.in_ok-outcomes.ensures.fit fs.2 c.in_ok-outcomes.ensures.text known in
-    c.in_err-least-2.ensures.whole s.least rest some few fs.4 (line_of _ _ _ _ c.in_ok-wanted_line-2.ensures.line c.in_ok-wanted_line-2.ensures.one are.1)))
+    behind_outcomes c.args.processes _ _ c.wanted_line.new.self.line.items c.as_slice.result.now c.in-Some.tried found rest c.in_ok-outcomes.outcomes.items _ some few fits (line_of _ _ _ _ c.in_ok-wanted_line.ensures.line c.in_ok-wanted_line.ensures.one e) c.as_slice.ensures.value c.in-Some.ensures.some c.in_ok-outcomes.ensures.count c.in_ok-outcomes.ensures.fit c.in_ok-outcomes.ensures.text
+    (λ least fl known. c.in_err-least-2.ensures.whole least rest some few fl (line_of _ _ _ _ c.in_ok-wanted_line-2.ensures.line c.in_ok-wanted_line-2.ensures.one known)))

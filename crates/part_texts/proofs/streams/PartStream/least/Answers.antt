@@ -1,6 +1,7 @@
-use Rattle.std.proofs.Common.{◌≡◌, ◌++◌, false, codes, sym, subst, ◌∙◌, rules}
+use Rattle.std.proofs.Common.{◌≡◌, ◌++◌, false, codes, refl, sym, subst, ◌∙◌, arith, rules}
 use Rattle.std.specs.Str.{bytes_eq}
 use Rattle.std.proofs.lemmas.Result.{err_from_is_err_and}
+use Rattle.part_texts.proofs.LineSizes.{outcome-fits-line}
 use Rattle.part_texts.proofs.WholeParts.{failing_wanted, least_is, none_said, word_of}
 use Rattle.part_texts.proofs.streams.PartStream.least.Goals as goal
 
@@ -27,4 +28,4 @@ returns-in_err-outcome-clause-whole g c =
     let other : bytes_eq c.in_ok-word.word.now (codes "none") ≡ false = subst (λ text. bytes_eq c.in_ok-word.word.now text ≡ false) c.as_slice-2.ensures (sym c.eq.ensures ∙ c.if-eq.false) in
     rw (p.1, p.2) (λ least rest some few fits l.
     failing_wanted c.args.processes _ c.args.self.now.line.items c.in_ok-word.word.now least rest _ fits l (here ∙ c.as_slice.ensures.value) other
-    (λ w ends fw fo is known. c.in_err-outcome.ensures.whole ends rest some few fo known))
+    (λ w ends fw fo is known. c.in_err-outcome.ensures.whole ends rest some few fo (outcome-fits-line (codes "fails ") c.args.processes ends refl (omega arith) few fo) known))

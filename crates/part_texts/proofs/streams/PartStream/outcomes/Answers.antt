@@ -7,7 +7,7 @@ use Rattle.regmodel.specs.Outcomes.{outcome_cmp}
 use Rattle.texts.specs.NumberText.{number_line}
 use Rattle.texts.specs.OutcomeText.{outcome_line}
 use Rattle.part_texts.specs.FitsPart.{FitsOutcome}
-use Rattle.part_texts.proofs.LineSizes.{number-fits}
+use Rattle.part_texts.proofs.LineSizes.{number-fits, outcome-fits-line}
 use Rattle.part_texts.proofs.ReadTexts.{clash, more_outcomes}
 use Rattle.part_texts.proofs.WholeParts.{next_of, rising-next}
 use Rattle.part_texts.proofs.WholeTexts.{number_is, outcome_is}
@@ -42,7 +42,7 @@ returns-in_err-outcome-clause-whole g c =
     rw (p.1, p.2) (λ outcomes rest some few fit rising low e.
     let count = number_is _ _ (codes "outcomes") c.in_ok-count.count (length outcomes) (flat_map outcome_line outcomes ++ rest) refl (omega arith) low c.in_ok-count.ensures.text (e ∙ ap Some (append_assoc (number_line (codes "outcomes") (length outcomes)) (flat_map outcome_line outcomes) rest)) in
     let next = next_of c.args.processes c.loop.outcomes.items outcomes _ _ rest some few (omega (arith, kept.count, count.0)) kept.fit fit kept.taken count.1 in
-    c.in_err-outcome.ensures.whole next.ends (flat_map outcome_line next.tail ++ rest) some few next.fits next.known)
+    c.in_err-outcome.ensures.whole next.ends (flat_map outcome_line next.tail ++ rest) some few next.fits (outcome-fits-line (codes "outcome ") c.args.processes next.ends refl (omega arith) few next.fits) next.known)
 
 pub returns-then-not-comes_last-clause-whole : goal.returns-then-not-comes_last-clause-whole
 returns-then-not-comes_last-clause-whole g c = λ outcomes rest some few fit rising low e.

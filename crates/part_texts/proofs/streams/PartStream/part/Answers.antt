@@ -1,14 +1,14 @@
-use Rattle.std.proofs.Common.{Some, ap, subst, ◌∙◌, rules}
+use Rattle.std.proofs.Common.{Some, ap, sym, subst, ◌∙◌, rules}
 use Rattle.std.proofs.lemmas.Result.{err_from_is_err_and}
 use Rattle.part_texts.specs.FitsPart.{FitsFound}
 use Rattle.part_texts.proofs.ReadTexts.{line_left, line_then, not_at_end, three_read}
 use Rattle.part_texts.proofs.SameParts.{part-parts}
-use Rattle.part_texts.proofs.WholeParts.{found_left, head_left, part-first, part_line, part_line-fits}
+use Rattle.part_texts.proofs.WholeParts.{behind_head, found_left, part-first, part_line, part_line-fits}
 use Rattle.part_texts.proofs.WholeTexts.{line_of}
 use Rattle.part_texts.proofs.streams.PartStream.part.Goals as goal
 
-pub returns-clause-some : goal.returns-clause-some
-returns-clause-some g c = three_read _ _ _ _ _ _ _ (line_then _ _ _ _ _ (c.in_ok-next_line.ensures.line (search rules)) c.in_ok-head.ensures.text) c.in_ok-found.ensures.text c.in_ok-end.ensures.text
+pub returns-clause-next : goal.returns-clause-next
+returns-clause-next g c = (three_read _ _ _ _ _ _ _ (line_then _ _ _ _ _ (c.in_ok-next_line.ensures.line (search rules)) c.in_ok-head.ensures.text) c.in_ok-found.ensures.text c.in_ok-end.ensures.text, record { head = c.in_ok-head.ensures.fits; found = rw (sym c.processes.ensures) c.in_ok-found.ensures.fits })
 
 pub returns-in_err-found-clause-err : goal.returns-in_err-found-clause-err
 returns-in_err-found-clause-err g c = not_at_end _ c.from_residual-in_err-found.result (line_left _ _ _ (c.in_ok-next_line.ensures.line (search rules)))
@@ -35,15 +35,13 @@ pub returns-in_err-found-clause-whole : goal.returns-in_err-found-clause-whole
 returns-in_err-found-clause-whole g c =
     let p = err_from_is_err_and c.from_residual-in_err-found.result c.from_residual-in_err-found.ensures.1 in
     rw (p.1, p.2) (λ report rest fits e.
-    let head = head_left _ _ _ _ c.in_ok-head.head report rest c.in_ok-head.ensures.fits fits (c.in_ok-next_line.ensures.line (search rules)) (c.in_ok-next_line.ensures.one (search rules)) c.in_ok-head.ensures.text e in
-    let same = c.processes.ensures ∙ ap (λ h. h.processes) head.0 in
-    c.in_err-found.ensures.whole report.found _ (rw same fits.head.some_process) (rw same fits.head.processes) (rw same fits.found) head.1)
+    let left = behind_head _ _ _ _ c.in_ok-head.head c.processes.result report rest c.processes.ensures c.in_ok-head.ensures.fits fits (c.in_ok-next_line.ensures.line (search rules)) (c.in_ok-next_line.ensures.one (search rules)) c.in_ok-head.ensures.text e in
+    c.in_err-found.ensures.whole report.found _ (rw left.0 fits.head.some_process) (rw left.0 fits.head.processes) (rw left.0 fits.found) left.1)
 
 pub returns-in_err-end-clause-whole : goal.returns-in_err-end-clause-whole
 returns-in_err-end-clause-whole g c =
     let p = err_from_is_err_and c.from_residual-in_err-end.result c.from_residual-in_err-end.ensures.1 in
     rw (p.1, p.2) (λ report rest fits e.
-    let head = head_left _ _ _ _ c.in_ok-head.head report rest c.in_ok-head.ensures.fits fits (c.in_ok-next_line.ensures.line (search rules)) (c.in_ok-next_line.ensures.one (search rules)) c.in_ok-head.ensures.text e in
-    let same = c.processes.ensures ∙ ap (λ h. h.processes) head.0 in
-    let read : FitsFound report.head.processes c.in_ok-found.found = subst (λ n. FitsFound n c.in_ok-found.found) same c.in_ok-found.ensures.fits in
-    c.in_err-end.ensures.whole rest (found_left _ _ c.in_ok-found.found report rest fits read c.in_ok-found.ensures.text head.1))
+    let left = behind_head _ _ _ _ c.in_ok-head.head c.processes.result report rest c.processes.ensures c.in_ok-head.ensures.fits fits (c.in_ok-next_line.ensures.line (search rules)) (c.in_ok-next_line.ensures.one (search rules)) c.in_ok-head.ensures.text e in
+    let read : FitsFound report.head.processes c.in_ok-found.found = subst (λ n. FitsFound n c.in_ok-found.found) left.0 c.in_ok-found.ensures.fits in
+    c.in_err-end.ensures.whole rest (found_left _ _ c.in_ok-found.found report rest fits read c.in_ok-found.ensures.text left.1))
