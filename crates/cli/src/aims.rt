@@ -6,11 +6,12 @@ ghost use Rattle.reglang.specs.Sources.{contents_of};
 ghost use Rattle.cli.specs.Runs.{IsNextAim, IsReached, IsUnreached};
 
 use crate::faults::AnswerFault;
-use crate::findings::{Finding, found_by};
 use crate::machines::machine_of;
 use crate::runs::Run;
 use crate::shortest::failing;
+use crate::tasks::found_by;
 use explorer::{Effort, Gate};
+use findings::Finding;
 use machine::Machine;
 use orders::Task;
 use std::sync::Wait;

@@ -2,12 +2,14 @@
 
 ghost use Rattle.std.specs.Prelude.{◌≡◌, ◌≤◌, ◌⊎◌, IfErr, IfOk, IsNone, None, OnErr, OnOk, if◌then◌else◌, option_and_then};
 ghost use Rattle.texts.specs.Appending.{Writes};
-ghost use Rattle.cli.specs.Findings.{HasBeginning, IsAnswered, IsCutShort, IsRefusedWith, IsUnanswered, finding_text};
+ghost use Rattle.findings.specs.FindingText.{finding_text};
+ghost use Rattle.cli.specs.Findings.{HasBeginning, IsAnswered, IsCutShort, IsRefusedWith, IsUnanswered};
 
 use crate::faults::{AnswerFault, refuse};
-use crate::findings::{Finding, found};
 use crate::progress::Progress;
+use crate::tasks::found;
 use crate::wording::{explain, refuse_in_words};
+use findings::Finding;
 use orders::{Question, Refusal, bytes_of};
 use std::alloc::Global;
 use std::io::{Read, Write};

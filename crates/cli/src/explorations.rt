@@ -7,9 +7,9 @@ ghost use Rattle.cli.specs.Findings.{IsFoundBy, IsRefusedBy, exploring_task, par
 ghost use Rattle.cli.specs.Runs.{AreListsOf};
 
 use crate::faults::AnswerFault;
-use crate::findings::Finding;
 use crate::runs::Run;
 use explorer::{Effort, Gate, Job, Part, exploration_of, least_failing};
+use findings::Finding;
 use machine::Machine;
 use orders::Refusal;
 use part_texts::PartHead;

@@ -5,7 +5,6 @@ mod aims;
 mod answers;
 mod explorations;
 mod faults;
-mod findings;
 mod machines;
 mod merges;
 mod performing;
@@ -14,6 +13,7 @@ mod runs;
 mod searches;
 mod shortest;
 mod standings;
+mod tasks;
 mod wording;
 
 pub use answers::answer;

@@ -8,7 +8,7 @@ use crate::answers::answer;
 use crate::faults::{AnswerFault, refuse};
 use crate::merges::merge_file;
 use command_words::VERSION;
-use orders::{Order, Question, Request};
+use orders::{Order, Question, Request, worse};
 use std::alloc::Global;
 use std::io::{Read, Write};
 use std::sync::Wait;
@@ -75,7 +75,7 @@ fn answer_each<
         × (known ≡ option_and_then R.remaining file))
         order.now out.old out.new result }
 {
-    let mut highest = 0;
+    let mut worst = 0;
     for path in order.paths.as_slice() {
         let question = Question {
             path,
@@ -83,7 +83,7 @@ fn answer_each<
             progress: order.progress,
         };
         let status = answer(rt, alloc, &question, opener(path), out, err);
-        highest = highest.max(status);
+        worst = worse(worst, status);
     }
-    highest
+    worst
 }

@@ -11,22 +11,14 @@ ghost use Rattle.cli.specs.Standings.{IsHindranceAt, IsLetterRefused};
 
 use arrayvec::ArrayVec;
 use drawing::{Drawing, draw};
+use findings::Standing;
 use machine::Machine;
 use reglang::Source;
-use regmodel::{End, Outcome, Prefix};
+use regmodel::{End, Prefix};
 use world::{BadLetter, World};
 
 /// How many processes may crash in a schedule that is replayed or drawn.
 const CRASHES: u32 = 8;
-
-/// Where a schedule leads.
-#[derive(Drop)]
-pub struct Standing {
-    /// How each process stands.
-    pub outcome: Outcome,
-    /// What each register holds, registers from 0.
-    pub registers: ArrayVec<u32, 64>,
-}
 
 /// A letter that is not possible where it stands.
 #[derive(Debug, Drop)]

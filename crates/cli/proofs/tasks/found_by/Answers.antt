@@ -1,7 +1,7 @@
 use Rattle.std.proofs.Common.{◌≡◌, map}
 use Rattle.reglang.specs.Sources.{source_programs}
 use Rattle.explorer.proofs.Growing.{last_has}
-use Rattle.cli.proofs.findings.found_by.Goals as goal
+use Rattle.cli.proofs.tasks.found_by.Goals as goal
 
 pub returns-in-Check-clause-found : goal.returns-in-Check-clause-found
 returns-in-Check-clause-found g c = rw c.in-Check.is (c.checked.ensures.found c.in-Check.native)

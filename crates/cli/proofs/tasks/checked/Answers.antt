@@ -1,6 +1,6 @@
 use Rattle.std.proofs.Common.{refl}
 use Rattle.cli.proofs.VerdictsFound.{plain_check, verdict_asked, verdict_is}
-use Rattle.cli.proofs.findings.checked.Goals as goal
+use Rattle.cli.proofs.tasks.checked.Goals as goal
 
 pub verdict_on-verdict-requires-clause-checked : goal.verdict_on-verdict-requires-clause-checked
 verdict_on-verdict-requires-clause-checked g c =

@@ -1,0 +1,76 @@
+//! What was found of a source, and its text.
+
+ghost use Rattle.std.specs.Prelude.{◌≡◌};
+ghost use Rattle.texts.specs.Appending.{Wrote};
+ghost use Rattle.findings.specs.FindingText.{finding_text, has_failing};
+
+use crate::standings::Standing;
+use drawing::{Drawing, Drawn};
+use part_texts::{PartHead, write_explored_part, write_least_part};
+use report::{Exploration, Least, write_exploration, write_least, write_standing};
+use std::io::Write;
+use texts::{WriteFault, write};
+use verdict::{Discovery, FaultLine, Verdict, first_fault, write_discovery, write_verdict};
+
+/// What was found of a source.
+#[derive(Drop)]
+pub enum Finding {
+    /// Whether a source holds, and what its least failing schedule breaks; and whether that is the least of the shortest.
+    Verdict(Box<Verdict>, bool),
+    /// The report of an exploration.
+    Report(Exploration),
+    /// The least failing schedule alone.
+    Least(Least),
+    /// What a part of an exploration gave, and which part it is.
+    Part(PartHead, Exploration),
+    /// The least failing schedule of a part alone, and which part it is.
+    LeastPart(PartHead, Least),
+    /// The least schedule that leads to an outcome that was looked for.
+    Discovery(Box<Discovery>),
+    /// Where a schedule leads.
+    Standing(Standing),
+    /// What a schedule does, and whether all registers are wanted.
+    Drawing(Box<Drawing>, bool),
+}
+
+impl Finding {
+    /// Whether a schedule was found to fail, or to lead to what was looked for. A part of an exploration does not tell.
+    pub fn fails(&self) -> bool
+        ensures { result ≡ has_failing self.now }
+    {
+        match self {
+            Finding::Verdict(verdict, _) => verdict.fails(),
+            Finding::Report(report) => report.least().is_some(),
+            Finding::Least(least) => least.least().is_some(),
+            Finding::Part(_, _) => false,
+            Finding::LeastPart(_, _) => false,
+            Finding::Discovery(discovery) => discovery.least.least().is_some(),
+            Finding::Standing(_) => false,
+            Finding::Drawing(_, _) => false,
+        }
+    }
+
+    /// Writes what was found of the text in the file of this path.
+    pub fn write<W: Write>(&self, path: &str, text: &[u8], out: &mut W) -> Result<(), WriteFault>
+        ensures { Wrote W.contents out.old out.new (finding_text path.now text.now self.now)
+            result }
+    {
+        match self {
+            Finding::Verdict(verdict, is_shortest) => {
+                write_verdict(path.as_bytes(), text, verdict, *is_shortest, out)
+            }
+            Finding::Report(report) => write_exploration(report, out),
+            Finding::Least(least) => write_least(least, out),
+            Finding::Part(head, found) => write_explored_part(head, found, out),
+            Finding::LeastPart(head, least) => write_least_part(head, least, out),
+            Finding::Discovery(discovery) => write_discovery(path.as_bytes(), discovery, out),
+            Finding::Standing(standing) => {
+                write_standing(&standing.outcome, standing.registers.as_slice(), out)
+            }
+            Finding::Drawing(drawing, all) => {
+                let drawn = Drawn { drawing, all: *all };
+                write(&(drawn, FaultLine(first_fault(drawing.outcome()))), out)
+            }
+        }
+    }
+}
