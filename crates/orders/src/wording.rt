@@ -24,7 +24,7 @@ pub fn refuse_in_words<E: Write>(subject: &str, refusal: &Refusal, err: &mut E) 
 /// Writes in words what is refused, of this subject. The error is that of the writer.
 pub fn write_words<E: Write>(subject: &str, refusal: &Refusal, err: &mut E) -> io::Result<()> {
     match refusal {
-        Refusal::Words => writeln!(err, "a word of the command line is not UTF-8"),
+        Refusal::Words => write_line("", "a word of the command line is not UTF-8", err),
         Refusal::Setting(code) => writeln!(err, "setting {code} is past its limit"),
         Refusal::Bound(bound) => writeln!(
             err,
@@ -33,9 +33,10 @@ pub fn write_words<E: Write>(subject: &str, refusal: &Refusal, err: &mut E) -> i
             bound.least(),
             bound.most()
         ),
-        Refusal::Schedule => writeln!(
+        Refusal::Schedule => write_line(
+            "",
+            "this is no schedule: write at most 64 letters parted by one space, each R or C and the number of a process, 0 to 7, or . for none",
             err,
-            "this is no schedule: write at most 64 letters parted by one space, each R or C and the number of a process, 0 to 7, or . for none"
         ),
         Refusal::Pattern(place, standing) => writeln!(
             err,
@@ -49,13 +50,19 @@ pub fn write_words<E: Write>(subject: &str, refusal: &Refusal, err: &mut E) -> i
             place.saturating_add(1),
             standing.saturating_add(1)
         ),
-        Refusal::NoPattern => writeln!(err, "{subject}: there is no pattern: write one a line"),
-        Refusal::TwiceStandard => writeln!(
+        Refusal::NoPattern => write_line(subject, ": there is no pattern: write one a line", err),
+        Refusal::TwiceStandard => write_line(
+            subject,
+            " stands for standard input, which cannot be both the source and the patterns",
             err,
-            "{subject} stands for standard input, which cannot be both the source and the patterns"
         ),
-        Refusal::File => writeln!(err, "{subject}: the file cannot be read"),
-        Refusal::LongFile => writeln!(err, "{subject}: the file is longer than 1048576 bytes"),
-        Refusal::Memory => writeln!(err, "memory ran out"),
+        Refusal::File => write_line(subject, ": the file cannot be read", err),
+        Refusal::LongFile => write_line(subject, ": the file is longer than 1048576 bytes", err),
+        Refusal::Memory => write_line("", "memory ran out", err),
     }
+}
+
+/// Writes a line that begins with the subject.
+fn write_line<E: Write>(subject: &str, words: &str, err: &mut E) -> io::Result<()> {
+    writeln!(err, "{subject}{words}")
 }

@@ -1,6 +1,6 @@
 //! What a line, a use and a clause are made of.
 
-ghost use Rattle.std.specs.Prelude.{◌≡◌, ◌≤◌, length};
+ghost use Rattle.std.specs.Prelude.{◌≡◌, ◌≤◌, ◌∷◌, [], length};
 ghost use Rattle.reglang.specs.Arguments as spec;
 
 use crate::forms::Line;
@@ -32,34 +32,68 @@ impl Default for Argument {
 pub fn line_with(key: Keyword, arguments: &[Argument]) -> Option<Line>
     ensures { result ≡ spec.line_with key arguments.now }
 {
-    match (key, arguments) {
-        (Keyword::Registers, [Argument::Number(n)]) => Some(Line::Registers(*n)),
-        (Keyword::Process, []) => Some(Line::Process),
-        (Keyword::End, []) => Some(Line::End),
-        (Keyword::Set, [Argument::Target(to), Argument::Expression(value)]) => Some(Line::Set(
-            *to, *value,
+    match arguments {
+        [] => bare_line(key),
+        [only] => line_of_one(key, *only),
+        [first, second] => line_of_two(key, *first, *second),
+        [first, second, third] => line_of_three(key, *first, *second, *third),
+        _ => None,
+    }
+}
+
+/// The line that a first word makes with no argument.
+fn bare_line(key: Keyword) -> Option<Line>
+    ensures { result ≡ spec.line_with key [] }
+{
+    match key {
+        Keyword::Process => Some(Line::Process),
+        Keyword::End => Some(Line::End),
+        Keyword::Else => Some(Line::Else),
+        Keyword::Fi => Some(Line::Fi),
+        Keyword::Done => Some(Line::Done),
+        Keyword::Halt => Some(Line::Halt),
+        _ => None,
+    }
+}
+
+/// The line that a first word makes with one argument.
+fn line_of_one(key: Keyword, only: Argument) -> Option<Line>
+    ensures { result ≡ spec.line_with key (only ∷ []) }
+{
+    match (key, only) {
+        (Keyword::Registers, Argument::Number(n)) => Some(Line::Registers(n)),
+        (Keyword::If, Argument::Expression(test)) => Some(Line::If(test)),
+        (Keyword::Repeat, Argument::Expression(count)) => Some(Line::Repeat(count)),
+        (Keyword::Emit, Argument::Expression(value)) => Some(Line::Emit(value)),
+        _ => None,
+    }
+}
+
+/// The line that a first word makes with two arguments.
+fn line_of_two(key: Keyword, first: Argument, second: Argument) -> Option<Line>
+    ensures { result ≡ spec.line_with key (first ∷ second ∷ []) }
+{
+    match (key, first, second) {
+        (Keyword::Set, Argument::Target(to), Argument::Expression(value)) => Some(Line::Set(
+            to, value,
         )),
-        (Keyword::Read, [Argument::Target(to), Argument::Operand(from)]) => Some(Line::Read(
-            *to, *from,
+        (Keyword::Read, Argument::Target(to), Argument::Operand(from)) => Some(Line::Read(
+            to, from,
         )),
-        (Keyword::Write, [Argument::Operand(to), Argument::Expression(value)]) => Some(Line::Write(
-            *to, *value,
+        (Keyword::Write, Argument::Operand(to), Argument::Expression(value)) => Some(Line::Write(
+            to, value,
         )),
-        (
-            Keyword::Scan,
-            [
-                Argument::Number(cell),
-                Argument::Number(first),
-                Argument::Number(count),
-            ],
-        ) => Some(Line::Scan(*cell, *first, *count)),
-        (Keyword::If, [Argument::Expression(test)]) => Some(Line::If(*test)),
-        (Keyword::Else, []) => Some(Line::Else),
-        (Keyword::Fi, []) => Some(Line::Fi),
-        (Keyword::Repeat, [Argument::Expression(count)]) => Some(Line::Repeat(*count)),
-        (Keyword::Done, []) => Some(Line::Done),
-        (Keyword::Emit, [Argument::Expression(value)]) => Some(Line::Emit(*value)),
-        (Keyword::Halt, []) => Some(Line::Halt),
+        _ => None,
+    }
+}
+
+/// The line that a first word makes with three arguments.
+fn line_of_three(key: Keyword, first: Argument, second: Argument, third: Argument) -> Option<Line>
+    ensures { result ≡ spec.line_with key (first ∷ second ∷ third ∷ []) }
+{
+    match (key, first, second, third) {
+        (Keyword::Scan, Argument::Number(cell), Argument::Number(first), Argument::Number(count)) =>
+            Some(Line::Scan(cell, first, count)),
         _ => None,
     }
 }
@@ -68,43 +102,57 @@ pub fn line_with(key: Keyword, arguments: &[Argument]) -> Option<Line>
 pub fn use_with(kind: Kind, arguments: &[Argument]) -> Option<Use>
     ensures { result ≡ spec.use_with kind arguments.now }
 {
-    match (kind, arguments) {
-        (Kind::Split, [Argument::Number(base), Argument::Number(id)]) => Some(Use::Split(
-            *base, *id,
-        )),
-        (
-            Kind::Grid,
-            [
-                Argument::Number(base),
-                Argument::Number(side),
-                Argument::Number(id),
-            ],
-        ) => Some(Use::Grid(*base, *side, *id)),
+    match arguments {
+        [first, second] => use_of_two(kind, *first, *second),
+        [first, second, third] => use_of_three(kind, *first, *second, *third),
+        [first, second, third, fourth] => use_of_four(kind, *first, *second, *third, *fourth),
+        _ => None,
+    }
+}
+
+/// The use that a kind makes with two arguments.
+fn use_of_two(kind: Kind, first: Argument, second: Argument) -> Option<Use>
+    ensures { result ≡ spec.use_with kind (first ∷ second ∷ []) }
+{
+    match (kind, first, second) {
+        (Kind::Split, Argument::Number(base), Argument::Number(id)) => Some(Use::Split(base, id)),
+        _ => None,
+    }
+}
+
+/// The use that a kind makes with three arguments.
+fn use_of_three(kind: Kind, first: Argument, second: Argument, third: Argument) -> Option<Use>
+    ensures { result ≡ spec.use_with kind (first ∷ second ∷ third ∷ []) }
+{
+    match (first, second, third) {
+        (Argument::Number(base), Argument::Number(size), Argument::Number(own)) => match kind {
+            Kind::Grid => Some(Use::Grid(base, size, own)),
+            Kind::Name => Some(Use::Name(base, size, own)),
+            Kind::Names => Some(Use::Names(base, size, own)),
+            _ => None,
+        },
+        _ => None,
+    }
+}
+
+/// The use that a kind makes with four arguments.
+fn use_of_four(
+    kind: Kind,
+    first: Argument,
+    second: Argument,
+    third: Argument,
+    fourth: Argument,
+) -> Option<Use>
+    ensures { result ≡ spec.use_with kind (first ∷ second ∷ third ∷ fourth ∷ []) }
+{
+    match (kind, first, second, third, fourth) {
         (
             Kind::Tree,
-            [
-                Argument::Number(base),
-                Argument::Number(depth),
-                Argument::Number(id),
-                Argument::Number(value),
-            ],
-        ) => Some(Use::Tree(*base, *depth, *id, *value)),
-        (
-            Kind::Name,
-            [
-                Argument::Number(base),
-                Argument::Number(slots),
-                Argument::Number(slot),
-            ],
-        ) => Some(Use::Name(*base, *slots, *slot)),
-        (
-            Kind::Names,
-            [
-                Argument::Number(base),
-                Argument::Number(slots),
-                Argument::Number(slot),
-            ],
-        ) => Some(Use::Names(*base, *slots, *slot)),
+            Argument::Number(base),
+            Argument::Number(depth),
+            Argument::Number(id),
+            Argument::Number(value),
+        ) => Some(Use::Tree(base, depth, id, value)),
         _ => None,
     }
 }

@@ -105,10 +105,8 @@ fn are_adaptive(ends: &[ProcEnd]) -> bool
         ≡ list_all (λ m. nat_le 1 m && nat_le (m + 1) (2 * count_started ends.now))
         (names ends.now) }
 {
-    let most = 2 * count_started(ends) as u64;
-    ends.iter()
-        .filter_map(name_of)
-        .all(|m| 1 <= m && u64::from(m) + 1 <= most)
+    let most = 2 * count_started(ends) as u32;
+    are_within(ends, 1, most.saturating_sub(1))
 }
 
 /// Whether each name m is at least 1, and 2m at most k(k + 1), where k processes took a step.
@@ -120,11 +118,8 @@ fn are_in_triangle(ends: &[ProcEnd]) -> bool
         && nat_le (2 * m) (count_started ends.now * (count_started ends.now + 1)))
         (names ends.now) }
 {
-    let k = count_started(ends) as u64;
-    let most = k * (k + 1);
-    ends.iter()
-        .filter_map(name_of)
-        .all(|m| 1 <= m && 2 * u64::from(m) <= most)
+    let k = count_started(ends) as u32;
+    are_within(ends, 1, k * (k + 1) / 2)
 }
 
 /// Whether a process still wants an access.

@@ -1,6 +1,6 @@
 //! Replies, as plain values that can be kept.
 
-ghost use Rattle.std.specs.Prelude.{◌≡◌, ◌≤◌, ◌↔◌, IsTrue, [], length};
+ghost use Rattle.std.specs.Prelude.{◌≡◌, ◌≤◌, ◌↔◌, IsTrue, [], length, take};
 ghost use Rattle.regmodel.specs.Kept.{values_in};
 ghost use Rattle.regmodel.specs.declared.limits.TheConstants.{MOST_SCANNED};
 
@@ -30,11 +30,21 @@ impl Reply {
         ensures { values_in self.new ≡ values.now }
     {
         match values {
-            // Most replies are of one number: its place is set without a call that copies memory.
             [value] => self.places[0] = *value,
-            _ => self.places[..values.len()].copy_from_slice(values),
+            _ => self.put_many(values),
         }
         self.count = values.len();
+    }
+
+    /// Puts these numbers in the first places.
+    // Not a part of its caller: most replies are of one number, whose place is set without room for a call that copies memory.
+    #[inline(never)]
+    fn put_many(&mut self, values: &[u32])
+        requires { length values.now ≤ MOST_SCANNED }
+        ensures places { take (length values.now) self.new.places ≡ values.now }
+        ensures room { length self.new.places ≡ length self.old.places }
+    {
+        self.places[..values.len()].copy_from_slice(values);
     }
 
     /// Its numbers.
@@ -50,7 +60,16 @@ impl Reply {
     {
         match values {
             [value] => self.count == 1 && self.places[0] == *value,
-            _ => self.values() == values,
+            _ => self.has_many(values),
         }
+    }
+
+    /// Whether it has just these numbers.
+    // Not a part of its caller, as `put_many` is none.
+    #[inline(never)]
+    fn has_many(&self, values: &[u32]) -> bool
+        ensures { IsTrue result ↔ (values_in self.now ≡ values.now) }
+    {
+        self.values() == values
     }
 }

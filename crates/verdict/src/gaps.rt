@@ -7,9 +7,9 @@ ghost use Rattle.verdict.specs.Gaps as spec;
 
 use arrayvec::ArrayVec;
 use explanations::check_line;
-use regmodel::{Clause, End, Outcome};
+use regmodel::{Clause, End, ProcEnd};
 use report::Exploration;
-use tallies::Outcomes;
+use tallies::{Ends, Outcomes};
 
 /// What a clause speaks of that no outcome has.
 #[derive(Clone, Copy, Default, PartialEq, Eq, Debug)]
@@ -84,8 +84,8 @@ fn spoken_of(clause: &Clause) -> Option<Want>
 fn is_met(want: Want, outcomes: Outcomes<'_>) -> bool
     ensures { result ≡ spec.is_met want outcomes.entry }
 {
-    for outcome in outcomes {
-        if has(want, &outcome) {
+    for ends in outcomes {
+        if has(want, ends) {
             return true;
         }
     }
@@ -93,15 +93,26 @@ fn is_met(want: Want, outcomes: Outcomes<'_>) -> bool
 }
 
 /// Whether an outcome has a process as it is wanted.
-fn has(want: Want, outcome: &Outcome) -> bool
-    ensures { result ≡ list_any (spec.is_wanted want) outcome.now }
+fn has(want: Want, ends: Ends<'_>) -> bool
+    ensures { result ≡ list_any (spec.is_wanted want) ends.entry }
 {
-    let mut ends = outcome.ends().iter();
+    for end in ends {
+        if is_wanted(want, &end) {
+            return true;
+        }
+    }
+    false
+}
+
+/// Whether a process stands as it is wanted.
+fn is_wanted(want: Want, end: &ProcEnd) -> bool
+    ensures { result ≡ spec.is_wanted want end.now }
+{
     match want {
-        Want::Name => ends.any(|end| match &end.fate {
+        Want::Name => match &end.fate {
             End::Done(numbers) => numbers.as_slice().first().is_some(),
             _ => false,
-        }),
-        Want::Done => ends.any(|end| matches!(end.fate, End::Done(_))),
+        },
+        Want::Done => matches!(end.fate, End::Done(_)),
     }
 }

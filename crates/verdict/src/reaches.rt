@@ -5,9 +5,9 @@ ghost use Rattle.std.specs.List.{list_any};
 ghost use Rattle.regmodel.specs.Judging.{is_running};
 ghost use Rattle.verdict.specs.VerdictText as spec;
 
-use regmodel::{End, Outcome};
+use regmodel::End;
 use report::Exploration;
-use tallies::Outcomes;
+use tallies::{Ends, Outcomes};
 
 /// How much was tried, and how far.
 #[derive(Clone, Copy)]
@@ -41,8 +41,8 @@ pub fn reach_of(report: &Exploration) -> Reach
 fn is_cut_off(outcomes: Outcomes<'_>) -> bool
     ensures { result ≡ list_any (λ ends. list_any is_running ends) outcomes.entry }
 {
-    for outcome in outcomes {
-        if some_running(&outcome) {
+    for ends in outcomes {
+        if some_running(ends) {
             return true;
         }
     }
@@ -50,11 +50,13 @@ fn is_cut_off(outcomes: Outcomes<'_>) -> bool
 }
 
 /// Whether a process of an outcome still runs.
-fn some_running(outcome: &Outcome) -> bool
-    ensures { result ≡ list_any is_running outcome.now }
+fn some_running(ends: Ends<'_>) -> bool
+    ensures { result ≡ list_any is_running ends.entry }
 {
-    outcome
-        .ends()
-        .iter()
-        .any(|end| matches!(end.fate, End::Running))
+    for end in ends {
+        if let End::Running = end.fate {
+            return true;
+        }
+    }
+    false
 }

@@ -23,6 +23,16 @@ fn first_of(alloc: Global, text: &[u8]) -> Result<Option<PartReport>, BadPart> {
     PartStream::new(text).next_part(alloc)
 }
 
+/// The first part of a text that has one.
+fn part_of(alloc: Global, text: &[u8]) -> Result<PartReport, Fail> {
+    Ok(first_of(alloc, text)?.ok_or("no part is there")?)
+}
+
+/// Whether no part is left.
+fn is_over(alloc: Global, stream: &mut PartStream<&[u8]>) -> bool {
+    matches!(stream.next_part(alloc), Ok(None))
+}
+
 /// Reads a part that is there, and writes it again.
 fn again(rt: &(impl Abort + AllocGlobal), stream: &mut PartStream<&[u8]>) -> Result<Vec<u8>, Fail> {
     let report = stream.next_part(rt.alloc())?.ok_or("no part is there")?;
@@ -41,14 +51,14 @@ fn parts_one_after_another_are_read_and_written_as_they_stood(rt: HostRuntime) -
     assert!(rt; again(&rt, &mut stream)?.as_slice() == EXPLORED);
     assert!(rt; again(&rt, &mut stream)?.as_slice() == FAILS);
     assert!(rt; again(&rt, &mut stream)?.as_slice() == HOLDS);
-    assert!(rt; matches!(stream.next_part(rt.alloc()), Ok(None)));
-    assert!(rt; matches!(stream.next_part(rt.alloc()), Ok(None)));
+    assert!(rt; is_over(rt.alloc(), &mut stream));
+    assert!(rt; is_over(rt.alloc(), &mut stream));
     Ok(())
 }
 
 #[test]
 fn a_part_tells_what_stood_there(rt: HostRuntime) -> Result<(), Fail> {
-    let report = first_of(rt.alloc(), EXPLORED)?.ok_or("no part is there")?;
+    let report = part_of(rt.alloc(), EXPLORED)?;
     let head = &report.head;
     let numbers = (head.number(), head.count(), head.processes());
     assert!(rt; numbers == (3, 16, 2));
@@ -65,9 +75,9 @@ fn a_part_tells_what_stood_there(rt: HostRuntime) -> Result<(), Fail> {
 fn parts_of_one_exploration_are_known(rt: HostRuntime) -> Result<(), Fail> {
     let fourth =
         b"part 4 of 16\nprocesses 2\nlength 20\ncrashes 0\ncut 4\nsource 6\nempty\nleast none\nend\n";
-    let own = first_of(rt.alloc(), EXPLORED)?.ok_or("no part is there")?;
-    let beside = first_of(rt.alloc(), fourth.as_slice())?.ok_or("no part is there")?;
-    let other = first_of(rt.alloc(), FAILS)?.ok_or("no part is there")?;
+    let own = part_of(rt.alloc(), EXPLORED)?;
+    let beside = part_of(rt.alloc(), fourth.as_slice())?;
+    let other = part_of(rt.alloc(), FAILS)?;
     assert!(rt; own.head.is_of_same(&beside.head));
     assert!(rt; !own.head.is_of_same(&other.head));
     Ok(())

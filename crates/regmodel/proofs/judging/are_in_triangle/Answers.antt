@@ -1,12 +1,8 @@
-use Rattle.std.proofs.Common.{◌+◌, ◌*◌, ◌&&◌, nat_le, rules, tests}
-use Rattle.std.proofs.lemmas.Iterator.{YieldsList-from_slice}
-use Rattle.std.proofs.lemmas.Iterator.Consumers.{YieldsList-from_filter_map}
-use Rattle.std.proofs.lemmas.Iterator.Search.{all_from_yields_List}
-use Rattle.regmodel.specs.Judging.{count_started, name_of}
+use Rattle.std.proofs.Common.{◌∙◌, arith}
+use Rattle.std.proofs.lemmas.Bool.Decides.{leb_tells}
+use Rattle.regmodel.specs.Judging.{names}
+use Rattle.regmodel.proofs.Bounded.{all_same}
 use Rattle.regmodel.proofs.judging.are_in_triangle.Goals as goal
 
 pub returns : goal.returns
-returns c =
-    all_from_yields_List (λ m. nat_le 1 m && nat_le (2 * m) (count_started c.args.ends.now * (count_started c.args.ends.now + 1))) _ _ c.all.result c.all.ensures.ran
-    (YieldsList-from_filter_map _ name_of (YieldsList-from_slice c.args.ends.now cc) c.filter_map.ensures.closure (λ x r q k. search (rules, tests)))
-    (λ m b q k. search (rules, tests))
+returns c = c.are_within.ensures ∙ all_same _ _ (λ m. grind (arith, leb_tells)) (names c.args.ends.now)
