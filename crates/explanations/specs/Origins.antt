@@ -1,19 +1,9 @@
 -- Where the lines of a text come from, as a tool tells that made it: behind a line `#line N "FILE"` stands line N of that file.
-use Rattle.std.specs.Prelude.{ℕ, ◌+◌, ◌-◌, ◌==◌, if◌then◌else◌, List, [], ◌∷◌, Option, Some, None, codes, is_some, reverse, take}
+use Rattle.std.specs.Prelude.{ℕ, ◌+◌, ◌-◌, if◌then◌else◌, List, [], ◌∷◌, Option, Some, None, codes, is_some, take}
 use Rattle.std.specs.Str.{bytes_eq}
 use Rattle.reglang.specs.Forms.{number_in}
 use Rattle.reglang.specs.Lines.{lines, words}
-use Rattle.reglang.specs.Words.{word_of}
-
--- a word from its last byte on: what stands before a quote there
-abbrev pub before_quote : List ℕ → Option (List ℕ)
-before_quote [] = None
-before_quote (b ∷ bs) = if b == 34 then Some (reverse bs) else None
-
--- what stands between quotes, where they are the word's ends
-abbrev pub in_quotes : List ℕ → Option (List ℕ)
-in_quotes [] = None
-in_quotes (b ∷ bs) = if b == 34 then before_quote (reverse bs) else None
+use Rattle.reglang.specs.Words.{enclosed, word_of}
 
 -- the number that the first of these words is
 abbrev pub first_number : List (List ℕ) → Option ℕ
@@ -25,12 +15,12 @@ abbrev pub told_number : List (List ℕ) → Option ℕ
 told_number [] = None
 told_number (first ∷ more) = if bytes_eq first (codes "#line") then first_number more else None
 
--- the file of which it tells, its third word, where it tells one
+-- the file of which it tells, what stands between the quotes of its third word, where it tells one
 abbrev pub told_file : List (List ℕ) → Option (List ℕ)
 told_file [] = None
 told_file (first ∷ []) = None
 told_file (first ∷ second ∷ []) = None
-told_file (first ∷ second ∷ file ∷ more) = in_quotes file
+told_file (first ∷ second ∷ file ∷ more) = enclosed 34 34 file
 
 -- the number of the line behind this one, which has this number: what it tells, or one more
 abbrev pub number_or_next : Option ℕ → ℕ → ℕ

@@ -5,28 +5,13 @@ ghost use Rattle.explanations.specs.Origins as spec;
 ghost use Rattle.reglang.specs.Forms.{number_in};
 ghost use Rattle.reglang.specs.Lines.{words};
 
-use reglang::{Word, split_line, split_word, word_of};
+use reglang::{Word, enclosed, split_line, split_word, word_of};
 
 /// Where a line comes from: a file, and the number of the line there, counted from 1.
 #[derive(Clone, Copy)]
 pub struct Origin<'a> {
     pub path: &'a [u8],
     pub line: u64,
-}
-
-/// What stands between quotes. None where they are not the ends of the word.
-fn in_quotes(word: &[u8]) -> Option<&[u8]>
-    ensures { option_copied result ≡ spec.in_quotes word.now }
-{
-    let (first, rest) = word.split_first()?;
-    let (last, inside) = rest.split_last()?;
-    if *first != b'"' {
-        return None;
-    }
-    if *last != b'"' {
-        return None;
-    }
-    Some(inside)
 }
 
 /// The number that a word is.
@@ -58,14 +43,14 @@ fn told_number(line: &[u8]) -> Option<u32>
     first_number(rest)
 }
 
-/// The file of which a line tells, its third word, where it tells one.
+/// The file of which a line tells, in the quotes of its third word, where it tells one.
 fn told_file(line: &[u8]) -> Option<&[u8]>
     ensures { option_copied result ≡ spec.told_file (words line.now) }
 {
     let (_, rest) = split_word(line)?;
     let (_, rest) = split_word(rest)?;
     let (file, _) = split_word(rest)?;
-    in_quotes(file)
+    enclosed(file, b'"', b'"')
 }
 
 /// The file of the line behind this one, which is of this file.

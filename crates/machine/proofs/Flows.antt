@@ -101,13 +101,7 @@ resume-past n depth body frames d env s h k =
 -- past the access of a statement
 pub access_flow-with_stmt : (x : Stmt) (n : ℕ) (rest : Block) (f : Flow) → access_flow n (with_stmt x rest) f ≡ then_do f (exec rest n)
 access_flow-with_stmt (stmt.Assign t e) n rest f = refl
-access_flow-with_stmt (stmt.Read t a) n rest f = refl
-access_flow-with_stmt (stmt.Write a e) n rest f = refl
-access_flow-with_stmt (stmt.Scan cell first count) n rest f = refl
-access_flow-with_stmt (stmt.If' e m first k second) n rest f = refl
-access_flow-with_stmt (stmt.Repeat' e m body) n rest f = refl
-access_flow-with_stmt (stmt.Emit e) n rest f = refl
-access_flow-with_stmt stmt.Halt n rest f = refl
+access_flow-with_stmt _ n rest f = refl
 
 -- a program within an arm, or within a turn
 pub arm_part : (part : Part) (x : Arm) (n : ℕ) (whole : Block) (e : Expr) (b first second rest : Block) (go : Block → Env → Replies → Flow) (env : Env) (s : Replies) (f : Flow) → part ≡ Within x → whole ≡ program.If e first second rest → b ≡ of_arm x first second → go b env s ≡ f → part_flow part n whole go env s ≡ then_do f (exec rest n)

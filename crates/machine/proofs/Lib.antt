@@ -1,5 +1,6 @@
 pub mod Blocks
 pub mod CellLists
+pub mod Ended
 pub mod Fitting
 pub mod Flows
 pub mod GoingOn

@@ -19,12 +19,12 @@ use Rattle.regmodel.specs.declared.faults.TheConstants.{NO_VALUE, TOO_MANY_NUMBE
 use Rattle.regmodel.specs.declared.letters.Letter.{Letter}
 use Rattle.regmodel.specs.declared.limits.TheConstants.{GREATEST_VALUE, MOST_NUMBERS}
 use Rattle.regmodel.specs.declared.outcomes.End.TheVariants.{Crashed}
-use Rattle.world.proofs.Limits.{AllWithin, WantsWithin}
+use Rattle.world.proofs.Limits.{AllWithin, WantsWithin, replies-within}
 use Rattle.world.specs.Fit.{AreFit}
 use Rattle.patterns.specs.PatternText.{end_fits}
 use Rattle.part_texts.specs.FitsPart.{FitsOutcome}
-use Rattle.part_laws.proofs.ProgramEnds.{AreValues, CanStand, act_of-stands}
-use Rattle.part_laws.proofs.ReplyValues.{replies-values}
+use Rattle.regmodel.proofs.KeepingLimits.{CanStand, act_of-stands}
+use Rattle.regmodel.proofs.ValueLists.{AreValues}
 
 pending_at-stands : (n : ℕ) (ps : List Program) (p : ℕ) (s : Replies) → AllWithin n ps → p < length ps → AreValues s → CanStand (pending_at ps p s)
 pending_at-stands n [] p s fit there values = absurd (omega (arith, there))
@@ -44,7 +44,7 @@ module _ (law : WantsWithin) (n budget : ℕ) (ps : List Program) (fit : AreFit 
     where
       by : (crashed : Bool) → end_fits (cond crashed Crashed (end_of (pending_after ps w p))) ≡ true
       by true = refl
-      by false = end-fits (pending_after ps w p) (pending_at-stands n ps p (replies ps w p) fit.within there (replies-values law n budget ps fit w p))
+      by false = end-fits (pending_after ps w p) (pending_at-stands n ps p (replies ps w p) fit.within there (replies-within law n budget ps fit w p))
 
   pub outcome-fits : (w : List Letter) → FitsOutcome (length ps) (outcome_of ps w)
   outcome-fits w = record {

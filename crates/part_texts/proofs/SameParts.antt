@@ -109,15 +109,7 @@ head-parts h s =
     ∙ append_assoc (number_text h.number h.count) (bounds_text h.processes h.length h.crashes h.cut) (number_line (codes "source") (length h.source) ++ (h.source ++ s))
 
 abbrev plain : ℕ → ℕ → ℕ → ℕ → ℕ → ℕ → List ℕ → PlainHead
-plain number count processes limit crashes cut source = record {
-  number = number;
-  count = count;
-  processes = processes;
-  length = limit;
-  crashes = crashes;
-  cut = cut;
-  source = source;
-}
+plain number count processes limit crashes cut source = record { number = number; count = count; processes = processes; length = limit; crashes = crashes; cut = cut; source = source }
 
 pub plain-same : (h k : PlainHead) → h.number ≡ k.number → h.count ≡ k.count → h.processes ≡ k.processes → h.length ≡ k.length → h.crashes ≡ k.crashes → h.cut ≡ k.cut → h.source ≡ k.source → h ≡ k
 plain-same h k a b c d e f g =

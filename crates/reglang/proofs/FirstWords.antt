@@ -1,5 +1,5 @@
 -- What a line says, from its first words.
-use Rattle.std.proofs.Common.{◌≡◌, ℕ, zero, suc, ◌<◌, true, false, List, [], ◌∷◌, map, take, Option, Some, None, Ok, Err, refl, ap, ◌∙◌, arith}
+use Rattle.std.proofs.Common.{◌≡◌, ℕ, zero, suc, ◌<◌, true, false, List, [], ◌∷◌, map, take, Option, Some, None, Ok, Err, refl, ap, sym, ◌∙◌, arith}
 use Rattle.std.specs.Prelude.{option_and_then, option_map}
 use Rattle.std.specs.List.{list_all, list_any}
 use Rattle.std.proofs.lemmas.Bool.{cond-true}
@@ -9,6 +9,7 @@ use Rattle.reglang.specs.Lines.{words, is_printable}
 use Rattle.reglang.specs.Sorts.{kind_sorts, property_sorts, sorts_after}
 use Rattle.reglang.specs.Words.{word_of}
 use Rattle.reglang.specs.declared.arguments.Argument.TheVariants as argument
+use Rattle.reglang.specs.declared.forms.Line.{Line}
 use Rattle.reglang.specs.declared.forms.Line.TheVariants as line
 use Rattle.reglang.specs.declared.sorts.Sort.{Sort}
 use Rattle.reglang.specs.declared.sorts.Sort.TheVariants as sort
@@ -68,7 +69,7 @@ use_form-take [] = refl
 use_form-take (w ∷ ws) = ap (option_map line.Use) (use_of-take (kind_of w) ws)
 
 -- the first six of the words after the first one tell the form
-pub form_of-take : (key : Keyword) (more : List Word) → form_of key (take 6 more) ≡ form_of key more
+form_of-take : (key : Keyword) (more : List Word) → form_of key (take 6 more) ≡ form_of key more
 form_of-take keyword.Use more = use_form-take more
 form_of-take key more = ap (option_and_then (line_with key)) (arguments-take 6 (sorts_after key) more (few_after key))
 
@@ -83,6 +84,10 @@ clause_of-take (w ∷ ws) = property_clause-take (property_of w) ws
 
 pub keyword_line_from : (key : Keyword) (more : List Word) → list_all is_known more ≡ true → list_any is_no_number more ≡ false → keyword_line key more ≡ or_fault 4 (form_of key more)
 keyword_line_from key more known numbers = rw (known, numbers) refl
+
+-- what the first six of the words behind a keyword tell, where none of the words counts before its form
+pub keyword_line_told : (key : Keyword) (more first : List Word) (form : Option Line) → form ≡ form_of key first → first ≡ take 6 more → list_all is_known more ≡ true → list_any is_no_number more ≡ false → or_fault 4 form ≡ keyword_line key more
+keyword_line_told key more first form told six known numbers = ap (or_fault 4) (told ∙ ap (form_of key) six ∙ form_of-take key more) ∙ sym (keyword_line_from key more known numbers)
 
 pub read_check : (bytes first rest : List ℕ) → is_printable bytes ≡ true → words bytes ≡ first ∷ words rest → word_of first ≡ word.Keyword keyword.Check → read_line bytes ≡ Ok (Some (line.Check (clause_of (map word_of (words rest)))))
 read_check bytes first rest printable cut key =

@@ -208,24 +208,20 @@ parts_lead [] before room lines h =
     ∙ (ap (λ ps. Ok (Between (record before { processes = ps }))) (sym (append-nil before.processes))
     ∙ ap (λ cs. Ok (Between (record before { processes = before.processes ++ []; clauses = cs }))) (sym (append-nil before.clauses)))
 parts_lead (Process body ∷ parts) before room lines t =
-    let processes = room.processes in
-    let clauses = room.clauses in
     let count = length-append before.processes (body ∷ []) in
     let next = with_body before body in
     ap (takes (Between before)) t.whole
     ∙ then_lead (Between before) (Between next) t.front t.back _
-    (process_leads before body (omega arith) room.bodies.0 t.front t.before)
-    (parts_lead parts next (record { processes = omega arith; clauses = clauses; bodies = room.bodies.1 }) t.back t.after
+    (process_leads before body (omega (arith, room.processes)) room.bodies.0 t.front t.before)
+    (parts_lead parts next (record { processes = omega (arith, room.processes, count); clauses = room.clauses; bodies = room.bodies.1 }) t.back t.after
     ∙ ap (λ ps. Ok (Between (record before { processes = ps; clauses = before.clauses ++ clauses_in parts }))) (append_assoc before.processes (body ∷ []) (processes_in parts)))
 parts_lead (Check clause ∷ parts) before room lines t =
-    let processes = room.processes in
-    let clauses = room.clauses in
     let count = length-append before.clauses (clause ∷ []) in
     let next = with_clause before clause in
     ap (takes (Between before)) t.whole
     ∙ then_lead (Between before) (Between next) t.front t.back _
-    (check_leads before clause (omega arith) t.front t.before)
-    (parts_lead parts next (record { processes = processes; clauses = omega arith; bodies = room.bodies }) t.back t.after
+    (check_leads before clause (omega (arith, room.clauses)) t.front t.before)
+    (parts_lead parts next (record { processes = room.processes; clauses = omega (arith, room.clauses, count); bodies = room.bodies }) t.back t.after
     ∙ ap (λ cs. Ok (Between (record before { processes = before.processes ++ processes_in parts; clauses = cs }))) (append_assoc before.clauses (clause ∷ []) (clauses_in parts)))
 
 -- the lines of a source within the limits lead to it

@@ -18,14 +18,7 @@ use Rattle.reglang.specs.declared.source.Process.TheVariants as process
 use Rattle.uses.proofs.Fitting.{fitting}
 
 within_limits : (p : Prog) → IsWithin (program_of p)
-within_limits p = record {
-  some_register = p.some_register;
-  registers = p.few_registers;
-  operands = p.operands;
-  statements = p.statements;
-  open_blocks = p.open_blocks;
-  open_repeats = p.open_repeats;
-}
+within_limits p = record { some_register = p.some_register; registers = p.few_registers; operands = p.operands; statements = p.statements; open_blocks = p.open_blocks; open_repeats = p.open_repeats }
 
 -- a process of a source: its program is over the source's registers, and within its limits
 program_fits : (n : ℕ) (p : Process) → is_over n p ≡ true → IsWithin (program_over n (body_of p)) × ((program_over n (body_of p)).registers ≡ n)

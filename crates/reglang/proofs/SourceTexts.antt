@@ -166,6 +166,17 @@ block_fits n few (program.Emit value rest) h =
     and_from (expr_fits value) (list_all line_fits (block_lines rest)) parts.0 (block_fits n few rest parts.1)
 block_fits n few (program.Halt rest) h = block_fits n few rest h
 
+-- both kinds of renaming have a slot of so many
+slot_small : (base slots slot n : ℕ) → use_fits (use_line.Name base slots slot) n ≡ true → numbers_small (use_line.Name base slots slot) ≡ true
+slot_small base slots slot n h =
+    let within = fits (use_line.Name base slots slot) n h in
+    let few = within.few in
+    let room = within.room in
+    let parts = and_parts (is_between 1 8 slots) (ltb slot slots) within.numbers in
+    let count = between 1 8 slots parts.0 in
+    let own = ltb-true slot slots parts.1 in
+    rw (le-leb base 1000000000 (omega (arith, few, room)), le-leb slots 1000000000 (omega (arith, count.1)), le-leb slot 1000000000 (omega (arith, count.1, own))) refl
+
 use_small : (kind : Use) (registers : ℕ) → use_fits kind registers ≡ true → numbers_small kind ≡ true
 use_small (use_line.Split base id) n h =
     let within = fits (use_line.Split base id) n h in
@@ -191,22 +202,8 @@ use_small (use_line.Tree base depth id value) n h =
     let mark = between 1 1000000000 id inner.1 in
     let left = between 1 1000000000 value outer.1 in
     rw (le-leb base 1000000000 (omega (arith, few, room)), le-leb depth 1000000000 (omega (arith, levels.1)), le-leb id 1000000000 mark.1, le-leb value 1000000000 left.1) refl
-use_small (use_line.Name base slots slot) n h =
-    let within = fits (use_line.Name base slots slot) n h in
-    let few = within.few in
-    let room = within.room in
-    let parts = and_parts (is_between 1 8 slots) (ltb slot slots) within.numbers in
-    let count = between 1 8 slots parts.0 in
-    let own = ltb-true slot slots parts.1 in
-    rw (le-leb base 1000000000 (omega (arith, few, room)), le-leb slots 1000000000 (omega (arith, count.1)), le-leb slot 1000000000 (omega (arith, count.1, own))) refl
-use_small (use_line.Names base slots slot) n h =
-    let within = fits (use_line.Names base slots slot) n h in
-    let few = within.few in
-    let room = within.room in
-    let parts = and_parts (is_between 1 8 slots) (ltb slot slots) within.numbers in
-    let count = between 1 8 slots parts.0 in
-    let own = ltb-true slot slots parts.1 in
-    rw (le-leb base 1000000000 (omega (arith, few, room)), le-leb slots 1000000000 (omega (arith, count.1)), le-leb slot 1000000000 (omega (arith, count.1, own))) refl
+use_small (use_line.Name base slots slot) n h = slot_small base slots slot n h
+use_small (use_line.Names base slots slot) n h = slot_small base slots slot n h
 
 body_fits : (registers : ℕ) (body : Body) → IsBodyWithin registers body → list_all line_fits (body_lines body) ≡ true
 body_fits n (Text block) h = block_fits n h.registers block h.operands

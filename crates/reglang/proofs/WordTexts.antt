@@ -10,7 +10,7 @@ use Rattle.std.proofs.lemmas.Str.Parse.{digit_from_value}
 use Rattle.regmodel.specs.declared.programs.Op.{Op}
 use Rattle.regmodel.specs.declared.programs.Op.TheVariants as op
 use Rattle.reglang.specs.Lines.{is_empty}
-use Rattle.reglang.specs.Words.{is_digit, is_number, up_to_limit, number_of, only_below, variable_of, before_bracket, in_brackets, cell_or, cell_or_other, cell_word, variable_or, number_word, value_word, keywords, operators, kinds, properties, spelled_in, word_of}
+use Rattle.reglang.specs.Words.{is_digit, is_number, up_to_limit, number_of, only_below, variable_of, before_last, in_brackets, cell_or, cell_or_other, cell_word, variable_or, number_word, value_word, keywords, operators, kinds, properties, spelled_in, word_of}
 use Rattle.reglang.specs.Spelling.{keyword_text, operator_text, kind_text, property_text}
 use Rattle.reglang.specs.Writing.{word_text}
 use Rattle.reglang.specs.declared.words.Keyword.{Keyword}
@@ -123,11 +123,11 @@ variable_again i h = index_below 16 i h (omega arith)
 begins_v : (ds : List ℕ) → word_of (118 ∷ ds) ≡ variable_or (variable_of (118 ∷ ds)) (cell_word (in_brackets (118 ∷ ds)))
 begins_v ds = refl
 
-begins_bracket : (ds : List ℕ) → word_of (91 ∷ ds) ≡ cell_word (before_bracket (reverse ds))
+begins_bracket : (ds : List ℕ) → word_of (91 ∷ ds) ≡ cell_word (before_last 93 (reverse ds))
 begins_bracket ds = refl
 
-in_brackets_again : (index : List ℕ) → before_bracket (reverse (index ++ 93 ∷ [])) ≡ Some index
-in_brackets_again index = ap before_bracket (reverse-append index (93 ∷ [])) ∙ ap Some (reverse-reverse index)
+in_brackets_again : (index : List ℕ) → before_last 93 (reverse (index ++ 93 ∷ [])) ≡ Some index
+in_brackets_again index = ap (before_last 93) (reverse-append index (93 ∷ [])) ∙ ap Some (reverse-reverse index)
 
 cell_again : (i : ℕ) → i < 32 → cell_word (Some (decimal i)) ≡ word.Cell i
 cell_again i h = ap (λ o. cell_or o (cell_or_other (variable_of (decimal i)))) (index_below 32 i h (omega arith))
@@ -137,32 +137,20 @@ cell_of_again i h = ap cell_or_other (variable_again i h)
 
 -- ---- words
 
-key_again : (key : Keyword) → word_of (keyword_text key) ≡ word.Keyword key
-key_again keyword.Registers = refl
-key_again _ = refl
-
-operator_again : (o : Op) → word_of (operator_text o) ≡ word.Operator o
-operator_again op.Add = refl
-operator_again _ = refl
-
-kind_again : (k : Kind) → word_of (kind_text k) ≡ word.Kind k
-kind_again kind.Split = refl
-kind_again _ = refl
-
-property_again : (p : Property) → word_of (property_text p) ≡ word.Property p
-property_again property.Distinct = refl
-property_again _ = refl
-
 pub word_again : (w : Word) → word_fits w ≡ true → word_of (word_text w) ≡ w
-word_again (word.Keyword key) h = key_again key
+word_again (word.Keyword keyword.Registers) h = refl
+word_again (word.Keyword _) h = refl
 word_again (word.Number n) h = number_at n (decimal n) (leb-true n 1000000000 h) refl
 word_again word.NoNumber h = cc
 word_again (word.Var i) h = begins_v (decimal i) ∙ ap (λ o. variable_or o (cell_word (in_brackets (118 ∷ decimal i)))) (variable_again i (ltb-true i 16 h))
 word_again (word.Cell i) h = begins_bracket (decimal i ++ 93 ∷ []) ∙ ap cell_word (in_brackets_again (decimal i)) ∙ cell_again i (ltb-true i 32 h)
 word_again (word.CellOf i) h = begins_bracket (118 ∷ (decimal i ++ 93 ∷ [])) ∙ ap cell_word (in_brackets_again (118 ∷ decimal i)) ∙ cell_of_again i (ltb-true i 16 h)
-word_again (word.Operator o) h = operator_again o
-word_again (word.Kind k) h = kind_again k
-word_again (word.Property p) h = property_again p
+word_again (word.Operator op.Add) h = refl
+word_again (word.Operator _) h = refl
+word_again (word.Kind kind.Split) h = refl
+word_again (word.Kind _) h = refl
+word_again (word.Property property.Distinct) h = refl
+word_again (word.Property _) h = refl
 word_again word.Comment h = cc
 word_again word.Other h = cc
 
@@ -198,32 +186,20 @@ some_number n [] h e =
     absurd (omega (arith, some, none))
 some_number n (b ∷ bs) h e = refl
 
-plain_key : (key : Keyword) → (list_all is_plain (keyword_text key) ≡ true) × (is_empty (keyword_text key) ≡ false)
-plain_key keyword.Registers = (refl, refl)
-plain_key _ = (refl, refl)
-
-plain_operator : (o : Op) → (list_all is_plain (operator_text o) ≡ true) × (is_empty (operator_text o) ≡ false)
-plain_operator op.Add = (refl, refl)
-plain_operator _ = (refl, refl)
-
-plain_kind : (k : Kind) → (list_all is_plain (kind_text k) ≡ true) × (is_empty (kind_text k) ≡ false)
-plain_kind kind.Split = (refl, refl)
-plain_kind _ = (refl, refl)
-
-plain_property : (p : Property) → (list_all is_plain (property_text p) ≡ true) × (is_empty (property_text p) ≡ false)
-plain_property property.Distinct = (refl, refl)
-plain_property _ = (refl, refl)
-
 -- a word is not empty, and has only printable bytes that are no space
 pub plain_word : (w : Word) → word_fits w ≡ true → (list_all is_plain (word_text w) ≡ true) × (is_empty (word_text w) ≡ false)
-plain_word (word.Keyword key) h = plain_key key
+plain_word (word.Keyword keyword.Registers) h = (refl, refl)
+plain_word (word.Keyword _) h = (refl, refl)
 plain_word (word.Number n) h = let fits = leb-true n 1000000000 h in (plain_number n fits, some_number n (decimal n) fits refl)
 plain_word word.NoNumber h = cc
 plain_word (word.Var i) h = let low = ltb-true i 16 h in (plain_number i (omega arith), refl)
 plain_word (word.Cell i) h = let low = ltb-true i 32 h in (plain_before (decimal i) (93 ∷ []) (plain_number i (omega arith)) refl, refl)
 plain_word (word.CellOf i) h = let low = ltb-true i 16 h in (plain_before (decimal i) (93 ∷ []) (plain_number i (omega arith)) refl, refl)
-plain_word (word.Operator o) h = plain_operator o
-plain_word (word.Kind k) h = plain_kind k
-plain_word (word.Property p) h = plain_property p
+plain_word (word.Operator op.Add) h = (refl, refl)
+plain_word (word.Operator _) h = (refl, refl)
+plain_word (word.Kind kind.Split) h = (refl, refl)
+plain_word (word.Kind _) h = (refl, refl)
+plain_word (word.Property property.Distinct) h = (refl, refl)
+plain_word (word.Property _) h = (refl, refl)
 plain_word word.Comment h = cc
 plain_word word.Other h = cc

@@ -1,5 +1,5 @@
 -- Worked examples: the first faults of texts, and a text that spells a source.
-use Rattle.std.specs.Prelude.{◌≡◌, ℕ, Bool, true, false, List, [], ◌∷◌, ◌++◌, Option, Some, None, codes, refl}
+use Rattle.std.specs.Prelude.{◌≡◌, ℕ, Bool, true, false, List, [], ◌∷◌, ◌++◌, Option, Some, None, codes, map, replicate, refl}
 use Rattle.reglang.specs.Faults.{are_faultless, asks, at_start, first_fault}
 use Rattle.reglang.specs.Forms.{read_line}
 use Rattle.reglang.specs.Lines.{lines}
@@ -38,21 +38,6 @@ open_process = refl
 pub open_block : first_fault (codes "registers 1" ▹ codes "process" ▹ codes "if v0" ▹ codes "end" ▹ []) ≡ at 4 5
 open_block = refl
 
-pub no_variable : first_fault (codes "registers 1" ▹ codes "process" ▹ codes "set v16 1" ▹ codes "end" ▹ []) ≡ at 3 2
-no_variable = refl
-
-pub no_number : first_fault (codes "registers 1" ▹ codes "process" ▹ codes "emit 007" ▹ codes "end" ▹ []) ≡ at 3 3
-no_number = refl
-
-pub operand_missing : first_fault (codes "registers 1" ▹ codes "process" ▹ codes "emit" ▹ codes "end" ▹ []) ≡ at 3 4
-operand_missing = refl
-
-pub number_for_a_target : first_fault (codes "registers 1" ▹ codes "process" ▹ codes "set 5 v0" ▹ codes "end" ▹ []) ≡ at 3 4
-number_for_a_target = refl
-
-pub value_past_the_limit : first_fault (codes "registers 1" ▹ codes "process" ▹ codes "emit 1000000001" ▹ codes "end" ▹ []) ≡ at 3 6
-value_past_the_limit = refl
-
 pub registers_of_a_kind : first_fault (codes "registers 1" ▹ codes "process" ▹ codes "use split 0 1" ▹ codes "end" ▹ []) ≡ at 3 6
 registers_of_a_kind = refl
 
@@ -77,34 +62,24 @@ nothing_to_do = refl
 abbrev of_third_line : List ℕ → Option ReadFault
 of_third_line line = first_fault (codes "registers 2" ▹ codes "process" ▹ line ▹ codes "end" ▹ [])
 
--- into a 33rd cell
-pub scan_past_the_cells : of_third_line (codes "scan 31 0 2") ≡ at 3 6
-scan_past_the_cells = refl
+-- there is no variable v16, `scan` is no later word, and `names` no first one
+pub unknown_words : map of_third_line (codes "set v16 1" ∷ codes "read v0 scan" ∷ codes "names 0 2 0" ∷ []) ≡ replicate 3 (at 3 2)
+unknown_words = refl
 
-pub scan_of_nothing : of_third_line (codes "scan 0 0 0") ≡ at 3 6
-scan_of_nothing = refl
+pub no_number : of_third_line (codes "emit 007") ≡ at 3 3
+no_number = refl
 
--- of a third register
-pub scan_past_the_registers : of_third_line (codes "scan 0 1 2") ≡ at 3 6
-scan_past_the_registers = refl
+-- an operand is missing, a number stands where a target goes, and a variable where a cell goes
+pub no_forms : map of_third_line (codes "emit" ∷ codes "set 5 v0" ∷ codes "scan v0 0 1" ∷ []) ≡ replicate 3 (at 3 4)
+no_forms = refl
 
-pub scan_into_a_variable : of_third_line (codes "scan v0 0 1") ≡ at 3 4
-scan_into_a_variable = refl
+-- a value past the limit, a slot past the last, a 33rd cell, a scan of nothing, and of a third register
+pub past_the_limits : map of_third_line (codes "emit 1000000001" ∷ codes "use names 0 2 2" ∷ codes "scan 31 0 2" ∷ codes "scan 0 0 0" ∷ codes "scan 0 1 2" ∷ []) ≡ replicate 5 (at 3 6)
+past_the_limits = refl
 
-pub scan_of_both : of_third_line (codes "scan 0 0 2") ≡ None
-scan_of_both = refl
-
-pub scan_as_a_later_word : of_third_line (codes "read v0 scan") ≡ at 3 2
-scan_as_a_later_word = refl
-
-pub names_as_a_first_word : of_third_line (codes "names 0 2 0") ≡ at 3 2
-names_as_a_first_word = refl
-
-pub slot_of_its_own : of_third_line (codes "use names 0 2 1") ≡ None
-slot_of_its_own = refl
-
-pub slot_past_the_last : of_third_line (codes "use names 0 2 2") ≡ at 3 6
-slot_past_the_last = refl
+-- a scan of both registers, and the last slot
+pub no_faults : map of_third_line (codes "scan 0 0 2" ∷ codes "use names 0 2 1" ∷ []) ≡ replicate 2 None
+no_faults = refl
 
 -- whether no line of a text has a fault: then its end is at fault, or nothing
 abbrev are_all_faultless : List ℕ → Bool
@@ -123,14 +98,5 @@ pub process_before_registers : are_all_faultless (codes "process" ▹ codes "end
 process_before_registers = refl
 
 -- memory may be refused at a statement and at the end of a process, and not where one begins, nor at a line that is skipped
-pub statement_asks : asks (read_line (codes "halt")) ≡ true
-statement_asks = refl
-
-pub end_asks : asks (read_line (codes "end")) ≡ true
-end_asks = refl
-
-pub process_asks_not : asks (read_line (codes "process")) ≡ false
-process_asks_not = refl
-
-pub comment_asks_not : asks (read_line (codes "# halt")) ≡ false
-comment_asks_not = refl
+pub lines_that_ask : map (λ line. asks (read_line line)) (codes "halt" ∷ codes "end" ∷ codes "process" ∷ codes "# halt" ∷ []) ≡ true ∷ true ∷ false ∷ false ∷ []
+lines_that_ask = refl

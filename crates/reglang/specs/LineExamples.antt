@@ -1,5 +1,5 @@
 -- Lines, and what each says or the code of its fault.
-use Rattle.std.specs.Prelude.{◌≡◌, [], ◌∷◌, ◌++◌, Some, None, Ok, Err, refl, codes}
+use Rattle.std.specs.Prelude.{◌≡◌, [], ◌∷◌, ◌++◌, Some, None, Ok, Err, map, replicate, refl, codes}
 use Rattle.regmodel.specs.declared.programs.Target.TheVariants as target
 use Rattle.regmodel.specs.declared.programs.Operand.TheVariants as operand
 use Rattle.regmodel.specs.declared.programs.Op.TheVariants as op
@@ -32,36 +32,21 @@ two_words = refl
 pub tab : read_line (codes "#" ++ 9 ∷ []) ≡ Err 1
 tab = refl
 
-pub comment : read_line (codes "  # registers 1") ≡ Ok None
-comment = refl
+-- a comment, and a line of spaces
+pub skipped : map read_line (codes "  # registers 1" ∷ codes "   " ∷ []) ≡ replicate 2 (Ok None)
+skipped = refl
 
-pub only_spaces : read_line (codes "   ") ≡ Ok None
-only_spaces = refl
+-- a number where the line begins, a variable past v15, and an unknown word, which counts before a number that is none
+pub unknown : map read_line (codes "1" ∷ codes "set v16 1" ∷ codes "emit 007 x" ∷ []) ≡ replicate 3 (Err 2)
+unknown = refl
 
--- a number where the line begins
-pub no_keyword : read_line (codes "1") ≡ Err 2
-no_keyword = refl
+-- leading zeros, and a letter in a number, which counts before the form
+pub no_numbers : map read_line (codes "emit 007" ∷ codes "end 1a" ∷ []) ≡ replicate 2 (Err 3)
+no_numbers = refl
 
--- there are variables v0 to v15
-pub sixteenth_variable : read_line (codes "set v16 1") ≡ Err 2
-sixteenth_variable = refl
-
--- an unknown word counts before a number that is none
-pub unknown_first : read_line (codes "emit 007 x") ≡ Err 2
-unknown_first = refl
-
-pub leading_zeros : read_line (codes "emit 007") ≡ Err 3
-leading_zeros = refl
-
--- a number that is none counts before the form
-pub letter_in_a_number : read_line (codes "end 1a") ≡ Err 3
-letter_in_a_number = refl
-
-pub no_value : read_line (codes "emit") ≡ Err 4
-no_value = refl
-
-pub no_target : read_line (codes "set 5 v0") ≡ Err 4
-no_target = refl
+-- no value, a number for a target, a word for a scan's cell that is none, and a scan without a count
+pub out_of_form : map read_line (codes "emit" ∷ codes "set 5 v0" ∷ codes "scan [0] 30 2" ∷ codes "scan 0 30" ∷ []) ≡ replicate 4 (Err 4)
+out_of_form = refl
 
 pub set_cell : read_line (codes "set [v0] [31] < 7") ≡ Ok (Some (line.Set (target.CellOf 0) (expr.Two (operand.Cell 31) op.Less (operand.Number 7))))
 set_cell = refl
@@ -78,12 +63,6 @@ use_names = refl
 pub scan_registers : read_line (codes " scan 0 30  2") ≡ Ok (Some (line.Scan 0 30 2))
 scan_registers = refl
 
-pub scan_into_a_cell : read_line (codes "scan [0] 30 2") ≡ Err 4
-scan_into_a_cell = refl
-
-pub scan_of_a_register : read_line (codes "scan 0 30") ≡ Err 4
-scan_of_a_register = refl
-
 -- 1000000001 stands for it
 pub thirty_digits : read_line (codes "emit 999999999999999999999999999999") ≡ Ok (Some (line.Emit (expr.One (operand.Number 1000000001))))
 thirty_digits = refl
@@ -91,9 +70,6 @@ thirty_digits = refl
 pub check_within : read_line (codes "check within 0 1000000000") ≡ Ok (Some (line.Check (Some (clause.Within 0 1000000000))))
 check_within = refl
 
-pub check_nine : read_line (codes "check atmost 1 9") ≡ Ok (Some (line.Check None))
-check_nine = refl
-
--- no other fault is in the words of a check
-pub check_few : read_line (codes "check atmost 01") ≡ Ok (Some (line.Check None))
-check_few = refl
+-- a check past its limit; no other fault is in the words of a check
+pub no_clauses : map read_line (codes "check atmost 1 9" ∷ codes "check atmost 01" ∷ []) ≡ replicate 2 (Ok (Some (line.Check None)))
+no_clauses = refl

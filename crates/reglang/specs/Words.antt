@@ -47,15 +47,19 @@ abbrev pub first_byte_is : (ℕ → Bool) → List ℕ → Bool
 first_byte_is p [] = false
 first_byte_is p (b ∷ bs) = p b
 
--- a word from its last byte on: what stands before a `]` there
-abbrev pub before_bracket : List ℕ → Option (List ℕ)
-before_bracket [] = None
-before_bracket (b ∷ bs) = if b == 93 then Some (reverse bs) else None
+-- a word from its last byte on: what stands before that byte, where it is this one
+abbrev pub before_last : ℕ → List ℕ → Option (List ℕ)
+before_last last [] = None
+before_last last (b ∷ bs) = if b == last then Some (reverse bs) else None
+
+-- what stands between two bytes, where they are the word's ends
+abbrev pub enclosed : ℕ → ℕ → List ℕ → Option (List ℕ)
+enclosed first last [] = None
+enclosed first last (b ∷ bs) = if b == first then before_last last (reverse bs) else None
 
 -- what stands between brackets, where they are the word's ends
 abbrev pub in_brackets : List ℕ → Option (List ℕ)
-in_brackets [] = None
-in_brackets (b ∷ bs) = if b == 91 then before_bracket (reverse bs) else None
+in_brackets word = enclosed 91 93 word
 
 -- the cell that a variable names, where there is one
 abbrev pub cell_or_other : Option ℕ → Word

@@ -29,5 +29,5 @@ pub use refusals::{
 pub use sorts::{MOST_ARGUMENTS, Sort, kind_sorts, property_sorts, sorts_after};
 pub use source::Source;
 pub use uses::{ExpandFault, Use, expand};
-pub use words::{Keyword, Kind, Property, Word, word_of};
+pub use words::{Keyword, Kind, Property, Word, enclosed, word_of};
 pub use writer::write_source;

@@ -193,26 +193,26 @@ fn variable_of(word: &[u8]) -> Option<u8>
     }
 }
 
-/// What stands between brackets. None where they are not the ends of the word.
-fn in_brackets(word: &[u8]) -> Option<&[u8]>
-    ensures { option_copied result ≡ spec.in_brackets word.now }
+/// What stands between these two bytes. None where they are not the ends of the word.
+pub fn enclosed(word: &[u8], first: u8, last: u8) -> Option<&[u8]>
+    ensures { option_copied result ≡ spec.enclosed first last word.now }
 {
-    let (first, rest) = word.split_first()?;
-    let (last, index) = rest.split_last()?;
-    if *first != b'[' {
+    let (begins, rest) = word.split_first()?;
+    let (ends, inside) = rest.split_last()?;
+    if *begins != first {
         return None;
     }
-    if *last != b']' {
+    if *ends != last {
         return None;
     }
-    Some(index)
+    Some(inside)
 }
 
 /// What a word may stand for that is a cell, or none that is known.
 fn cell_word(word: &[u8]) -> Word
     ensures { result ≡ spec.cell_word (spec.in_brackets word.now) }
 {
-    let Some(index) = in_brackets(word) else {
+    let Some(index) = enclosed(word, b'[', b']') else {
         return Word::Other;
     };
     if let Some(i) = only_below(CELLS, number_of(index)) {

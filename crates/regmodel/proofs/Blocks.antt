@@ -1,5 +1,6 @@
 -- Blocks, and the lists of statements that they are made of.
 use Rattle.std.proofs.Common.{◌≡◌, ℕ, zero, suc, ◌+◌, ◌<◌, ◌≤◌, Bool, true, false, ◌&&◌, max, List, [], ◌∷◌, Vec, Global, IsTrue, length, get_or, drop, refl, ap, ◌∙◌, subst, arith, drop-cons, add-one}
+use Rattle.std.proofs.lemmas.Bool.{and_parts}
 use Rattle.regmodel.specs.declared.programs.Expr.{Expr}
 use Rattle.regmodel.specs.declared.programs.Stmt.{Stmt, If, Repeat}
 use Rattle.regmodel.specs.declared.programs.Stmt.TheVariants as stmt
@@ -15,33 +16,15 @@ block_of-drop xs i x h e = ap block_of (drop-cons xs i x h) ∙ rw (← e, add-o
 
 open_blocks-with_stmt : (s : Stmt) (b : Block) → open_blocks (with_stmt s b) ≡ max (open_blocks (with_stmt s Stop)) (open_blocks b)
 open_blocks-with_stmt (stmt.Assign t e) b = omega arith
-open_blocks-with_stmt (stmt.Read t a) b = omega arith
-open_blocks-with_stmt (stmt.Write a e) b = omega arith
-open_blocks-with_stmt (stmt.Scan cell first count) b = omega arith
-open_blocks-with_stmt (stmt.If' e m first k second) b = omega arith
-open_blocks-with_stmt (stmt.Repeat' e m body) b = omega arith
-open_blocks-with_stmt (stmt.Emit e) b = omega arith
-open_blocks-with_stmt stmt.Halt b = omega arith
+open_blocks-with_stmt _ b = omega arith
 
 open_repeats-with_stmt : (s : Stmt) (b : Block) → open_repeats (with_stmt s b) ≡ max (open_repeats (with_stmt s Stop)) (open_repeats b)
 open_repeats-with_stmt (stmt.Assign t e) b = omega arith
-open_repeats-with_stmt (stmt.Read t a) b = omega arith
-open_repeats-with_stmt (stmt.Write a e) b = omega arith
-open_repeats-with_stmt (stmt.Scan cell first count) b = omega arith
-open_repeats-with_stmt (stmt.If' e m first k second) b = omega arith
-open_repeats-with_stmt (stmt.Repeat' e m body) b = omega arith
-open_repeats-with_stmt (stmt.Emit e) b = omega arith
-open_repeats-with_stmt stmt.Halt b = omega arith
+open_repeats-with_stmt _ b = omega arith
 
 statements-with_stmt : (s : Stmt) (b : Block) → statements (with_stmt s b) ≡ statements (with_stmt s Stop) + statements b
 statements-with_stmt (stmt.Assign t e) b = omega arith
-statements-with_stmt (stmt.Read t a) b = omega arith
-statements-with_stmt (stmt.Write a e) b = omega arith
-statements-with_stmt (stmt.Scan cell first count) b = omega arith
-statements-with_stmt (stmt.If' e m first k second) b = omega arith
-statements-with_stmt (stmt.Repeat' e m body) b = omega arith
-statements-with_stmt (stmt.Emit e) b = omega arith
-statements-with_stmt stmt.Halt b = omega arith
+statements-with_stmt _ b = omega arith
 
 -- a test before the rest, where the test alone stands before `true`
 parted : (a b : Bool) → a && b ≡ (a && true) && b
@@ -76,11 +59,7 @@ operands_fit-step n xs i x h e = ap (operands_fit n) (block_of-drop xs i x h e) 
 pub operands_fit-drop : (n k : ℕ) (xs : List Stmt) → IsTrue (operands_fit n (block_of xs)) → IsTrue (operands_fit n (block_of (drop k xs)))
 operands_fit-drop n zero xs h = h
 operands_fit-drop n (suc k) [] h = h
-operands_fit-drop n (suc k) (s ∷ xs) h = operands_fit-drop n k xs (second (operands_fit n (with_stmt s Stop)) (operands_fit n (block_of xs)) (subst IsTrue (operands_fit-with_stmt n s (block_of xs)) h))
-  where
-    second : (a b : Bool) → IsTrue (a && b) → IsTrue b
-    second true b e = e
-    second false b e = absurd (cc e)
+operands_fit-drop n (suc k) (s ∷ xs) h = operands_fit-drop n k xs (and_parts (operands_fit n (with_stmt s Stop)) (operands_fit n (block_of xs)) (subst IsTrue (operands_fit-with_stmt n s (block_of xs)) h)).1
 
 -- what is left of a list is not nested deeper than the whole
 pub open_blocks-drop : (k : ℕ) (xs : List Stmt) → open_blocks (block_of (drop k xs)) ≤ open_blocks (block_of xs)
@@ -104,10 +83,4 @@ with_stmt_repeat s e a h = ap (λ s. with_stmt s Stop) h ∙ with_stmt-Repeat e 
 -- a statement counts
 pub statements_some : (s : Stmt) → 0 < statements (with_stmt s Stop)
 statements_some (stmt.Assign t e) = omega arith
-statements_some (stmt.Read t a) = omega arith
-statements_some (stmt.Write a e) = omega arith
-statements_some (stmt.Scan cell first count) = omega arith
-statements_some (stmt.If' e m first k second) = omega arith
-statements_some (stmt.Repeat' e m body) = omega arith
-statements_some (stmt.Emit e) = omega arith
-statements_some stmt.Halt = omega arith
+statements_some _ = omega arith

@@ -2,7 +2,7 @@ use Rattle.std.proofs.Common.{ap, sym, ◌∙◌, fold, map}
 use Rattle.std.proofs.lemmas.List.{drop_all}
 use Rattle.clap.specs.Words.{App, app_of, with_subcommand}
 use Rattle.command_words.specs.Tables.{shape_of_subcommand}
-use Rattle.command_words.proofs.Adding.{subcommand_added}
+use Rattle.command_words.proofs.Adding.{one_added}
 use Rattle.command_words.proofs.Plain.{third}
 use Rattle.command_words.proofs.with_subcommands.Goals as goal
 
@@ -11,7 +11,7 @@ loop-one-preserved c =
     let was = app_of c.loop-one.command in
     let made = c.in_ok-subcommand.ensures.words in
     let plain = c.in_ok-subcommand.ensures.plain in
-    subcommand_added c.args.subcommands.now c.loop-one.one-index _ was (app_of c.in_ok-command.command) c.loop-one-test.true
+    one_added with_subcommand shape_of_subcommand c.args.subcommands.now c.loop-one.one-index _ was (app_of c.in_ok-command.command) c.loop-one-test.true
     (c.in_ok-command.ensures.shape (third _ _ _ _ plain) ∙ ap (λ (a : App). with_subcommand was a.top) made) ∙ c.loop-one.invariant
 
 pub returns : goal.returns

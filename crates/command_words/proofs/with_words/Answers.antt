@@ -2,13 +2,13 @@ use Rattle.std.proofs.Common.{ap, sym, ◌∙◌, fold, map}
 use Rattle.std.proofs.lemmas.List.{drop_all}
 use Rattle.clap.specs.Words.{app_of, with_rule}
 use Rattle.command_words.specs.Tables.{rule_of_word}
-use Rattle.command_words.proofs.Adding.{word_added}
+use Rattle.command_words.proofs.Adding.{one_added}
 use Rattle.command_words.proofs.with_words.Goals as goal
 
 pub loop-word-preserved : goal.loop-word-preserved
 loop-word-preserved c =
     let was = app_of c.loop-word.command in
-    word_added c.args.words.now c.loop-word.word-index _ was (app_of c.in_ok-command.command) c.loop-word-test.true
+    one_added with_rule rule_of_word c.args.words.now c.loop-word.word-index _ was (app_of c.in_ok-command.command) c.loop-word-test.true
     (c.in_ok-command.ensures.shape c.arg_of.ensures.local ∙ ap (with_rule was) c.arg_of.ensures.rule) ∙ c.loop-word.invariant
 
 pub returns : goal.returns

@@ -1,40 +1,34 @@
-use Rattle.std.proofs.Common.{rules, ◌+◌, ◌-◌, [], drop, Ok, refl, ap, sym, subst, ◌∙◌, arith}
+use Rattle.std.proofs.Common.{rules, ◌+◌, ◌-◌, [], drop, Ok, ap, sym, subst, ◌∙◌, arith}
 use Rattle.regmodel.specs.Act.{exec, times, then_do}
 use Rattle.regmodel.specs.Program.{with_stmt, block_of}
 use Rattle.machine.specs.Stores.{env_of}
-use Rattle.machine.specs.declared.run.Part.TheVariants.{Within}
-use Rattle.machine.specs.Paths.{resume}
 use Rattle.machine.specs.Exits.{stmt_flow, StmtAsks, block_flow}
 use Rattle.regmodel.proofs.Blocks.{block_of-drop}
 use Rattle.machine.proofs.Blocks.{if_block, repeat_block, open_blocks_if}
 use Rattle.machine.proofs.Fitting.{operands_fit_arm}
-use Rattle.machine.proofs.Flows.{resume-set, then_exit, exit_asks, arm_part, arm_block, open_blocks-arm, exec-if, exec-repeat, turn_flow-left, times-more, known_exit}
+use Rattle.machine.proofs.Ended.{arm_asks, arm_flow}
+use Rattle.machine.proofs.Flows.{resume-set, arm_block, open_blocks-arm, exec-if, exec-repeat, turn_flow-left, times-more, known_exit}
 use Rattle.machine.proofs.run.+run.Goals as goal
 
-pub run_block-returns-in-Wants-clause-flow : goal.run_block-returns-in-Wants-clause-flow
-run_block-returns-in-Wants-clause-flow t c = λ s.
+pub run_block-returns-in-Wants : goal.run_block-returns-in-Wants
+run_block-returns-in-Wants t c =
     let block = c.args.block.now in
     let n = c.args.registers in
     let i = c.loop-at.at in
     let x = c.index-block-at.result in
     let rest = block_of (drop (i + 1) block) in
     let env = env_of c.run_stmt.new.store in
-    c.loop-at.invariant s
-    ∙ ap (λ b. exec b n (env_of c.loop-at.store) s) (block_of-drop block i x (omega arith) c.index-block-at.is)
-    ∙ c.in_ok-run_stmt.ensures.flow rest s
-    ∙ ap (λ r. stmt_flow (Ok r) n (drop (c.args.depth + 1) c.run_stmt.new.frames) (with_stmt x rest) rest env s) c.in-Wants.is
-    ∙ sym (resume-set n c.args.depth block i x c.run_stmt.new.frames c.in-Wants.part env s (omega arith) c.index-block-at.is (omega arith))
-
-pub run_block-returns-in-Wants-clause-asks : goal.run_block-returns-in-Wants-clause-asks
-run_block-returns-in-Wants-clause-asks t c =
-    let block = c.args.block.now in
-    let n = c.args.registers in
-    let i = c.loop-at.at in
-    let x = c.index-block-at.result in
-    let rest = block_of (drop (i + 1) block) in
-    let env = env_of c.run_stmt.new.store in
-    resume-set n c.args.depth block i x c.run_stmt.new.frames c.in-Wants.part env [] (omega arith) c.index-block-at.is (omega arith)
-    ∙ subst (λ r. StmtAsks (Ok r) n (drop (c.args.depth + 1) c.run_stmt.new.frames) (with_stmt x rest) env) c.in-Wants.is (c.in_ok-run_stmt.ensures.asks rest)
+    record {
+      flow = λ s.
+          c.loop-at.invariant s
+          ∙ ap (λ b. exec b n (env_of c.loop-at.store) s) (block_of-drop block i x (omega arith) c.index-block-at.is)
+          ∙ c.in_ok-run_stmt.ensures.flow rest s
+          ∙ ap (λ r. stmt_flow (Ok r) n (drop (c.args.depth + 1) c.run_stmt.new.frames) (with_stmt x rest) rest env s) c.in-Wants.is
+          ∙ sym (resume-set n c.args.depth block i x c.run_stmt.new.frames c.in-Wants.part env s (omega arith) c.index-block-at.is (omega arith));
+      asks =
+          resume-set n c.args.depth block i x c.run_stmt.new.frames c.in-Wants.part env [] (omega arith) c.index-block-at.is (omega arith)
+          ∙ subst (λ r. StmtAsks (Ok r) n (drop (c.args.depth + 1) c.run_stmt.new.frames) (with_stmt x rest) env) c.in-Wants.is (c.in_ok-run_stmt.ensures.asks rest);
+    }
 
 pub run_stmt-run_block-exit-requires : goal.run_stmt-run_block-exit-requires
 run_stmt-run_block-exit-requires t c =
@@ -49,30 +43,19 @@ run_stmt-returns-in_ok-expr-in-If-clause-flow t c = λ rest s.
     let w = c.in-If in
     let n = c.args.registers in
     let arm = c.arm_at-arm.result in
-    let first = block_of w.first.items in
-    let second = block_of w.second.items in
-    let whole = with_stmt c.args.stmt.now rest in
     let block = block_of c.block_of_arm-block.result.now in
     let fs = drop (c.args.depth + 1) c.run_block-exit.new.frames in
     let env = env_of c.run_block-exit.new.store in
     let told = arm_block _ c.block_of_arm-block.ensures c.as_slice.ensures.value c.as_slice-in-If.ensures.value in
-    let seen = if_block _ _ _ _ rest w.is in
-    exec-if w.test block first second rest whole n (env_of c.args.store.now) s c.in_ok-expr-in-If.field-0 arm (block_flow c.run_block-exit.result n fs block env s) seen c.in_ok-expr-in-If.ensures c.arm_at-arm.ensures told (c.run_block-exit.ensures.flow s)
-    ∙ then_exit c.run_block-exit.result (Within arm) n fs block whole rest env s (arm_part (Within arm) arm n whole w.test block first second rest (resume n fs) env s _ refl seen told refl)
-    ∙ ap (λ r. stmt_flow r n fs whole rest env s) (sym c.stmt_exit.ensures)
+    exec-if w.test block (block_of w.first.items) (block_of w.second.items) rest (with_stmt c.args.stmt.now rest) n (env_of c.args.store.now) s c.in_ok-expr-in-If.field-0 arm (block_flow c.run_block-exit.result n fs block env s) (if_block _ _ _ _ rest w.is) c.in_ok-expr-in-If.ensures c.arm_at-arm.ensures told (c.run_block-exit.ensures.flow s)
+    ∙ arm_flow c.run_block-exit.result arm n fs c.args.stmt.now w.test w.first w.second block rest env w.is told s
+    ∙ ap (λ r. stmt_flow r n fs (with_stmt c.args.stmt.now rest) rest env s) (sym c.stmt_exit.ensures)
 
 pub run_stmt-returns-in_ok-expr-in-If-clause-asks : goal.run_stmt-returns-in_ok-expr-in-If-clause-asks
 run_stmt-returns-in_ok-expr-in-If-clause-asks t c = λ rest.
     let w = c.in-If in
-    let n = c.args.registers in
-    let arm = c.arm_at-arm.result in
-    let whole = with_stmt c.args.stmt.now rest in
-    let block = block_of c.block_of_arm-block.result.now in
-    let fs = drop (c.args.depth + 1) c.run_block-exit.new.frames in
-    let env = env_of c.run_block-exit.new.store in
     let told = arm_block _ c.block_of_arm-block.ensures c.as_slice.ensures.value c.as_slice-in-If.ensures.value in
-    let seen = if_block _ _ _ _ rest w.is in
-    rw c.stmt_exit.ensures (exit_asks c.run_block-exit.result (Within arm) n fs block whole rest env (arm_part (Within arm) arm n whole w.test block (block_of w.first.items) (block_of w.second.items) rest (resume n fs) env [] _ refl seen told refl) c.run_block-exit.ensures.asks)
+    rw c.stmt_exit.ensures (arm_asks c.run_block-exit.result c.arm_at-arm.result c.args.registers (drop (c.args.depth + 1) c.run_block-exit.new.frames) c.args.stmt.now w.test w.first w.second (block_of c.block_of_arm-block.result.now) rest (env_of c.run_block-exit.new.store) w.is told c.run_block-exit.ensures.asks)
 
 pub run_stmt-returns-else-turns-gt-MOST_TURNS-clause-flow : goal.run_stmt-returns-else-turns-gt-MOST_TURNS-clause-flow
 run_stmt-returns-else-turns-gt-MOST_TURNS-clause-flow t c = λ rest s.

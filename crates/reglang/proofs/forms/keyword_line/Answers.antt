@@ -1,20 +1,18 @@
 use Rattle.std.proofs.Common.{ap, ◌∙◌, map, sym}
-use Rattle.reglang.specs.Forms.{form_of, or_fault}
+use Rattle.reglang.specs.Forms.{or_fault}
 use Rattle.reglang.specs.Lines.{words}
 use Rattle.reglang.specs.Words.{word_of}
-use Rattle.reglang.proofs.FirstWords.{form_of-take, keyword_line_from}
+use Rattle.reglang.proofs.FirstWords.{keyword_line_told}
 use Rattle.reglang.proofs.forms.keyword_line.Goals as goal
 
 pub returns-in-Some : goal.returns-in-Some
 returns-in-Some c =
-    let more = map word_of (words c.args.rest.now) in
-    let told = c.form_of.ensures ∙ ap (form_of c.args.key) (c.as_slice.ensures.value ∙ c.later_words-later.ensures.first) ∙ form_of-take c.args.key more in
-    ap (or_fault 4) (sym c.in-Some.is ∙ told)
-    ∙ sym (keyword_line_from c.args.key more (sym c.later_words-later.ensures.known ∙ c.if-not-later.false) (sym c.later_words-later.ensures.no_number ∙ c.if-later.false))
+    let later = c.later_words-later.ensures in
+    ap (or_fault 4) (sym c.in-Some.is)
+    ∙ keyword_line_told c.args.key (map word_of (words c.args.rest.now)) _ c.form_of.result c.form_of.ensures (c.as_slice.ensures.value ∙ later.first) (sym later.known ∙ c.if-not-later.false) (sym later.no_number ∙ c.if-later.false)
 
 pub returns-in-None : goal.returns-in-None
 returns-in-None c =
-    let more = map word_of (words c.args.rest.now) in
-    let told = c.form_of.ensures ∙ ap (form_of c.args.key) (c.as_slice.ensures.value ∙ c.later_words-later.ensures.first) ∙ form_of-take c.args.key more in
-    ap (or_fault 4) (sym c.in-None.is ∙ told)
-    ∙ sym (keyword_line_from c.args.key more (sym c.later_words-later.ensures.known ∙ c.if-not-later.false) (sym c.later_words-later.ensures.no_number ∙ c.if-later.false))
+    let later = c.later_words-later.ensures in
+    ap (or_fault 4) (sym c.in-None.is)
+    ∙ keyword_line_told c.args.key (map word_of (words c.args.rest.now)) _ c.form_of.result c.form_of.ensures (c.as_slice.ensures.value ∙ later.first) (sym later.known ∙ c.if-not-later.false) (sym later.no_number ∙ c.if-later.false)

@@ -34,7 +34,6 @@ push_stmt-returns-in_ok-push_second-in-If t c =
 pub push_stmt-returns-in_ok-push_block-in-Repeat : goal.push_stmt-returns-in_ok-push_block-in-Repeat
 push_stmt-returns-in_ok-push_block-in-Repeat t c =
     let old = c.args.text.now.items in
-    let count = c.in-Repeat.count in
     let body = c.in-Repeat.body in
     on_ok c.push_line-in-Repeat-2.result c.push_line-in-Repeat-2.ensures (λ h. λ rest.
     ap (λ t. t ++ lines_text (block_lines rest)) (
@@ -42,5 +41,5 @@ push_stmt-returns-in_ok-push_block-in-Repeat t c =
     c.in_ok-push_block-in-Repeat.ensures
     ∙ ap (λ s. c.push_line-in-Repeat.new.text.items ++ lines_text (block_lines (block_of s))) c.as_slice-in-Repeat.ensures.value
     ∙ ap (λ t. t ++ lines_text (block_lines (block_of body.items))) c.in_ok-push_line-in-Repeat.ensures))
-    ∙ repeat_text old count (block_of body.items) rest
-    ∙ ap (λ b. old ++ lines_text (block_lines b)) (sym (with_stmt-Repeat count body rest) ∙ ap (λ s. with_stmt s rest) (sym c.in-Repeat.is)))
+    ∙ repeat_text old c.in-Repeat.count (block_of body.items) rest
+    ∙ ap (λ b. old ++ lines_text (block_lines b)) (sym (with_stmt-Repeat c.in-Repeat.count body rest) ∙ ap (λ s. with_stmt s rest) (sym c.in-Repeat.is)))

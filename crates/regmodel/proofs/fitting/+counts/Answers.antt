@@ -11,17 +11,13 @@ wider (Some left) room inner n m more h e f = omega (arith, h)
 
 pub room_after-returns-in-None : goal.room_after-returns-in-None
 room_after-returns-in-None t c =
-    let i = c.loop-stmt.stmt-index in
-    let step = statements-step c.args.block.now i c.stmt-item.result (omega arith) c.stmt-item.is in
-    let inv = c.loop-stmt.invariant in
-    omega (arith, c.in-None.ensures, step, inv)
+    let step = statements-step c.args.block.now c.loop-stmt.stmt-index c.stmt-item.result (omega arith) c.stmt-item.is in
+    omega (arith, c.in-None.ensures, step, c.loop-stmt.invariant)
 
 pub room_after-loop-stmt-preserved : goal.room_after-loop-stmt-preserved
 room_after-loop-stmt-preserved t c =
-    let i = c.loop-stmt.stmt-index in
-    let step = statements-step c.args.block.now i c.stmt-item.result (omega arith) c.stmt-item.is in
-    let inv = c.loop-stmt.invariant in
-    omega (arith, c.in-Some.ensures, step, inv)
+    let step = statements-step c.args.block.now c.loop-stmt.stmt-index c.stmt-item.result (omega arith) c.stmt-item.is in
+    omega (arith, c.in-Some.ensures, step, c.loop-stmt.invariant)
 
 pub room_after_stmt-returns-then-room-eq0 : goal.room_after_stmt-returns-then-room-eq0
 room_after_stmt-returns-then-room-eq0 t c = omega (arith, statements_some c.args.stmt.now)

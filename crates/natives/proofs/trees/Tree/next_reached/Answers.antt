@@ -1,4 +1,4 @@
-use Rattle.std.proofs.Common.{◌≡◌, suc, ◌+◌, ◌-◌, true, false, get_or, sym, ap, ◌∙◌, arith}
+use Rattle.std.proofs.Common.{◌≡◌, ◌+◌, true, false, get_or, sym, ap, ◌∙◌, arith}
 use Rattle.natives.proofs.Collects.{past-reached, past-unreached}
 use Rattle.natives.proofs.Ways.{tree}
 use Rattle.natives.proofs.trees.Tree.next_reached.Goals as goal
@@ -7,16 +7,14 @@ pub returns-then-self-from-clause-goes_on : goal.returns-then-self-from-clause-g
 returns-then-self-from-clause-goes_on c = λ s.
     let m = c.args.self.now in
     let before = c.loop-before.before in
-    let turns : m.last - before ≡ suc (m.last - (before + 1)) = omega arith in
     let reached : get_or m.reached (before + 1) false ≡ true = ap (λ i. get_or m.reached i false) (sym c.from.ensures) ∙ c.if-self-from.true in
-    sym (past-reached m.base m.registers m.last (tree m) m.reached m.numbers.items m.long _ _ before s turns (omega arith) reached)
+    sym (past-reached m.base m.registers m.last (tree m) m.reached m.numbers.items m.long _ _ before s (omega arith) (omega arith) reached)
     ∙ c.loop-before.invariant s
 
 pub loop-before-preserved : goal.loop-before-preserved
 loop-before-preserved c = λ s.
     let m = c.args.self.now in
     let before = c.loop-before.before in
-    let turns : m.last - before ≡ suc (m.last - (before + 1)) = omega arith in
     let reached : get_or m.reached (before + 1) false ≡ false = ap (λ i. get_or m.reached i false) (sym c.from.ensures) ∙ c.if-self-from.false in
-    sym (past-unreached m.base m.registers m.last (tree m) m.reached m.numbers.items m.long _ _ before s turns (omega arith) reached)
+    sym (past-unreached m.base m.registers m.last (tree m) m.reached m.numbers.items m.long _ _ before s (omega arith) (omega arith) reached)
     ∙ c.loop-before.invariant s

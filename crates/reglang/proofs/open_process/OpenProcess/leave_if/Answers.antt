@@ -1,4 +1,4 @@
-use Rattle.std.proofs.Common.{◌≡◌, Ok, ap, sym, ◌∙◌}
+use Rattle.std.proofs.Common.{Ok, ap, sym, ◌∙◌}
 use Rattle.regmodel.proofs.Rows.{with_stmt-If}
 use Rattle.regmodel.specs.Program.{If, Stop, block_of}
 use Rattle.regmodel.specs.declared.programs.Stmt.TheVariants as stmt
