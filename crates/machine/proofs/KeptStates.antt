@@ -1,12 +1,14 @@
 -- What is kept, after a write to one place.
-use Rattle.std.proofs.Common.{◌≡◌, ◌≢◌, inl, inr, ℕ, ◌+◌, ◌<◌, List, length, refl, ap, sym, subst, ◌∙◌, arith}
+use Rattle.std.proofs.Common.{◌≡◌, ◌≢◌, inl, inr, ℕ, ◌+◌, ◌<◌, List, [], ◌∷◌, ◌++◌, get_or, length, map, take, refl, ap, sym, subst, ◌∙◌, arith, append_assoc}
 use Rattle.std.specs.Prelude.{replicate, slice_index_or, slice_set}
-use Rattle.std.proofs.lemmas.List.{get_or-set_same, get_or-set_other, get_or-replicate, get_or_past, get_or_default, length-replicate}
+use Rattle.std.proofs.lemmas.List.{get_or-set_same, get_or-set_other, get_or-replicate, get_or_past, get_or_default, length-replicate, map_more}
 use Rattle.std.proofs.lemmas.Bool.{cases_eq, cases_lt}
 use Rattle.regmodel.specs.Kept.{values_in}
 use Rattle.regmodel.specs.Program.{Program}
+use Rattle.regmodel.specs.Reply.{Replies}
+use Rattle.regmodel.specs.declared.reply.Reply.{Reply}
 use Rattle.machine.specs.declared.states.Kept.{Kept}
-use Rattle.machine.specs.Rest.{Asks}
+use Rattle.machine.specs.Rest.{Asks, rest_in}
 use Rattle.machine.specs.Keeping.{IsKept, IsStart, LeadsTo, blank, kept_at, state_at}
 
 kept_at-same : (kept : List Kept) (place : ℕ) (x : Kept) → place < length kept → kept_at (slice_set kept place x) place ≡ x
@@ -54,3 +56,12 @@ asks_all p count x own i = elim (cases_lt i count) [
 -- what an index gives
 pub kept_at-index : (kept : List Kept) (place : ℕ) (x : Kept) → place < length kept → x ≡ slice_index_or kept place x → x ≡ kept_at kept place
 kept_at-index kept place x h e = e ∙ get_or_default kept place x blank h
+
+-- past one reply more, which leads from each place to the next
+pub led_on : (p : Program) (kept : List Kept) (from at known : ℕ) (replies : List Reply) (i : ℕ) (none : Reply) → IsKept p kept known → at + 1 < known → i < length replies → values_in (kept_at kept (at + 1)).reply ≡ values_in (get_or replies i none)
+    → ((s : Replies) → rest_in p (state_at kept at) s ≡ rest_in p (state_at kept from) (map values_in (take i replies) ++ s))
+    → (s : Replies) → rest_in p (state_at kept (at + 1)) s ≡ rest_in p (state_at kept from) (map values_in (take (i + 1) replies) ++ s)
+led_on p kept from at known replies i none h next there same led s =
+    let reply = values_in (get_or replies i none) in
+    let more : map values_in (take (i + 1) replies) ++ s ≡ map values_in (take i replies) ++ reply ∷ s = ap (λ rs. rs ++ s) (map_more values_in replies i none there) ∙ append_assoc (map values_in (take i replies)) (reply ∷ []) s in
+    h.leads at next s ∙ (ap (λ r. rest_in p (state_at kept at) (r ∷ s)) same ∙ (led (reply ∷ s) ∙ ap (rest_in p (state_at kept from)) (sym more)))

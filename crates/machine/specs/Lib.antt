@@ -1,6 +1,7 @@
 pub mod Bits
 pub mod Examples
 pub mod Exits
+pub mod Following
 pub mod Keeping
 pub mod Paths
 pub mod Rest

@@ -1,11 +1,12 @@
 //! The interpreter: a machine that runs a program's statements.
 
-ghost use Rattle.std.specs.Prelude.{◌≡◌, ℕ, ◌+◌, ◌<◌, ◌≤◌, IfOk, length, true};
+ghost use Rattle.std.specs.Prelude.{◌≡◌, ℕ, ◌+◌, ◌++◌, ◌<◌, ◌≤◌, IfOk, length, map, take, true};
 ghost use Rattle.regmodel.specs.OfProg.{program_of};
 ghost use Rattle.regmodel.specs.Lawful.{IsAtStart, IsReplyTo};
 ghost use Rattle.regmodel.specs.Kept.{values_in};
-ghost use Rattle.machine.specs.Keeping.{IsKept, LeadsTo, kept_at, state_at};
-ghost use Rattle.machine.specs.Rest.{Asks, pending_in};
+ghost use Rattle.regmodel.specs.Reply.{Replies};
+ghost use Rattle.machine.specs.Keeping.{IsKept, IsStart, LeadsTo, kept_at, state_at};
+ghost use Rattle.machine.specs.Rest.{Asks, pending_in, rest_in};
 
 use crate::states::{Kept, State};
 use crate::{Machine, Told};
@@ -56,6 +57,20 @@ impl Interp {
         Ok(interp)
     }
 
+    /// Goes to the place of the start.
+    fn go_to_start(&mut self)
+        ensures same { self.new.prog ≡ self.old.prog }
+        ensures known { self.new.at < self.new.known }
+        ensures starts { IsStart (program_of self.new.prog)
+            (state_at self.new.kept.items self.new.at) }
+    {
+        self.at = 0;
+        if self.known == 0 {
+            self.kept[0].state.start(&self.prog);
+            self.known = 1;
+        }
+    }
+
     /// Whether the next place is known and this reply led there.
     fn is_known(&self, reply: &[u32]) -> bool
         ensures { result ≡ true
@@ -64,6 +79,27 @@ impl Interp {
     {
         let next = self.at + 1;
         next < self.known && self.kept[next].reply.is(reply)
+    }
+
+    /// Goes on by the first of these replies, as many as are known to lead to the next places, and answers how many these are.
+    fn go_on_by(&mut self, replies: &[Reply]) -> usize
+        requires { self.old.at < self.old.known }
+        ensures same { self.new.prog ≡ self.old.prog }
+        ensures count { result ≤ length replies.now }
+        ensures leads { (s : Replies)
+            → rest_in (program_of self.new.prog) (state_at self.new.kept.items self.new.at) s
+            ≡ rest_in (program_of self.old.prog) (state_at self.old.kept.items self.old.at)
+            (map values_in (take result replies.now) ++ s) }
+    {
+        let mut count = 0;
+        for reply in replies {
+            if !self.is_known(reply.values()) {
+                break;
+            }
+            self.at += 1;
+            count += 1;
+        }
+        count
     }
 
     /// Copies the present state to the next place, and runs past the reply there. What was known from there on is known no longer.
@@ -113,11 +149,12 @@ impl Machine for Interp {
     ghost resumed = { λ m. resumed_by (program_of m.prog) };
 
     fn reset(&mut self) {
-        self.at = 0;
-        if self.known == 0 {
-            self.kept[0].state.start(&self.prog);
-            self.known = 1;
-        }
+        self.go_to_start();
+    }
+
+    fn recall(&mut self, replies: &[Reply]) -> usize {
+        self.go_to_start();
+        self.go_on_by(replies)
     }
 
     fn pending(&self) -> Pending {

@@ -1,13 +1,16 @@
 //! Machines: programs in progress, which go on by one reply after another.
 #![tactic(auto)]
 
-ghost use Rattle.std.specs.Prelude.{◌≡◌, ℕ, IsTrue, List, [], ◌∷◌};
+ghost use Rattle.std.specs.Prelude.{◌≡◌, ◌≤◌, ℕ, IsTrue, List, [], ◌∷◌, length, map, take};
 ghost use Rattle.regmodel.specs.declared.accesses.Pending.{Pending};
 ghost use Rattle.regmodel.specs.declared.accesses.Pending.TheVariants.{Done};
 ghost use Rattle.regmodel.specs.Program.{Program};
+ghost use Rattle.regmodel.specs.Act.{act_of};
+ghost use Rattle.regmodel.specs.Kept.{values_in};
 ghost use Rattle.regmodel.specs.Lawful.{IsReplyTo, IsAtStart};
 ghost use Rattle.regmodel.specs.Reply as replies;
 ghost use Rattle.regmodel.specs.Reply.{Replies};
+ghost use Rattle.machine.specs.Following.{Follows};
 ghost use Rattle.machine.specs.Telling.{Tells};
 
 mod emitted;
@@ -21,7 +24,7 @@ mod told_numbers;
 mod values;
 
 pub use interp::Interp;
-use regmodel::Pending;
+use regmodel::{Pending, Reply};
 pub use told_numbers::{MOST_TOLD, Told, put, put_sparse};
 
 /// A program in progress, known by its program and by its rest: what is pending after each list of further replies.
@@ -41,6 +44,19 @@ pub trait Machine: Drop + Send {
         ensures same { program self.new ≡ program self.old }
         ensures resumed { resumed self.new ≡ resumed self.old }
         ensures starts { IsAtStart (program self.new) (rest self.new) };
+
+    /// Goes to the program's start, and on by the first of these replies, as many as it need not run again. It answers how many these are.
+    fn recall(&mut self, replies: &[Reply]) -> usize
+        ensures same { program self.new ≡ program self.old }
+        ensures resumed { resumed self.new ≡ resumed self.old }
+        ensures count { result ≤ length replies.now }
+        ensures leads { Follows (act_of (program self.new))
+            (map values_in (take result replies.now)) (rest self.new) }
+    {
+        let _ = replies;
+        self.reset();
+        0
+    }
 
     /// What is pending now.
     fn pending(&self) -> Pending
@@ -103,6 +119,17 @@ pub fn reset_box(machine: &mut Box<dyn Machine + Send>)
     ensures starts { IsAtStart (program machine.new) (rest machine.new) }
 {
     machine.reset();
+}
+
+/// Has a boxed machine recall replies.
+pub fn recall_box(machine: &mut Box<dyn Machine + Send>, replies: &[Reply]) -> usize
+    ensures same { program machine.new ≡ program machine.old }
+    ensures resumed { resumed machine.new ≡ resumed machine.old }
+    ensures count { result ≤ length replies.now }
+    ensures leads { Follows (act_of (program machine.new))
+        (map values_in (take result replies.now)) (rest machine.new) }
+{
+    machine.recall(replies)
 }
 
 /// Ends a boxed machine.
