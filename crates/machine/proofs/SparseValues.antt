@@ -1,8 +1,10 @@
 -- Values are read back from their mask and those that are not 0.
-use Rattle.std.proofs.Common.{◌≡◌, ◌≢◌, ℕ, zero, suc, ◌+◌, ◌*◌, ◌^◌, ◌<◌, ◌≤◌, List, [], ◌∷◌, ◌++◌, drop, take, get_or, length, length-append, refl, ap, sym, subst, ◌∙◌, arith, add-one}
+use Rattle.std.proofs.Common.{◌≡◌, ◌≢◌, ℕ, zero, suc, ◌+◌, ◌*◌, ◌^◌, ◌<◌, ◌≤◌, List, [], ◌∷◌, ◌++◌, bit_or, drop, take, get_or, length, length-append, refl, ap, sym, subst, ◌∙◌, arith, add-one}
 use Rattle.std.specs.Prelude.{map}
 use Rattle.std.proofs.Math.Nat.{pow-suc}
 use Rattle.std.proofs.Math.Seq.{take-suc}
+use Rattle.std.proofs.lemmas.Grind.{pow_more}
+use Rattle.std.proofs.lemmas.Nat.{le_or_l, le_or_r}
 use Rattle.std.proofs.lemmas.List.{append-nil, length-map, length-take-le, take-append-drop}
 use Rattle.machine.specs.Bits.{bit, unpacked}
 use Rattle.machine.specs.Sparse.{filled, is_filled, mask_of, past_placed, past_sparse, placed, sparse, spread}
@@ -87,6 +89,57 @@ mask-past-zero values i h is = ap mask_of (one-more values i h) ∙ (ap (λ v. m
 pub mask-past-other : (values : List ℕ) (i : ℕ) → i < length values → get_or values i 0 ≢ 0 → mask_of (take (i + 1) values) ≡ mask_of (take i values) + 2 ^ i
 mask-past-other values i h is =
     ap mask_of (one-more values i h) ∙ (mask_other (take i values) (get_or values i 0) is ∙ ap (λ k. mask_of (take i values) + 2 ^ k) (length-take-le i values (omega (arith, h))))
+
+-- ---- four at once that are 0
+
+-- the places from one on, one by one
+four_on : (i : ℕ) → i + 4 ≡ i + 1 + 1 + 1 + 1
+four_on i = omega arith
+
+pub four_zeros : (values : List ℕ) (i : ℕ) → bit_or (bit_or (bit_or (get_or values i 0) (get_or values (i + 1) 0)) (get_or values (i + 2) 0)) (get_or values (i + 3) 0) ≡ 0 → (k : ℕ) → k < 4 → get_or values (i + k) 0 ≡ 0
+four_zeros values i none = each
+  where
+    a : ℕ
+    a = get_or values i 0
+
+    b : ℕ
+    b = get_or values (i + 1) 0
+
+    c : ℕ
+    c = get_or values (i + 2) 0
+
+    d : ℕ
+    d = get_or values (i + 3) 0
+
+    same : i + 0 ≡ i
+    same = omega arith
+
+    each : (k : ℕ) → k < 4 → get_or values (i + k) 0 ≡ 0
+    each zero h = ap (λ n. get_or values n 0) same ∙ omega (arith, none, le_or_l (bit_or (bit_or a b) c) d, le_or_l (bit_or a b) c, le_or_l a b)
+    each (suc zero) h = omega (arith, none, le_or_l (bit_or (bit_or a b) c) d, le_or_l (bit_or a b) c, le_or_r a b)
+    each (suc (suc zero)) h = omega (arith, none, le_or_l (bit_or (bit_or a b) c) d, le_or_r (bit_or a b) c)
+    each (suc (suc (suc zero))) h = omega (arith, none, le_or_r (bit_or (bit_or a b) c) d)
+    each (suc (suc (suc (suc k)))) h = absurd (omega (arith, h))
+
+-- what changes by no 0 changes by no four of them
+past_zeros : {X : Type 0} (f : List ℕ → X) (values : List ℕ) (i : ℕ) → ((k : ℕ) → k < length values → get_or values k 0 ≡ 0 → f (take (k + 1) values) ≡ f (take k values)) → i + 4 ≤ length values → ((k : ℕ) → k < 4 → get_or values (i + k) 0 ≡ 0) → f (take (i + 4) values) ≡ f (take i values)
+past_zeros f values i one long none =
+    let at : (j k : ℕ) → j ≡ i + k → k < 4 → get_or values j 0 ≡ 0 = λ j k e h. subst (λ n. get_or values n 0 ≡ 0) (sym e) (none k h) in
+    ap (λ n. f (take n values)) (four_on i)
+    ∙ (one (i + 1 + 1 + 1) (omega (arith, long)) (at (i + 1 + 1 + 1) 3 (omega arith) (omega arith))
+    ∙ (one (i + 1 + 1) (omega (arith, long)) (at (i + 1 + 1) 2 (omega arith) (omega arith))
+    ∙ (one (i + 1) (omega (arith, long)) (at (i + 1) 1 (omega arith) (omega arith))
+    ∙ one i (omega (arith, long)) (at i 0 (omega arith) (omega arith)))))
+
+pub filled-past-zeros : (values : List ℕ) (i : ℕ) → i + 4 ≤ length values → ((k : ℕ) → k < 4 → get_or values (i + k) 0 ≡ 0) → filled (take (i + 4) values) ≡ filled (take i values)
+filled-past-zeros values i = past_zeros filled values i (filled-past-zero values)
+
+pub mask-past-zeros : (values : List ℕ) (i : ℕ) → i + 4 ≤ length values → ((k : ℕ) → k < 4 → get_or values (i + k) 0 ≡ 0) → mask_of (take (i + 4) values) ≡ mask_of (take i values)
+mask-past-zeros values i = past_zeros mask_of values i (mask-past-zero values)
+
+-- the bit four places on
+pub pow_four : (i : ℕ) → 2 ^ (i + 4) ≡ 2 ^ i * 16
+pow_four i = let on : 2 ^ (i + 4) ≡ 2 ^ (i + 1 + 1 + 1 + 1) = ap (λ n. 2 ^ n) (four_on i) in omega (arith, on, pow_more 2 i, pow_more 2 (i + 1), pow_more 2 (i + 1 + 1), pow_more 2 (i + 1 + 1 + 1))
 
 -- a mask has no more bits than there are values
 pub mask_small : (n : ℕ) (values : List ℕ) → length values ≤ n → mask_of values < 2 ^ n

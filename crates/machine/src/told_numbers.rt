@@ -1,7 +1,7 @@
 //! How numbers are told: as they are, or where most of them are 0, by a mask and the other ones.
 
-ghost use Rattle.std.specs.Prelude.{◌≡◌, ◌+◌, ◌≤◌, ◌++◌, IfSome, IsSome, length};
-ghost use Rattle.machine.specs.Sparse.{filled, mask_of, sparse};
+ghost use Rattle.std.specs.Prelude.{◌≡◌, ◌+◌, ◌<◌, ◌≤◌, ◌++◌, IfSome, IsSome, IsTrue, length, slice_index, ℕ};
+ghost use Rattle.machine.specs.Sparse.{sparse};
 ghost use Rattle.machine.specs.declared.told_numbers.TheConstants.{MOST_TOLD};
 
 use arrayvec::ArrayVec;
@@ -32,31 +32,33 @@ pub fn put_sparse(values: &[u32], numbers: &mut Told) -> Option<()>
     ensures room { length numbers.old.items + length (sparse values.now) ≤ MOST_TOLD
         → IsSome result }
 {
-    let first = used(values);
     let at = numbers.len();
     put(&[0], numbers)?;
     let mut mask = 0u64;
     let mut bit = 1;
-    for value in first {
-        if *value != 0 {
-            put(&[*value], numbers)?;
+    let mut i = 0;
+    while i < values.len() {
+        if are_zero(values, i) {
+            bit *= 16;
+            i += 4;
+            continue;
+        }
+        if values[i] != 0 {
+            put(&[values[i]], numbers)?;
             mask += bit;
         }
         bit *= 2;
+        i += 1;
     }
     numbers[at] = mask as u32;
     Some(())
 }
 
-/// The values up to the last one that is not 0.
-fn used(values: &[u32]) -> &[u32]
-    ensures mask { mask_of result.now ≡ mask_of values.now }
-    ensures filled { filled result.now ≡ filled values.now }
-    ensures short { length result.now ≤ length values.now }
+/// Whether there are four values from this place on, and they are 0.
+fn are_zero(values: &[u32], i: usize) -> bool
+    requires { i < length values.now }
+    ensures long { IsTrue result → i + 4 ≤ length values.now }
+    ensures zero { IsTrue result → (k : ℕ) → k < 4 → slice_index values.now (i + k) ≡ 0 }
 {
-    let mut count = values.len();
-    while count > 0 && values[count - 1] == 0 {
-        count -= 1;
-    }
-    &values[..count]
+    values.len() - i >= 4 && values[i] | values[i + 1] | values[i + 2] | values[i + 3] == 0
 }

@@ -1,4 +1,4 @@
-use Rattle.std.proofs.Common.{◌∙◌, ◌++◌, map, rules, take}
+use Rattle.std.proofs.Common.{◌∙◌, ◌++◌, map, take}
 use Rattle.regmodel.specs.Kept.{values_in}
 use Rattle.machine.proofs.interp.InterpMachine.recall.Goals as goal
 
