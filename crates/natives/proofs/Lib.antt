@@ -1,6 +1,7 @@
 pub mod Choices
 pub mod Collects
 pub mod Descents
+pub mod Makes
 pub mod NextNames
 pub mod Powers
 pub mod RoundEnds

@@ -1,5 +1,6 @@
 -- How the rounds of a renaming start and end, and how a stage is told.
-use Rattle.std.proofs.Common.{◌≡◌, ℕ, zero, suc, ◌-◌, ◌*◌, Bool, true, false, List, ◌++◌, append_assoc, length, replicate, take, refl, ap, sym, ◌∙◌, subst, arith}
+use Rattle.std.proofs.Common.{◌≡◌, ℕ, zero, suc, ◌-◌, ◌*◌, Bool, true, false, Option, IfSome, List, ◌++◌, append_assoc, length, replicate, take, refl, ap, sym, ◌∙◌, subst, arith}
+use Rattle.std.specs.Option.{is_some}
 use Rattle.regmodel.specs.declared.accesses.Pending.{Pending}
 use Rattle.regmodel.specs.Values.{Env}
 use Rattle.regmodel.specs.Act.{Flow, GoesOn, exec, flow_pending, then_do}
@@ -9,6 +10,7 @@ use Rattle.machine.specs.Bits.{bit}
 use Rattle.machine.specs.Sparse.{sparse, spread}
 use Rattle.machine.specs.Telling.{Tells}
 use Rattle.machine.proofs.SparseValues.{spread-all}
+use Rattle.machine.proofs.StandingNumbers.{where_some}
 use Rattle.natives.specs.declared.rounds.Reading.{Reading}
 use Rattle.natives.specs.declared.rounds.Round.{Round}
 use Rattle.natives.specs.declared.rounds.Slots.{Slots}
@@ -69,10 +71,10 @@ starts rounds registers later proposal seen s e f g =
 pub told-whole : (seen : List ℕ) → length seen ≡ 8 → spread 8 (sparse seen) ≡ seen
 told-whole seen eight = subst (λ n. spread n (sparse seen) ≡ seen) eight (spread-all seen)
 
--- a stage's numbers, and behind them those of the slots
-pub told-behind : (resumed : List ℕ → Replies → Pending) (rest : Replies → Pending) (before numbers after stage seen : List ℕ) → numbers ≡ before ++ stage → after ≡ numbers ++ seen → ((s : Replies) → rest s ≡ resumed (stage ++ seen) s) → Tells resumed rest before after
-told-behind resumed rest before numbers after stage seen put last told = record {
+-- a stage's numbers, and behind them those of the slots, where both were put
+pub told-behind : {T : Type 0} {resumed : List ℕ → Replies → Pending} {rest : Replies → Pending} {before after : List ℕ} (numbers stage seen : List ℕ) (first last : Option T) → IfSome first (λ _. numbers ≡ before ++ stage) → IfSome last (λ _. after ≡ numbers ++ seen) → is_some first ≡ true → is_some last ≡ true → ((s : Replies) → rest s ≡ resumed (stage ++ seen) s) → Tells resumed rest before after
+told-behind {before = before} numbers stage seen first last put put_last some some_last same = record {
   told = stage ++ seen;
-  behind = last ∙ (ap (λ ns. ns ++ seen) put ∙ append_assoc before stage seen);
-  same = told;
+  behind = where_some last put_last some_last ∙ (ap (λ ns. ns ++ seen) (where_some first put some) ∙ append_assoc before stage seen);
+  same = same;
 }

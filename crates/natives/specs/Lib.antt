@@ -1,5 +1,6 @@
 pub mod Examples
 pub mod Grids
+pub mod Makes
 pub mod Names
 pub mod RoundEnds
 pub mod Rounds

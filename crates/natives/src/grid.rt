@@ -1,12 +1,9 @@
 //! Grids of splitters: a process goes from the first vertex right and down until it stops at one or leaves the grid.
 
-ghost use Rattle.std.specs.Prelude.{◌≡◌, ◌+◌, ◌-◌, ◌*◌, ◌<◌, ◌≤◌, ◌↔◌, ◌++◌, false, Err, IfOk, IfSome, IsOk, IsTrue};
-ghost use Rattle.regmodel.specs.Lawful.{IsAtStart};
+ghost use Rattle.std.specs.Prelude.{◌≡◌, ◌+◌, ◌-◌, ◌*◌, ◌<◌, ◌≤◌, ◌++◌, IfSome};
 ghost use Rattle.regmodel.specs.Reply.{Replies};
 ghost use Rattle.uses.specs.declared.kinds.Use.TheVariants as kind;
-ghost use Rattle.uses.specs.Expansions.{expansion};
-ghost use Rattle.uses.specs.Uses.{use_fits};
-ghost use Rattle.natives.specs.declared.TheConstants.{PAST_LIMIT};
+ghost use Rattle.natives.specs.Makes.{IsMadeFor};
 ghost use Rattle.regmodel.specs.declared.limits.TheConstants.{MOST_REGISTERS, MOST_ROWS};
 ghost use Rattle.natives.specs.Grids.{grid_from, grid_numbers};
 
@@ -56,14 +53,8 @@ impl Grid {
     /// The grid of a use line, at its start: BASE, SIDE, ID, and how many registers there are. Fault 1 where a limit of the
     /// line is passed, which [`Use::fits`] tells; no other fault comes. It takes no memory.
     pub fn make(base: u32, side: u32, id: u32, registers: u32) -> Result<Grid, MakeFault>
-        ensures same { IfOk result
-            (λ m. ⟦<Grid as Machine>⟧.program m ≡ expansion (kind.Grid base side id) registers) }
-        ensures starts { IfOk result
-            (λ m. IsAtStart (expansion (kind.Grid base side id) registers)
-            (⟦<Grid as Machine>⟧.rest m)) }
-        ensures limits { (result ≡ Err (record { code = PAST_LIMIT }))
-            ↔ (use_fits (kind.Grid base side id) registers ≡ false) }
-        ensures made { IsOk result ↔ IsTrue (use_fits (kind.Grid base side id) registers) }
+        ensures { IsMadeFor (kind.Grid base side id) registers ⟦<Grid as Machine>⟧.program
+            ⟦<Grid as Machine>⟧.rest result }
     {
         if !Use::Grid(base, side, id).fits(registers) {
             return Err(MakeFault { code: PAST_LIMIT });

@@ -1,13 +1,9 @@
 //! Renamings: a process proposes a name in its slot until no other slot holds it.
 
-ghost use Rattle.std.specs.Prelude.{◌≡◌, ◌≢◌, ◌+◌, ◌≤◌, ◌↔◌, ◌∷◌, ◌++◌, false, Err, IfOk, IfSome, IsOk, IsTrue, slice_index};
-ghost use Rattle.regmodel.specs.Lawful.{IsAtStart};
+ghost use Rattle.std.specs.Prelude.{◌≡◌, ◌+◌, ◌≤◌, ◌∷◌, ◌++◌, IfSome, slice_index};
 ghost use Rattle.regmodel.specs.Reply.{Replies};
 ghost use Rattle.uses.specs.declared.kinds.Use.TheVariants as kind;
-ghost use Rattle.uses.specs.Expansions.{expansion};
-ghost use Rattle.uses.specs.Uses.{use_fits};
-ghost use Rattle.machine.specs.Telling.{Tells};
-ghost use Rattle.natives.specs.declared.TheConstants.{PAST_LIMIT};
+ghost use Rattle.natives.specs.Makes.{IsMadeFor};
 ghost use Rattle.natives.specs.declared.rounds.Reading.{Reading};
 ghost use Rattle.natives.specs.declared.rounds.Stage.TheVariants.{Looks};
 ghost use Rattle.natives.specs.Names.{IsRead, end_rest, name_numbers, reading_rest};
@@ -35,15 +31,8 @@ impl NameSlots {
     /// The renaming of a use line, at its start: BASE, SLOTS, SLOT, and how many registers there are. Fault 1 where a limit of
     /// the line is passed, which [`Use::fits`] tells; no other fault comes. It takes no memory.
     pub fn make(base: u32, slots: u32, slot: u32, registers: u32) -> Result<NameSlots, MakeFault>
-        ensures same { IfOk result
-            (λ m. ⟦<NameSlots as Machine>⟧.program m
-            ≡ expansion (kind.Name base slots slot) registers) }
-        ensures starts { IfOk result
-            (λ m. IsAtStart (expansion (kind.Name base slots slot) registers)
-            (⟦<NameSlots as Machine>⟧.rest m)) }
-        ensures limits { (result ≡ Err (record { code = PAST_LIMIT }))
-            ↔ (use_fits (kind.Name base slots slot) registers ≡ false) }
-        ensures made { IsOk result ↔ IsTrue (use_fits (kind.Name base slots slot) registers) }
+        ensures { IsMadeFor (kind.Name base slots slot) registers ⟦<NameSlots as Machine>⟧.program
+            ⟦<NameSlots as Machine>⟧.rest result }
     {
         if !Use::Name(base, slots, slot).fits(registers) {
             return Err(MakeFault { code: PAST_LIMIT });
@@ -75,26 +64,7 @@ impl NameSlots {
         self.stage = self.round.end(self.slots, reading);
     }
 
-    /// Reads a slot, which is not the own one; past the last one it ends the round.
-    fn read(&mut self, reading: Reading)
-        requires inside { reading.at ≤ self.old.slots.count }
-        requires other { reading.at ≢ self.old.slots.own }
-        requires some { 1 ≤ reading.rank }
-        requires small { reading.rank ≤ reading.at + 1 }
-        ensures same { ⟦<NameSlots as Machine>⟧.program self.new
-            ≡ ⟦<NameSlots as Machine>⟧.program self.old }
-        ensures goes_on { (s : Replies)
-            → ⟦<NameSlots as Machine>⟧.rest self.new s
-            ≡ reading_rest self.old.slots self.old.round reading s }
-    {
-        if reading.at < self.slots.count {
-            self.stage = Stage::Looks(reading);
-        } else {
-            self.finish(reading);
-        }
-    }
-
-    /// Goes on to a slot, past the own one.
+    /// Goes on to a slot, past the own one; past the last one it ends the round.
     fn go_on(&mut self, reading: Reading)
         requires inside { reading.at ≤ self.old.slots.count }
         requires some { 1 ≤ reading.rank }
@@ -105,13 +75,18 @@ impl NameSlots {
             → ⟦<NameSlots as Machine>⟧.rest self.new s
             ≡ reading_rest self.old.slots self.old.round reading s }
     {
-        if reading.at == self.slots.own {
-            self.read(Reading {
+        let next = if reading.at == self.slots.own {
+            Reading {
                 at: reading.at + 1,
                 ..reading
-            });
+            }
         } else {
-            self.read(reading);
+            reading
+        };
+        if next.at < self.slots.count {
+            self.stage = Stage::Looks(next);
+        } else {
+            self.finish(next);
         }
     }
 
@@ -157,16 +132,6 @@ impl NameSlots {
             Stage::Over => put(&[4], numbers),
         }
     }
-
-    /// Puts where it stands behind the numbers: the stage, and in a round what the slots held.
-    fn put_standing(&self, numbers: &mut Told) -> Option<()>
-        ensures { IfSome result
-            (λ _. Tells (⟦<NameSlots as Machine>⟧.resumed self.now)
-            (⟦<NameSlots as Machine>⟧.rest self.now) numbers.old.items numbers.new.items) }
-    {
-        self.put_stage(numbers)?;
-        self.round.put_seen(&self.stage, numbers)
-    }
 }
 
 impl Machine for NameSlots {
@@ -208,6 +173,6 @@ impl Machine for NameSlots {
     }
 
     fn tell(&self, numbers: &mut Told) -> bool {
-        self.put_standing(numbers).is_some()
+        self.put_stage(numbers).is_some() && self.round.put_seen(&self.stage, numbers).is_some()
     }
 }

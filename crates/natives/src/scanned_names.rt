@@ -1,13 +1,9 @@
 //! Renamings that scan: a process proposes a name in its slot until no other slot holds it, where it sees all slots at once.
 
-ghost use Rattle.std.specs.Prelude.{◌≡◌, ◌≤◌, ◌↔◌, ◌∷◌, ◌++◌, false, Err, IfOk, IfSome, IsOk, IsTrue, length};
-ghost use Rattle.regmodel.specs.Lawful.{IsAtStart};
+ghost use Rattle.std.specs.Prelude.{◌≡◌, ◌≤◌, ◌∷◌, ◌++◌, IfSome, length};
 ghost use Rattle.regmodel.specs.Reply.{Replies, one};
 ghost use Rattle.uses.specs.declared.kinds.Use.TheVariants as kind;
-ghost use Rattle.uses.specs.Expansions.{expansion};
-ghost use Rattle.uses.specs.Uses.{use_fits};
-ghost use Rattle.machine.specs.Telling.{Tells};
-ghost use Rattle.natives.specs.declared.TheConstants.{PAST_LIMIT};
+ghost use Rattle.natives.specs.Makes.{IsMadeFor};
 ghost use Rattle.natives.specs.ScannedNames.{scan_end_rest, scan_round_rest, names_numbers};
 
 use crate::numbers::{done, done_with};
@@ -34,14 +30,8 @@ impl Names {
     /// The renaming of a use line, at its start: BASE, SLOTS, SLOT, and how many registers there are. Fault 1 where a limit of
     /// the line is passed, which [`Use::fits`] tells; no other fault comes. It takes no memory.
     pub fn make(base: u32, slots: u32, slot: u32, registers: u32) -> Result<Names, MakeFault>
-        ensures same { IfOk result (λ m.
-            ⟦<Names as Machine>⟧.program m ≡ expansion (kind.Names base slots slot) registers) }
-        ensures starts { IfOk result
-            (λ m. IsAtStart (expansion (kind.Names base slots slot) registers)
-            (⟦<Names as Machine>⟧.rest m)) }
-        ensures limits { (result ≡ Err (record { code = PAST_LIMIT }))
-            ↔ (use_fits (kind.Names base slots slot) registers ≡ false) }
-        ensures made { IsOk result ↔ IsTrue (use_fits (kind.Names base slots slot) registers) }
+        ensures { IsMadeFor (kind.Names base slots slot) registers ⟦<Names as Machine>⟧.program
+            ⟦<Names as Machine>⟧.rest result }
     {
         if !Use::Names(base, slots, slot).fits(registers) {
             return Err(MakeFault { code: PAST_LIMIT });
@@ -111,16 +101,6 @@ impl Names {
             Stage::Over => put(&[3], numbers),
         }
     }
-
-    /// Puts where it stands behind the numbers: the stage, and in a round what the slots held.
-    fn put_standing(&self, numbers: &mut Told) -> Option<()>
-        ensures { IfSome result
-            (λ _. Tells (⟦<Names as Machine>⟧.resumed self.now)
-            (⟦<Names as Machine>⟧.rest self.now) numbers.old.items numbers.new.items) }
-    {
-        self.put_stage(numbers)?;
-        self.round.put_seen(&self.stage, numbers)
-    }
 }
 
 impl Machine for Names {
@@ -162,6 +142,6 @@ impl Machine for Names {
     }
 
     fn tell(&self, numbers: &mut Told) -> bool {
-        self.put_standing(numbers).is_some()
+        self.put_stage(numbers).is_some() && self.round.put_seen(&self.stage, numbers).is_some()
     }
 }

@@ -1,11 +1,8 @@
 //! Splitters: a process leaves its number, tries a door and closes it, and stops, goes right or goes down by what it read.
 
-ghost use Rattle.std.specs.Prelude.{◌≡◌, ◌+◌, ◌≤◌, ◌↔◌, false, Err, IfOk, IsOk, IsTrue};
-ghost use Rattle.regmodel.specs.Lawful.{IsAtStart};
+ghost use Rattle.std.specs.Prelude.{◌≡◌, ◌+◌, ◌≤◌};
 ghost use Rattle.uses.specs.declared.kinds.Use.TheVariants as kind;
-ghost use Rattle.uses.specs.Expansions.{expansion};
-ghost use Rattle.uses.specs.Uses.{use_fits};
-ghost use Rattle.natives.specs.declared.TheConstants.{PAST_LIMIT};
+ghost use Rattle.natives.specs.Makes.{IsMadeFor};
 ghost use Rattle.regmodel.specs.declared.limits.TheConstants.{MOST_REGISTERS};
 ghost use Rattle.natives.specs.Splits.{split_stage};
 
@@ -69,14 +66,8 @@ impl Split {
     /// The splitter of a use line, at its start: BASE, ID, and how many registers there are. Fault 1 where a limit of the
     /// line is passed, which [`Use::fits`] tells; no other fault comes. It takes no memory.
     pub fn make(base: u32, id: u32, registers: u32) -> Result<Split, MakeFault>
-        ensures same { IfOk result
-            (λ m. ⟦<Split as Machine>⟧.program m ≡ expansion (kind.Split base id) registers) }
-        ensures starts { IfOk result
-            (λ m. IsAtStart (expansion (kind.Split base id) registers)
-            (⟦<Split as Machine>⟧.rest m)) }
-        ensures limits { (result ≡ Err (record { code = PAST_LIMIT }))
-            ↔ (use_fits (kind.Split base id) registers ≡ false) }
-        ensures made { IsOk result ↔ IsTrue (use_fits (kind.Split base id) registers) }
+        ensures { IsMadeFor (kind.Split base id) registers ⟦<Split as Machine>⟧.program
+            ⟦<Split as Machine>⟧.rest result }
     {
         if !Use::Split(base, id).fits(registers) {
             return Err(MakeFault { code: PAST_LIMIT });

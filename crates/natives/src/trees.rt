@@ -1,13 +1,10 @@
 //! Collect trees: a process goes down a binary tree of splitters until it stops at a vertex, leaves its value there, and
 //! collects the values of the vertices whose marks it reads.
 
-ghost use Rattle.std.specs.Prelude.{◌≡◌, ◌≢◌, ℕ, suc, ◌+◌, ◌-◌, ◌*◌, ◌^◌, ◌<◌, ◌≤◌, ◌↔◌, [], ◌∷◌, ◌++◌, true, false, Err, IfOk, IfSome, IsOk, IsTrue, length, replicate, slice_set};
-ghost use Rattle.regmodel.specs.Lawful.{IsAtStart};
+ghost use Rattle.std.specs.Prelude.{◌≡◌, ◌≢◌, ℕ, suc, ◌+◌, ◌-◌, ◌*◌, ◌^◌, ◌<◌, ◌≤◌, [], ◌∷◌, ◌++◌, true, false, IfSome, length, replicate, slice_set};
 ghost use Rattle.regmodel.specs.Reply.{Replies, one};
 ghost use Rattle.uses.specs.declared.kinds.Use.TheVariants as kind;
-ghost use Rattle.uses.specs.Expansions.{expansion};
-ghost use Rattle.uses.specs.Uses.{use_fits};
-ghost use Rattle.natives.specs.declared.TheConstants.{PAST_LIMIT};
+ghost use Rattle.natives.specs.Makes.{IsMadeFor};
 ghost use Rattle.regmodel.specs.declared.limits.TheConstants.{MOST_LEVELS, MOST_REGISTERS};
 ghost use Rattle.natives.specs.declared.trees.Stage.TheVariants.{Sees, Takes};
 ghost use Rattle.natives.specs.Trees.{IsIn, collect_numbers, tree_numbers, below_reached, from_vertex, from_past, from_at, from_next};
@@ -93,15 +90,8 @@ impl Tree {
         value: u32,
         registers: u32,
     ) -> Result<Tree, MakeFault>
-        ensures same { IfOk result
-            (λ m. ⟦<Tree as Machine>⟧.program m
-            ≡ expansion (kind.Tree base depth id value) registers) }
-        ensures starts { IfOk result
-            (λ m. IsAtStart (expansion (kind.Tree base depth id value) registers)
-            (⟦<Tree as Machine>⟧.rest m)) }
-        ensures limits { (result ≡ Err (record { code = PAST_LIMIT }))
-            ↔ (use_fits (kind.Tree base depth id value) registers ≡ false) }
-        ensures made { IsOk result ↔ IsTrue (use_fits (kind.Tree base depth id value) registers) }
+        ensures { IsMadeFor (kind.Tree base depth id value) registers ⟦<Tree as Machine>⟧.program
+            ⟦<Tree as Machine>⟧.rest result }
     {
         if !Use::Tree(base, depth, id, value).fits(registers) {
             return Err(MakeFault { code: PAST_LIMIT });

@@ -1,6 +1,9 @@
 use Rattle.std.proofs.Common.{sym, ◌∙◌}
-use Rattle.machine.proofs.StandingNumbers.{where_some}
+use Rattle.natives.proofs.Choices.{stage-told}
+use Rattle.natives.proofs.RoundEnds.{told-behind}
 use Rattle.natives.proofs.names.NameSlotsMachine.tell.Goals as goal
 
-pub returns : goal.returns
-returns c = λ told. where_some c.put_standing.result c.put_standing.ensures (sym c.is_some.ensures ∙ told)
+pub returns-then-is_some : goal.returns-then-is_some
+returns-then-is_some c = λ told.
+    let m = c.args.self.now in
+    told-behind _ _ _ c.put_stage.result c.put_seen.result c.put_stage.ensures c.put_seen.ensures (sym c.is_some.ensures ∙ c.if-is_some.true) (sym c.is_some-then-is_some.ensures ∙ told) (stage-told m m.stage)

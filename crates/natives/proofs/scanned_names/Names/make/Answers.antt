@@ -1,9 +1,6 @@
-use Rattle.std.proofs.Common.{ap, sym, subst, ◌∙◌}
-use Rattle.regmodel.specs.Act.{act_of}
-use Rattle.regmodel.specs.Lawful.{IsLawful}
+use Rattle.std.proofs.Common.{sym, ◌∙◌}
+use Rattle.natives.proofs.Makes.{reset-made}
 use Rattle.natives.proofs.scanned_names.Names.make.Goals as goal
 
-pub returns-clause-starts : goal.returns-clause-starts
-returns-clause-starts c = λ s lawful.
-    let same = c.reset.ensures.same in
-    c.reset.ensures.starts s (subst (λ p. IsLawful (act_of p) s) (sym same) lawful) ∙ ap (λ p. act_of p s) same
+pub returns : goal.returns
+returns c = reset-made _ _ _ _ c.reset.new.self (sym c.fits.ensures ∙ c.if-not-fits.false) c.reset.ensures.same c.reset.ensures.starts
