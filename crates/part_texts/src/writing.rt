@@ -22,14 +22,8 @@ pub fn write_explored_part<W: Write>(
     ensures { Wrote W.contents out.old out.new
         (part_text (explored_part head.now exploration.now)) result }
 {
-    let tried = NumberLine {
-        word: "tried",
-        number: exploration.tried(),
-    };
-    let outcomes = NumberLine {
-        word: "outcomes",
-        number: exploration.outcome_count() as u64,
-    };
+    let tried = NumberLine::new("tried", exploration.tried());
+    let outcomes = NumberLine::new("outcomes", exploration.outcome_count() as u64);
     let least = LeastLines(exploration.least());
     let found = (tried, outcomes, CodedLines(exploration), least);
     write(&(head, found, END), out)
@@ -59,10 +53,7 @@ impl Text for PartHead {
 
     fn put<W: Write>(&self, out: &mut W, block: &mut Block) -> Result<(), WriteFault> {
         let part = ("part ", self.number(), " of ", self.count(), "\n");
-        let source = NumberLine {
-            word: "source",
-            number: self.source().len() as u64,
-        };
+        let source = NumberLine::new("source", self.source().len() as u64);
         (part, BoundsOf(self), source, self.source()).put(out, block)
     }
 }
@@ -75,22 +66,10 @@ impl Text for BoundsOf<'_> {
     ghost text = { λ bounds. let head = bounds.0.now in bounds_text head.processes head.length head.crashes head.cut };
 
     fn put<W: Write>(&self, out: &mut W, block: &mut Block) -> Result<(), WriteFault> {
-        let processes = NumberLine {
-            word: "processes",
-            number: u64::from(self.0.processes()),
-        };
-        let length = NumberLine {
-            word: "length",
-            number: u64::from(self.0.length()),
-        };
-        let crashes = NumberLine {
-            word: "crashes",
-            number: u64::from(self.0.crashes()),
-        };
-        let cut = NumberLine {
-            word: "cut",
-            number: u64::from(self.0.cut()),
-        };
+        let processes = NumberLine::new("processes", u64::from(self.0.processes()));
+        let length = NumberLine::new("length", u64::from(self.0.length()));
+        let crashes = NumberLine::new("crashes", u64::from(self.0.crashes()));
+        let cut = NumberLine::new("cut", u64::from(self.0.cut()));
         (processes, length, crashes, cut).put(out, block)
     }
 }
@@ -101,14 +80,8 @@ impl Text for Found {
     fn put<W: Write>(&self, out: &mut W, block: &mut Block) -> Result<(), WriteFault> {
         match self {
             Found::Explored(found) => {
-                let tried = NumberLine {
-                    word: "tried",
-                    number: found.tried(),
-                };
-                let outcomes = NumberLine {
-                    word: "outcomes",
-                    number: found.outcomes().len() as u64,
-                };
+                let tried = NumberLine::new("tried", found.tried());
+                let outcomes = NumberLine::new("outcomes", found.outcomes().len() as u64);
                 let lines = OutcomeLines(found.outcomes());
                 (tried, outcomes, lines, LeastLines(found.least())).put(out, block)
             }
