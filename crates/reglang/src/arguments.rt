@@ -1,7 +1,8 @@
 //! What a line, a use and a clause are made of.
 
-ghost use Rattle.std.specs.Prelude.{◌≡◌, ◌≤◌, ◌∷◌, [], length};
+ghost use Rattle.std.specs.Prelude.{◌≡◌, ◌≤◌, ◌∷◌, [], length, map};
 ghost use Rattle.reglang.specs.Arguments as spec;
+ghost use Rattle.reglang.specs.declared.arguments.Argument.TheVariants.{Number};
 
 use crate::forms::Line;
 use crate::sorts::MOST_ARGUMENTS;
@@ -186,13 +187,25 @@ fn list(arguments: &[Argument]) -> Arguments
     ArrayVec::try_from(arguments).unwrap()
 }
 
+/// So many arguments that are numbers.
+fn numbers(numbers: &[u32]) -> Arguments
+    requires { length numbers.now ≤ MOST_ARGUMENTS }
+    ensures { result.items ≡ map Number numbers.now }
+{
+    let mut arguments = ArrayVec::new();
+    for number in numbers {
+        arguments.push(Argument::Number(*number));
+    }
+    arguments
+}
+
 /// The first word of a line and its arguments; those of a use and of a check are told by `use_parts` and `clause_parts`.
 pub fn line_parts(line: Line) -> (Keyword, Arguments)
     ensures key { result.0 ≡ (spec.line_parts line).0 }
     ensures arguments { result.1.items ≡ (spec.line_parts line).1 }
 {
     match line {
-        Line::Registers(n) => (Keyword::Registers, list(&[Argument::Number(n)])),
+        Line::Registers(n) => (Keyword::Registers, numbers(&[n])),
         Line::Process => (Keyword::Process, list(&[])),
         Line::End => (Keyword::End, list(&[])),
         Line::Set(to, value) => (
@@ -207,14 +220,7 @@ pub fn line_parts(line: Line) -> (Keyword, Arguments)
             Keyword::Write,
             list(&[Argument::Operand(to), Argument::Expression(value)]),
         ),
-        Line::Scan(cell, first, count) => (
-            Keyword::Scan,
-            list(&[
-                Argument::Number(cell),
-                Argument::Number(first),
-                Argument::Number(count),
-            ]),
-        ),
+        Line::Scan(cell, first, count) => (Keyword::Scan, numbers(&[cell, first, count])),
         Line::If(test) => (Keyword::If, list(&[Argument::Expression(test)])),
         Line::Else => (Keyword::Else, list(&[])),
         Line::Fi => (Keyword::Fi, list(&[])),
@@ -233,43 +239,11 @@ pub fn use_parts(kind: Use) -> (Kind, Arguments)
     ensures arguments { result.1.items ≡ (spec.use_parts kind).1 }
 {
     match kind {
-        Use::Split(base, id) => (
-            Kind::Split,
-            list(&[Argument::Number(base), Argument::Number(id)]),
-        ),
-        Use::Grid(base, side, id) => (
-            Kind::Grid,
-            list(&[
-                Argument::Number(base),
-                Argument::Number(side),
-                Argument::Number(id),
-            ]),
-        ),
-        Use::Tree(base, depth, id, value) => (
-            Kind::Tree,
-            list(&[
-                Argument::Number(base),
-                Argument::Number(depth),
-                Argument::Number(id),
-                Argument::Number(value),
-            ]),
-        ),
-        Use::Name(base, slots, slot) => (
-            Kind::Name,
-            list(&[
-                Argument::Number(base),
-                Argument::Number(slots),
-                Argument::Number(slot),
-            ]),
-        ),
-        Use::Names(base, slots, slot) => (
-            Kind::Names,
-            list(&[
-                Argument::Number(base),
-                Argument::Number(slots),
-                Argument::Number(slot),
-            ]),
-        ),
+        Use::Split(base, id) => (Kind::Split, numbers(&[base, id])),
+        Use::Grid(base, side, id) => (Kind::Grid, numbers(&[base, side, id])),
+        Use::Tree(base, depth, id, value) => (Kind::Tree, numbers(&[base, depth, id, value])),
+        Use::Name(base, slots, slot) => (Kind::Name, numbers(&[base, slots, slot])),
+        Use::Names(base, slots, slot) => (Kind::Names, numbers(&[base, slots, slot])),
     }
 }
 
@@ -280,14 +254,8 @@ pub fn clause_parts(clause: Clause) -> (Property, Arguments)
 {
     match clause {
         Clause::Distinct => (Property::Distinct, list(&[])),
-        Clause::AtMost(name, count) => (
-            Property::AtMost,
-            list(&[Argument::Number(name), Argument::Number(count)]),
-        ),
-        Clause::Within(low, high) => (
-            Property::Within,
-            list(&[Argument::Number(low), Argument::Number(high)]),
-        ),
+        Clause::AtMost(name, count) => (Property::AtMost, numbers(&[name, count])),
+        Clause::Within(low, high) => (Property::Within, numbers(&[low, high])),
         Clause::Adaptive => (Property::Adaptive, list(&[])),
         Clause::Triangle => (Property::Triangle, list(&[])),
         Clause::SelfSeen => (Property::SelfSeen, list(&[])),
