@@ -8,6 +8,7 @@ use Rattle.reglang.specs.Sorts.{kind_sorts, property_sorts, sorts_after}
 use Rattle.reglang.specs.Words.{word_of}
 use Rattle.reglang.specs.declared.sorts.Sort.{Sort}
 use Rattle.reglang.specs.declared.sorts.Sort.TheVariants as sort
+use Rattle.reglang.specs.declared.words.Keyword.{Keyword}
 use Rattle.reglang.specs.declared.words.Keyword.TheVariants as keyword
 use Rattle.reglang.specs.declared.words.Word.{Word}
 use Rattle.reglang.specs.declared.words.Word.TheVariants as word
@@ -60,20 +61,20 @@ abbrev pub misfit_with : List ℕ → Option (List Sort) → List (List ℕ) →
 misfit_with word (Some sorts) more = misfit_of sorts more
 misfit_with word None more = Some word
 
--- the first word that has no place after `use`
-abbrev pub use_misfit : List (List ℕ) → Option (List ℕ)
-use_misfit [] = None
-use_misfit (word ∷ more) = misfit_with word (option_map kind_sorts (kind_of (word_of word))) more
+-- the sorts of what follows a word behind `use` or `check`, where it names a kind or a property
+abbrev pub sorts_named : Keyword → Word → Option (List Sort)
+sorts_named keyword.Use word = option_map kind_sorts (kind_of word)
+sorts_named key word = option_map property_sorts (property_of word)
 
--- the first word that has no place after `check`
-abbrev pub check_misfit : List (List ℕ) → Option (List ℕ)
-check_misfit [] = None
-check_misfit (word ∷ more) = misfit_with word (option_map property_sorts (property_of (word_of word))) more
+-- the first word that has no place after `use` or `check`
+abbrev pub named_misfit : Keyword → List (List ℕ) → Option (List ℕ)
+named_misfit key [] = None
+named_misfit key (word ∷ more) = misfit_with word (sorts_named key (word_of word)) more
 
 -- the first word that has no place after a first word of lines
 abbrev pub misfit_after : Word → List (List ℕ) → Option (List ℕ)
-misfit_after (word.Keyword keyword.Use) more = use_misfit more
-misfit_after (word.Keyword keyword.Check) more = check_misfit more
+misfit_after (word.Keyword keyword.Use) more = named_misfit keyword.Use more
+misfit_after (word.Keyword keyword.Check) more = named_misfit keyword.Check more
 misfit_after (word.Keyword key) more = misfit_of (sorts_after key) more
 misfit_after _ more = None
 

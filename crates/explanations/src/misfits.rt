@@ -96,32 +96,30 @@ fn misfit_after(first: Word, rest: &[u8]) -> Option<&[u8]>
     ensures { option_copied result ≡ spec.misfit_after first (words rest.now) }
 {
     match first {
-        Word::Keyword(Keyword::Use) => use_misfit(rest),
-        Word::Keyword(Keyword::Check) => check_misfit(rest),
+        Word::Keyword(key @ (Keyword::Use | Keyword::Check)) => named_misfit(key, rest),
         Word::Keyword(key) => first_misfit(sorts_after(key), rest),
         _ => None,
     }
 }
 
-/// The first word after `use` that has no place there.
-fn use_misfit(line: &[u8]) -> Option<&[u8]>
-    ensures { option_copied result ≡ spec.use_misfit (words line.now) }
+/// The first word after `use` or `check` that has no place there.
+fn named_misfit(key: Keyword, line: &[u8]) -> Option<&[u8]>
+    ensures { option_copied result ≡ spec.named_misfit key (words line.now) }
 {
     let (word, rest) = split_word(line)?;
-    match kind_of(word_of(word)) {
-        Some(kind) => first_misfit(kind_sorts(kind), rest),
+    match sorts_named(key, word_of(word)) {
+        Some(sorts) => first_misfit(sorts, rest),
         None => Some(word),
     }
 }
 
-/// The first word after `check` that has no place there.
-fn check_misfit(line: &[u8]) -> Option<&[u8]>
-    ensures { option_copied result ≡ spec.check_misfit (words line.now) }
+/// The sorts of what follows a word behind `use` or `check`, where it names a kind or a property.
+fn sorts_named(key: Keyword, word: Word) -> Option<&'static [Sort]>
+    ensures { option_copied result ≡ spec.sorts_named key word }
 {
-    let (word, rest) = split_word(line)?;
-    match property_of(word_of(word)) {
-        Some(property) => first_misfit(property_sorts(property), rest),
-        None => Some(word),
+    match key {
+        Keyword::Use => Some(kind_sorts(kind_of(word)?)),
+        _ => Some(property_sorts(property_of(word)?)),
     }
 }
 
