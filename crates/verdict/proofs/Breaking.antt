@@ -15,6 +15,8 @@ use Rattle.regmodel.specs.Schedules.{IsSchedule, is_possible}
 use Rattle.explanations.specs.Checks.{ChecksAt, check_lines}
 use Rattle.reglang.specs.Contents.{Contents}
 use Rattle.reglang.specs.Grammar.{Spells}
+use Rattle.world.specs.Stops.{IsStopped}
+use Rattle.world.specs.declared.BadLetter.{BadLetter}
 use Rattle.verdict.specs.Breaches.{IsBrokenLine}
 use Rattle.verdict.specs.Demands.{breaks}
 
@@ -46,12 +48,14 @@ broken_line_is text source asks ends place line first number spelled says =
     (subst (λ found. IfSome found (λ own. MatchOption line ⊥ (ChecksAt text own))) there (says source spelled))
 
 -- a schedule has no letter that is not possible after those before it
-pub never_refused : (programs others : List Program) (crashes budget : ℕ) (w before : List Letter) (place : ℕ) → IsSchedule programs crashes w → others ≡ programs → budget ≡ crashes → before ≡ take place w → place < length w →
-    IfSome (slice_get w place) (λ letter. is_possible others budget before letter ≡ false) → ⊥
-never_refused programs others crashes budget w before place schedule same_programs same_budget same_letters inside refused =
+pub never_stopped : (programs others : List Program) (crashes budget : ℕ) (w before : List Letter) (bad : BadLetter) → IsSchedule programs crashes w → others ≡ programs → budget ≡ crashes → IsStopped others budget w before bad → ⊥
+never_stopped programs others crashes budget w before bad schedule same_programs same_budget stopped =
+    let place = bad.place in
+    let inside = stopped.within in
+    let same_letters = stopped.before in
     let a = get_or w place (Run 0) in
     let whole = sym (take-append-drop place w) ∙ ap (λ v. take place w ++ v) (drop-cons w place (Run 0) inside) in
     let possible = schedule (take place w) a (drop (suc place) w) whole in
     let not_possible : is_possible others budget before a ≡ false =
-    subst (λ found. IfSome found (λ letter. is_possible others budget before letter ≡ false)) (slice_get-get_or w place (Run 0) inside) refused in
+    subst (λ found. IfSome found (λ letter. is_possible others budget before letter ≡ false)) (slice_get-get_or w place (Run 0) inside) stopped.impossible in
     absurd cc

@@ -1,7 +1,6 @@
 use Rattle.std.proofs.Common.{refl}
-use Rattle.verdict.proofs.Breaking.{never_refused}
+use Rattle.verdict.proofs.Breaking.{never_stopped}
 use Rattle.verdict.proofs.breaches.drawing_of.Goals as goal
 
 pub unreachable-requires : goal.unreachable-requires
-unreachable-requires g c =
-    never_refused _ _ _ _ _ _ _ c.requires.schedule refl refl c.in-Err.ensures.err c.in-Err.ensures.within c.in-Err.ensures.refused
+unreachable-requires g c = never_stopped _ _ _ _ _ _ _ c.requires.schedule refl refl c.in-Err.ensures.refused
