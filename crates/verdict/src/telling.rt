@@ -171,24 +171,11 @@ impl Text for Onset {
 
     fn put<W: Write>(&self, out: &mut W, block: &mut Block) -> Result<(), WriteFault> {
         match self.0 {
-            Some(letter) => FromStep(letter).put(out, block),
-            None => Ok(()),
+            Some(letter) if letter != 0 => ("It fails from step ", letter, " on.\n").put(
+                out, block,
+            ),
+            _ => Ok(()),
         }
-    }
-}
-
-/// That it fails from this letter on, where there is one.
-#[derive(Clone, Copy)]
-struct FromStep(u64);
-
-impl Text for FromStep {
-    ghost text = { λ step. spec.from_step_text step.0 };
-
-    fn put<W: Write>(&self, out: &mut W, block: &mut Block) -> Result<(), WriteFault> {
-        if self.0 == 0 {
-            return Ok(());
-        }
-        ("It fails from step ", self.0, " on.\n").put(out, block)
     }
 }
 
@@ -205,7 +192,7 @@ impl Text for Asked {
     }
 }
 
-/// The checks of a text that no outcome could break, one a line.
+/// The checks of a text that no outcome could break, one a line, each with what is wanting.
 #[derive(Clone, Copy)]
 struct GapLines<'a> {
     text: &'a [u8],
@@ -217,32 +204,13 @@ impl Text for GapLines<'_> {
 
     fn put<W: Write>(&self, out: &mut W, block: &mut Block) -> Result<(), WriteFault> {
         for gap in self.gaps {
-            let line = GapLine {
+            let check = CheckLine {
                 text: self.text,
-                gap,
+                line: gap.line,
             };
-            line.put(out, block)?;
+            (check, gap.want).put(out, block)?;
         }
         Ok(())
-    }
-}
-
-/// A check of a text that no outcome could break, and why.
-#[derive(Clone, Copy)]
-struct GapLine<'a> {
-    text: &'a [u8],
-    gap: &'a Gap,
-}
-
-impl Text for GapLine<'_> {
-    ghost text = { λ line. spec.gap_text line.text.now line.gap.now };
-
-    fn put<W: Write>(&self, out: &mut W, block: &mut Block) -> Result<(), WriteFault> {
-        let check = CheckLine {
-            text: self.text,
-            line: self.gap.line,
-        };
-        (check, self.gap.want).put(out, block)
     }
 }
 
