@@ -225,22 +225,31 @@ name_after slots =
     set 0 (One (Var 4)) ▸
     Stop
 
+-- looks at each slot so, and keeps the proposal or makes the next one
+abbrev pub name_looked : ℕ → Block → Block
+name_looked slots look =
+    set 1 (One (Number 0)) ▸
+    set 2 (One (Number 1)) ▸
+    set 3 (One (Number 0)) ▸
+    Repeat (One (Number slots)) look ▸
+    name_after slots
+
 -- writes the proposal, reads the other slots, and keeps the proposal or makes the next one
 abbrev pub name_round : ℕ → ℕ → ℕ → Block
 name_round base slots slot =
     Write (Number (base + slot)) (One (Var 0)) ▸
-    set 1 (One (Number 0)) ▸
-    set 2 (One (Number 1)) ▸
-    set 3 (One (Number 0)) ▸
-    Repeat (One (Number slots)) (name_slot base slot) ▸
-    name_after slots
+    name_looked slots (name_slot base slot)
 
--- rounds until no other slot holds the proposal, or there were as many as a `repeat` has
-abbrev pub name_body : ℕ → ℕ → ℕ → Block
-name_body base slots slot =
+-- such rounds until no other slot holds the proposal, or there were as many as a `repeat` has
+abbrev pub name_rounds : Block → Block
+name_rounds round =
     set 0 (One (Number 1)) ▸
-    Repeat (One (Number MOST_TURNS)) (name_round base slots slot) ▸
+    Repeat (One (Number MOST_TURNS)) round ▸
     Stop
+
+-- rounds that read the slots one by one
+abbrev pub name_body : ℕ → ℕ → ℕ → Block
+name_body base slots slot = name_rounds (name_round base slots slot)
 
 -- ---- names: a renaming that scans its slots at once, into the cells
 
@@ -258,18 +267,11 @@ names_round base slots slot =
     Write (Number (base + slot)) (One (Var 0)) ▸
     Scan 0 base slots ▸
     Assign (target.Cell slot) (One (Number 0)) ▸
-    set 1 (One (Number 0)) ▸
-    set 2 (One (Number 1)) ▸
-    set 3 (One (Number 0)) ▸
-    Repeat (One (Number slots)) (names_slot slot) ▸
-    name_after slots
+    name_looked slots (names_slot slot)
 
--- rounds until no other slot holds the proposal, or there were as many as a `repeat` has
+-- rounds that scan the slots
 abbrev pub names_body : ℕ → ℕ → ℕ → Block
-names_body base slots slot =
-    set 0 (One (Number 1)) ▸
-    Repeat (One (Number MOST_TURNS)) (names_round base slots slot) ▸
-    Stop
+names_body base slots slot = name_rounds (names_round base slots slot)
 
 -- ---- each kind over so many registers, its numbers in the order of the use line
 

@@ -16,7 +16,7 @@ mod tree;
 
 use crate::kinds::Use;
 use grid::grid_block;
-use name::name_block;
+use name::{Slots, name_block};
 use names::names_block;
 use regmodel::{OutOfMemory, Prog, Stmt};
 use split::split_block;
@@ -65,7 +65,7 @@ fn block(alloc: Global, kind: &Use) -> Result<Vec<Stmt>, OutOfMemory>
         Use::Split(base, id) => split_block(alloc, base, id),
         Use::Grid(base, side, id) => grid_block(alloc, base, side, id),
         Use::Tree(base, depth, id, value) => tree_block(alloc, base, depth, id, value),
-        Use::Name(base, slots, slot) => name_block(alloc, base, slots, slot),
-        Use::Names(base, slots, slot) => names_block(alloc, base, slots, slot),
+        Use::Name(base, count, own) => name_block(alloc, Slots { base, count, own }),
+        Use::Names(base, count, own) => names_block(alloc, Slots { base, count, own }),
     }
 }

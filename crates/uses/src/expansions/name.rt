@@ -3,7 +3,7 @@
 ghost use Rattle.std.specs.Prelude.{◌≡◌, ◌≤◌, ◌<◌, IfOk};
 ghost use Rattle.regmodel.specs.declared.limits.TheConstants.{MOST_REGISTERS, MOST_SLOTS};
 ghost use Rattle.regmodel.specs.Program.{block_of};
-ghost use Rattle.uses.specs.Expansions.{name_body, name_round, name_slot, name_other, name_rank, name_turn, name_next, name_held};
+ghost use Rattle.uses.specs.Expansions.{name_body, name_rounds, name_looked, name_slot, name_other, name_rank, name_turn, name_next, name_held};
 
 use regmodel::Expr::{One, Two};
 use regmodel::Op::{Add, Equal, Less, Sub};
@@ -13,39 +13,56 @@ use regmodel::limits::MOST_TURNS;
 use regmodel::{OutOfMemory, Stmt, Target};
 use std::alloc::Global;
 
-/// The statements of a renaming, whose slots begin at register `base`, for the process of this slot.
-pub fn name_block(alloc: Global, base: u32, slots: u32, slot: u32) -> Result<Vec<Stmt>, OutOfMemory>
-    requires base { base ≤ MOST_REGISTERS }
-    requires slots { slots ≤ MOST_SLOTS }
-    requires slot { slot < slots }
-    ensures { IfOk result (λ block. block_of block.items ≡ name_body base slots slot) }
+/// The slots of a renaming, a register each for the proposal of its process.
+#[derive(Clone, Copy)]
+pub struct Slots {
+    /// The register of the first one.
+    pub base: u32,
+    /// How many there are.
+    pub count: u32,
+    /// The one of this process.
+    pub own: u32,
+    ghost low: { base ≤ MOST_REGISTERS },
+    ghost few: { count ≤ MOST_SLOTS },
+    ghost own_in: { own < count },
+}
+
+/// The statements of a renaming with these slots.
+pub fn name_block(alloc: Global, slots: Slots) -> Result<Vec<Stmt>, OutOfMemory>
+    ensures { IfOk result
+        (λ block. block_of block.items ≡ name_body slots.base slots.count slots.own) }
 {
-    let round = round(alloc, base, slots, slot)?;
+    let look = visit(alloc, slots.base, slots.own)?;
+    let mut round = vec![in alloc; Write(Number(slots.base + slots.own), One(Var(0)))]?;
+    round.append(&mut looked(alloc, slots, look)?)?;
+    rounds(alloc, round)
+}
+
+/// As many rounds as there may be, from the first proposal on.
+pub(super) fn rounds(alloc: Global, round: Vec<Stmt>) -> Result<Vec<Stmt>, OutOfMemory>
+    ensures { IfOk result (λ block. block_of block.items ≡ name_rounds (block_of round.items)) }
+{
     Ok(vec![in alloc;
         Assign(Target::Var(0), One(Number(1))),
         Repeat(One(Number(MOST_TURNS)), round),
     ]?)
 }
 
-/// Writes the proposal, reads the other slots, and keeps the proposal or makes the next one.
-fn round(alloc: Global, base: u32, slots: u32, slot: u32) -> Result<Vec<Stmt>, OutOfMemory>
-    requires base { base ≤ MOST_REGISTERS }
-    requires slots { slots ≤ MOST_SLOTS }
-    requires slot { slot < slots }
-    ensures { IfOk result (λ block. block_of block.items ≡ name_round base slots slot) }
+/// Looks at each slot so, and keeps the proposal or makes the next one.
+pub(super) fn looked(alloc: Global, slots: Slots, look: Vec<Stmt>) -> Result<Vec<Stmt>, OutOfMemory>
+    ensures { IfOk result
+        (λ block. block_of block.items ≡ name_looked slots.count (block_of look.items)) }
 {
-    let visit = visit(alloc, base, slot)?;
     let keep = vec![in alloc; Emit(One(Var(0))), Halt]?;
-    let turn = turn(alloc, slots)?;
+    let turn = turn(alloc, slots.count)?;
     Ok(vec![in alloc;
-        Write(Number(base + slot), One(Var(0))),
         Assign(Target::Var(1), One(Number(0))),
         Assign(Target::Var(2), One(Number(1))),
         Assign(Target::Var(3), One(Number(0))),
-        Repeat(One(Number(slots)), visit),
+        Repeat(One(Number(slots.count)), look),
         If(Two(Var(1), Equal, Number(0)), keep, Vec::new(alloc)),
         Assign(Target::Var(4), One(Number(0))),
-        Repeat(One(Number(2 * slots - 1)), turn),
+        Repeat(One(Number(2 * slots.count - 1)), turn),
         Assign(Target::Var(0), One(Var(4))),
     ]?)
 }
@@ -85,7 +102,7 @@ pub(super) fn rank(alloc: Global) -> Result<Vec<Stmt>, OutOfMemory>
 }
 
 /// The next number, until the rank is used up.
-pub(super) fn turn(alloc: Global, slots: u32) -> Result<Vec<Stmt>, OutOfMemory>
+fn turn(alloc: Global, slots: u32) -> Result<Vec<Stmt>, OutOfMemory>
     ensures { IfOk result (λ block. block_of block.items ≡ name_turn slots) }
 {
     let next = next(alloc, slots)?;
