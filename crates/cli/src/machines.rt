@@ -10,7 +10,7 @@ use machine::{Interp, Machine, Told};
 use natives::{Grid, MakeFault, NameSlots, Names, Split, Tree};
 use orders::Refusal;
 use reglang::{Source, Use};
-use regmodel::Pending;
+use regmodel::{Pending, Reply};
 use std::alloc::Global;
 
 /// What runs one process: an interpreter of its program, or the native machine of its kind.
@@ -39,6 +39,17 @@ impl Machine for ProcessMachine {
             ProcessMachine::Tree(machine) => machine.reset(),
             ProcessMachine::Name(machine) => machine.reset(),
             ProcessMachine::Names(machine) => machine.reset(),
+        }
+    }
+
+    fn recall(&mut self, replies: &[Reply]) -> usize {
+        match self {
+            ProcessMachine::Text(machine) => machine.recall(replies),
+            ProcessMachine::Split(machine) => machine.recall(replies),
+            ProcessMachine::Grid(machine) => machine.recall(replies),
+            ProcessMachine::Tree(machine) => machine.recall(replies),
+            ProcessMachine::Name(machine) => machine.recall(replies),
+            ProcessMachine::Names(machine) => machine.recall(replies),
         }
     }
 

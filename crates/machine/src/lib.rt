@@ -8,7 +8,7 @@ ghost use Rattle.regmodel.specs.Program.{Program};
 ghost use Rattle.regmodel.specs.Act.{act_of};
 ghost use Rattle.regmodel.specs.Kept.{values_in};
 ghost use Rattle.regmodel.specs.Lawful.{IsReplyTo, IsAtStart};
-ghost use Rattle.regmodel.specs.Reply as replies;
+ghost use Rattle.regmodel.specs.Reply as spec;
 ghost use Rattle.regmodel.specs.Reply.{Replies};
 ghost use Rattle.machine.specs.Following.{Follows};
 ghost use Rattle.machine.specs.Telling.{Tells};
@@ -88,7 +88,7 @@ pub trait Machine: Drop + Send {
 
 /// The first value of a reply; 0 where it has none.
 pub fn value_of(reply: &[u32]) -> u32
-    ensures { result ≡ replies.value_of reply.now }
+    ensures { result ≡ spec.value_of reply.now }
 {
     reply.first().copied().unwrap_or(0)
 }
