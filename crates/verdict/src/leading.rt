@@ -1,15 +1,14 @@
 //! Which schedule leads to outcomes that were looked for, in words. No call takes memory.
 
 ghost use Rattle.texts.specs.Appending.{Wrote};
-ghost use Rattle.verdict.specs.WayText as spec;
 ghost use Rattle.verdict.specs.WayText.{discovery_text};
 
 use crate::counts::{Bounds, Letters};
 use crate::replays::ReplayCommand;
-use crate::ways::{Discovery, Way};
+use crate::ways::Discovery;
 use drawing::Drawn;
 use std::io::Write;
-use texts::{Block, Text, WriteFault, write};
+use texts::{WriteFault, write};
 
 /// Writes what was found of the source in the file of this path: the least schedule that leads to an outcome that was looked for, its
 /// drawing and the command that replays it; or that none does, and how far was looked. After a fault the writer has taken a beginning of it.
@@ -21,7 +20,19 @@ pub fn write_discovery<W: Write>(
     ensures { Wrote W.contents out.old out.new (discovery_text path.now discovery.now) result }
 {
     match &discovery.way {
-        Some(way) => write(&Leading { path, way }, out),
+        Some(way) => {
+            let letters = Letters(way.schedule.letters().len() as u64);
+            let drawing = Drawn {
+                drawing: &way.drawing,
+                all: false,
+            };
+            let leads = (path, ": a schedule of ", letters, " leads to ");
+            let replay = ReplayCommand {
+                path,
+                schedule: &way.schedule,
+            };
+            write(&(leads, &way.outcome, "\n\n", drawing, replay), out)
+        }
         None => {
             let bounds = Bounds {
                 length: u64::from(discovery.least.length()),
@@ -29,31 +40,5 @@ pub fn write_discovery<W: Write>(
             };
             write(&(path, ": no schedule leads there", bounds), out)
         }
-    }
-}
-
-/// A schedule that leads there.
-#[derive(Clone, Copy)]
-struct Leading<'a> {
-    path: &'a [u8],
-    way: &'a Way,
-}
-
-impl Text for Leading<'_> {
-    ghost text = { λ l. spec.way_text l.path.now l.way.now };
-
-    fn put<W: Write>(&self, out: &mut W, block: &mut Block) -> Result<(), WriteFault> {
-        let way = self.way;
-        let letters = Letters(way.schedule.letters().len() as u64);
-        let drawing = Drawn {
-            drawing: &way.drawing,
-            all: false,
-        };
-        let leads = (self.path, ": a schedule of ", letters, " leads to ");
-        let replay = ReplayCommand {
-            path: self.path,
-            schedule: &way.schedule,
-        };
-        (leads, &way.outcome, "\n\n", drawing, replay).put(out, block)
     }
 }
