@@ -17,71 +17,32 @@ const WRITER_AND_READER: &[u8] =
 const SPLITTER: &[u8] =
     b"registers 2\nprocess\nuse split 0 1\nend\nprocess\nuse split 0 2\nend\ncheck atmost 3 0\n";
 
+/// Words of the command line.
+#[derive(Clone, Copy)]
+struct Words {
+    /// The first of them, each parted by a space from the next.
+    first: &'static str,
+    /// The last one, which may have spaces; none where there is none.
+    last: Option<&'static str>,
+}
+
 /// Words that explore, and words that replay.
-const PRINTING: [&[&str]; 2] = [
-    &[
-        "regtry",
-        "explore",
-        "FILE",
-        "--length",
-        "2",
-        "--crashes",
-        "0",
-        "--workers",
-        "2",
-        "--cut",
-        "1",
-        "--room",
-        "16",
-    ],
-    &["regtry", "replay", "FILE", "R1 R0"],
+const PRINTING: [Words; 2] = [
+    Words {
+        first: "regtry explore FILE --length 2 --crashes 0 --workers 2 --cut 1 --room 16",
+        last: None,
+    },
+    Words {
+        first: "regtry replay FILE",
+        last: Some("R1 R0"),
+    },
 ];
 
-/// Runs of which one process may crash. The last word asks for progress.
-const TELLING: [&[&str]; 3] = [
-    &[
-        "regtry",
-        "explore",
-        "FILE",
-        "--length",
-        "2",
-        "--crashes",
-        "1",
-        "--cut",
-        "2",
-        "--room",
-        "16",
-        "--workers",
-        "2",
-        "--progress",
-    ],
-    &[
-        "regtry",
-        "explore",
-        "FILE",
-        "--least",
-        "--length",
-        "2",
-        "--crashes",
-        "1",
-        "--cut",
-        "2",
-        "--room",
-        "16",
-        "--workers",
-        "2",
-        "--progress",
-    ],
-    &[
-        "regtry",
-        "check",
-        "FILE",
-        "--crashes",
-        "1",
-        "--workers",
-        "2",
-        "--progress",
-    ],
+/// Runs of which one process may crash.
+const TELLING: [&str; 3] = [
+    "regtry explore FILE --length 2 --crashes 1 --cut 2 --room 16 --workers 2",
+    "regtry explore FILE --least --length 2 --crashes 1 --cut 2 --room 16 --workers 2",
+    "regtry check FILE --crashes 1 --workers 2",
 ];
 
 /// A writer that takes no byte.
@@ -113,10 +74,13 @@ impl Write for Stuck {
 }
 
 /// The list of these words.
-fn list_of<'a>(alloc: Global, words: &[&'a str]) -> Result<Vec<&'a str>, Refusal> {
+fn list_of(alloc: Global, words: Words) -> Result<Vec<&'static str>, Refusal> {
     let mut list = Vec::new(alloc);
-    for word in words {
-        list.push(*word)?;
+    for word in words.first.split(' ') {
+        list.push(word)?;
+    }
+    if let Some(word) = words.last {
+        list.push(word)?;
     }
     Ok(list)
 }
@@ -124,7 +88,7 @@ fn list_of<'a>(alloc: Global, words: &[&'a str]) -> Result<Vec<&'a str>, Refusal
 /// The status of words on a file, where standard output and standard error are these.
 fn asked<H: Threads + Wait + Sync + AllocGlobal, W: Write, E: Write + Send>(
     rt: &H,
-    words: &[&str],
+    words: Words,
     file: &'static [u8],
     out: &mut W,
     err: &mut E,
@@ -138,7 +102,7 @@ fn asked<H: Threads + Wait + Sync + AllocGlobal, W: Write, E: Write + Send>(
 /// Asserts that a fault of this writer is told.
 fn assert_fault_told<H: Abort + Threads + Wait + Sync + AllocGlobal, W: Write>(
     rt: &H,
-    words: &[&str],
+    words: Words,
     out: &mut W,
 ) {
     let mut err = Vec::new(rt.alloc());
@@ -165,37 +129,23 @@ fn output_that_is_not_passed_on_is_a_write_fault(rt: HostRuntime) {
 
 #[test]
 fn a_writer_that_takes_no_line_of_progress_changes_nothing(rt: HostRuntime) {
-    for words in TELLING {
+    for first in TELLING {
         let (mut silent, mut err) = (Vec::new(rt.alloc()), Vec::new(rt.alloc()));
-        let (_, unasked) = words.split_last().unwrap_or((&"", words));
+        let unasked = Words { first, last: None };
         let status = asked(&rt, unasked, SPLITTER, &mut silent, &mut err);
         let mut told = Vec::new(rt.alloc());
-        let answer = asked(&rt, words, SPLITTER, &mut told, &mut Closed);
+        let last = Some("--progress");
+        let answer = asked(&rt, Words { first, last }, SPLITTER, &mut told, &mut Closed);
         assert!(rt; (answer, told.as_slice()) == (status, silent.as_slice()));
     }
 }
 
 #[test]
 fn each_option_says_its_own_setting(rt: HostRuntime) -> Result<(), Fail> {
-    let words = [
-        "regtry",
-        "explore",
-        "FILE",
-        "--crashes",
-        "1",
-        "--length",
-        "5",
-        "--room",
-        "16",
-        "--workers",
-        "2",
-        "--cut",
-        "3",
-        "--text",
-    ];
-    for (words, interpreted) in [(words.as_slice(), true), (&words[..13], false)] {
+    let first = "regtry explore FILE --crashes 1 --length 5 --room 16 --workers 2 --cut 3";
+    for (last, interpreted) in [(Some("--text"), true), (None, false)] {
         let mut err = Vec::new(rt.alloc());
-        let words = list_of(rt.alloc(), words);
+        let words = list_of(rt.alloc(), Words { first, last });
         let request = command(&rt, &words, &|_path: &str| Some(SPLITTER), &mut err);
         let Ok(Request::Order(order)) = request else {
             return Err(Fail::from("refused words"));
