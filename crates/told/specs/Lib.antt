@@ -1,0 +1,3 @@
+pub mod ByteExamples
+pub mod Bytes
+pub mod Numbers

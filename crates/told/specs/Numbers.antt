@@ -1,0 +1,8 @@
+-- The numbers that are told.
+use Rattle.std.specs.Prelude.{ℕ, List, take}
+use Rattle.told.specs.declared.numbers.Told.{Told}
+use Rattle.told.specs.Bytes.{numbers_of}
+
+-- the numbers that are told, in order
+abbrev pub numbers_in : Told → List ℕ
+numbers_in told = numbers_of (take told.size told.bytes)

@@ -1,0 +1,139 @@
+//! Numbers told one behind another.
+
+ghost use Rattle.std.specs.Prelude.{◌≡◌, ◌+◌, ◌≤◌, ◌∷◌, [], ◌++◌, IfSome, IsSome, length, take};
+ghost use Rattle.std.specs.List.{flat_map};
+ghost use Rattle.told.specs.declared.bytes.TheConstants.{PAIR};
+ghost use Rattle.told.specs.declared.limits.TheConstants.{MOST_BYTES};
+ghost use Rattle.told.specs.Bytes.{bytes_of, numbers_of, size_of};
+
+use crate::bytes::{FOUR, PAIR, pair};
+use crate::limits::MOST_BYTES;
+
+/// Numbers told one behind another, in at most 128 bytes: a number takes one below 254, three below 65536, and else five.
+#[derive(Clone, Copy)]
+pub struct Told {
+    /// The bytes of the numbers; those behind them hold what they held.
+    bytes: [u8; MOST_BYTES],
+    /// How many bytes there are.
+    size: u32,
+    /// How many numbers they tell.
+    count: u32,
+    ghost room: { size ≤ MOST_BYTES },
+    ghost whole: { flat_map bytes_of (numbers_of (take size bytes)) ≡ take size bytes },
+    ghost counted: { count ≡ length (numbers_of (take size bytes)) },
+}
+
+impl Told {
+    ghost use Rattle.told.specs.Numbers.{numbers_in};
+
+    /// No number.
+    pub fn new() -> Told
+        ensures { numbers_in result ≡ [] }
+    {
+        Told {
+            bytes: [0; MOST_BYTES],
+            size: 0,
+            count: 0,
+        }
+    }
+
+    /// Forgets all numbers.
+    pub fn clear(&mut self)
+        ensures { numbers_in self.new ≡ [] }
+    {
+        self.size = 0;
+        self.count = 0;
+    }
+
+    /// How many numbers there are.
+    pub fn count(&self) -> u32
+        ensures { result ≡ length (numbers_in self.now) }
+    {
+        self.count
+    }
+
+    /// The bytes of the numbers.
+    pub fn bytes(&self) -> &[u8]
+        ensures numbers { numbers_of result.now ≡ numbers_in self.now }
+        ensures whole { result.now ≡ flat_map bytes_of (numbers_in self.now) }
+    {
+        &self.bytes[..self.size as usize]
+    }
+
+    /// Puts a number behind the others, where there is room for its bytes.
+    pub fn put(&mut self, number: u32) -> Option<()>
+        ensures behind { IfSome result
+            (λ _. numbers_in self.new ≡ numbers_in self.old ++ number ∷ []) }
+        ensures room { size_of (numbers_in self.old ++ number ∷ []) ≤ MOST_BYTES → IsSome result }
+    {
+        if number >= PAIR {
+            return self.put_large(number);
+        }
+        let end = self.size as usize;
+        if end >= MOST_BYTES {
+            return None;
+        }
+        self.bytes[end] = number as u8;
+        self.size += 1;
+        self.count += 1;
+        Some(())
+    }
+
+    /// The same for a number that takes more than one byte.
+    fn put_large(&mut self, number: u32) -> Option<()>
+        requires { PAIR ≤ number }
+        ensures behind { IfSome result
+            (λ _. numbers_in self.new ≡ numbers_in self.old ++ number ∷ []) }
+        ensures room { size_of (numbers_in self.old ++ number ∷ []) ≤ MOST_BYTES → IsSome result }
+    {
+        if number < 0x1_0000 {
+            let [lower, upper] = pair(number);
+            return self.put_bytes(&[PAIR as u8, lower, upper], 1);
+        }
+        let [a, b] = pair(number & 0xffff);
+        let [c, d] = pair(number >> 16);
+        self.put_bytes(&[FOUR as u8, a, b, c, d], 1)
+    }
+
+    /// Puts these numbers behind the others, where there is room for their bytes.
+    pub fn put_all(&mut self, numbers: &[u32]) -> Option<()>
+        ensures behind { IfSome result
+            (λ _. numbers_in self.new ≡ numbers_in self.old ++ numbers.now) }
+        ensures room { size_of (numbers_in self.old ++ numbers.now) ≤ MOST_BYTES → IsSome result }
+    {
+        for number in numbers {
+            self.put(*number)?;
+        }
+        Some(())
+    }
+
+    /// Puts the numbers of another one behind its own, where there is room for their bytes.
+    pub fn put_told(&mut self, other: &Told) -> Option<()>
+        ensures behind { IfSome result
+            (λ _. numbers_in self.new ≡ numbers_in self.old ++ numbers_in other.now) }
+        ensures room { size_of (numbers_in self.old ++ numbers_in other.now) ≤ MOST_BYTES
+            → IsSome result }
+    {
+        self.put_bytes(other.bytes(), other.count)
+    }
+
+    /// Puts the bytes of so many numbers behind the others, where there is room for them.
+    fn put_bytes(&mut self, bytes: &[u8], count: u32) -> Option<()>
+        requires whole { flat_map bytes_of (numbers_of bytes.now) ≡ bytes.now }
+        requires count { count ≡ length (numbers_of bytes.now) }
+        ensures behind { IfSome result
+            (λ _. numbers_in self.new ≡ numbers_in self.old ++ numbers_of bytes.now) }
+        ensures room { size_of (numbers_in self.old ++ numbers_of bytes.now) ≤ MOST_BYTES
+            → IsSome result }
+    {
+        let start = self.size as usize;
+        if bytes.len() > MOST_BYTES - start {
+            return None;
+        }
+        let end = start + bytes.len();
+        self.bytes[start..end].copy_from_slice(bytes);
+        self.size = end as u32;
+        self.count += count;
+        Some(())
+    }
+}
