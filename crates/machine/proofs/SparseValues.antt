@@ -1,5 +1,5 @@
 -- Values are read back from their mask and those that are not 0.
-use Rattle.std.proofs.Common.{◌≡◌, ◌≢◌, ℕ, zero, suc, ◌+◌, ◌*◌, ◌^◌, ◌<◌, ◌≤◌, List, [], ◌∷◌, ◌++◌, bit_or, drop, take, get_or, length, length-append, refl, ap, sym, subst, ◌∙◌, arith, add-one}
+use Rattle.std.proofs.Common.{◌≡◌, ◌≢◌, ℕ, zero, suc, ◌+◌, ◌*◌, ◌^◌, ◌<◌, ◌≤◌, List, [], ◌∷◌, ◌++◌, bit_or, drop, take, get_or, length, refl, ap, sym, subst, ◌∙◌, arith, add-one}
 use Rattle.std.specs.Prelude.{map}
 use Rattle.std.proofs.Math.Nat.{pow-suc}
 use Rattle.std.proofs.Math.Seq.{take-suc}
@@ -57,15 +57,11 @@ filled-past-zero values i h is = filled-past values i h ∙ ap (λ v. filled (ta
 pub filled-past-other : (values : List ℕ) (i : ℕ) → i < length values → get_or values i 0 ≢ 0 → filled (take (i + 1) values) ≡ filled (take i values) ++ get_or values i 0 ∷ []
 filled-past-other values i h is = filled-past values i h ∙ ap (λ vs. filled (take i values) ++ vs) (filled-one (get_or values i 0) is)
 
--- so one at least is told behind those before a value that is not 0
-pub filled-more : (values : List ℕ) (i : ℕ) → i < length values → get_or values i 0 ≢ 0 → length (filled (take i values)) < length (filled values)
-filled-more values i h is =
-    let before = filled (take i values) in
-    let behind = filled (drop (i + 1) values) in
-    let whole : filled values ≡ filled (take (i + 1) values) ++ behind =
-    ap filled (sym (take-append-drop (i + 1) values)) ∙ filled-append (take (i + 1) values) (drop (i + 1) values) in
-    let one = filled-past-other values i h is in
-    omega (arith, ap length whole, length-append (filled (take (i + 1) values)) behind, ap length one, length-append before (get_or values i 0 ∷ []))
+-- it is told behind those before it, and those after it behind it
+pub filled-parts : (values : List ℕ) (i : ℕ) → i < length values → get_or values i 0 ≢ 0 → filled values ≡ (filled (take i values) ++ get_or values i 0 ∷ []) ++ filled (drop (i + 1) values)
+filled-parts values i h is =
+    ap filled (sym (take-append-drop (i + 1) values))
+    ∙ (filled-append (take (i + 1) values) (drop (i + 1) values) ∙ ap (λ ns. ns ++ filled (drop (i + 1) values)) (filled-past-other values i h is))
 
 -- ---- how a mask is made, from the last value on
 

@@ -2,6 +2,7 @@
 #![tactic(auto)]
 
 ghost use Rattle.std.specs.Prelude.{◌≡◌, ◌≤◌, ℕ, IsTrue, List, [], ◌∷◌, length, map, take};
+ghost use Rattle.told.specs.Numbers.{numbers_in};
 ghost use Rattle.regmodel.specs.declared.accesses.Pending.{Pending};
 ghost use Rattle.regmodel.specs.declared.accesses.Pending.TheVariants.{Done};
 ghost use Rattle.regmodel.specs.Program.{Program};
@@ -25,7 +26,8 @@ mod values;
 
 pub use interp::Interp;
 use regmodel::{Pending, Reply};
-pub use told_numbers::{MOST_TOLD, Told, put, put_sparse};
+pub use told::Told;
+pub use told_numbers::put_sparse;
 
 /// A program in progress, known by its program and by its rest: what is pending after each list of further replies.
 /// No call takes memory.
@@ -79,7 +81,8 @@ pub trait Machine: Drop + Send {
     /// what then stands behind the earlier numbers means nothing.
     fn tell(&self, numbers: &mut Told) -> bool
         ensures { IsTrue result
-            → Tells (resumed self.now) (rest self.now) numbers.old.items numbers.new.items }
+            → Tells (resumed self.now) (rest self.now) (numbers_in numbers.old)
+            (numbers_in numbers.new) }
     {
         let _ = numbers;
         false
@@ -144,7 +147,8 @@ pub fn end_box(machine: &mut Box<dyn Machine + Send>)
 /// Asks a boxed machine to tell where it stands.
 pub fn tell_box(machine: &Box<dyn Machine + Send>, numbers: &mut Told) -> bool
     ensures { IsTrue result
-        → Tells (resumed machine.now) (rest machine.now) numbers.old.items numbers.new.items }
+        → Tells (resumed machine.now) (rest machine.now) (numbers_in numbers.old)
+        (numbers_in numbers.new) }
 {
     machine.tell(numbers)
 }

@@ -1,39 +1,31 @@
-//! How numbers are told: as they are, or where most of them are 0, by a mask and the other ones.
+//! Values of which most are 0, told by a mask and the other ones.
 
 ghost use Rattle.std.specs.Prelude.{◌≡◌, ◌+◌, ◌<◌, ◌≤◌, ◌++◌, IfSome, IsSome, IsTrue, length, slice_index, ℕ};
-ghost use Rattle.machine.specs.Sparse.{sparse};
-ghost use Rattle.machine.specs.declared.told_numbers.TheConstants.{MOST_TOLD};
+ghost use Rattle.told.specs.Bytes.{size_of};
+ghost use Rattle.told.specs.Numbers.{numbers_in};
+ghost use Rattle.told.specs.declared.limits.TheConstants.{MOST_BYTES};
+ghost use Rattle.machine.specs.Sparse.{filled, mask_of, sparse};
 
-use arrayvec::ArrayVec;
-
-/// How many numbers tell where something stands, at most.
-pub const MOST_TOLD: usize = 128;
-
-/// Numbers that tell where something stands.
-pub type Told = ArrayVec<u32, MOST_TOLD>;
-
-/// Puts these behind the numbers, where there is room.
-pub fn put(values: &[u32], numbers: &mut Told) -> Option<()>
-    ensures behind { IfSome result (λ _. numbers.new.items ≡ numbers.old.items ++ values.now) }
-    ensures room { length numbers.old.items + length values.now ≤ MOST_TOLD → IsSome result }
-{
-    for value in values {
-        numbers.try_push(*value).ok()?;
-    }
-    Some(())
-}
+use told::Told;
 
 /// Puts at most 32 values of which most are 0 behind the numbers, where there is room: a number whose bit i tells whether value i
 /// is not 0, and then the values that are not 0.
 pub fn put_sparse(values: &[u32], numbers: &mut Told) -> Option<()>
     requires { length values.now ≤ 32 }
     ensures behind { IfSome result
-        (λ _. numbers.new.items ≡ numbers.old.items ++ sparse values.now) }
-    ensures room { length numbers.old.items + length (sparse values.now) ≤ MOST_TOLD
+        (λ _. numbers_in numbers.new ≡ numbers_in numbers.old ++ sparse values.now) }
+    ensures room { size_of (numbers_in numbers.old ++ sparse values.now) ≤ MOST_BYTES
         → IsSome result }
 {
-    let at = numbers.len();
-    put(&[0], numbers)?;
+    numbers.put(mask(values))?;
+    put_filled(values, numbers)
+}
+
+/// The number whose bit i tells whether value i is not 0.
+fn mask(values: &[u32]) -> u32
+    requires { length values.now ≤ 32 }
+    ensures { result ≡ mask_of values.now }
+{
     let mut mask = 0u64;
     let mut bit = 1;
     let mut i = 0;
@@ -44,13 +36,32 @@ pub fn put_sparse(values: &[u32], numbers: &mut Told) -> Option<()>
             continue;
         }
         if values[i] != 0 {
-            put(&[values[i]], numbers)?;
             mask += bit;
         }
         bit *= 2;
         i += 1;
     }
-    numbers[at] = mask as u32;
+    mask as u32
+}
+
+/// Puts the values that are not 0 behind the numbers, where there is room.
+fn put_filled(values: &[u32], numbers: &mut Told) -> Option<()>
+    ensures behind { IfSome result
+        (λ _. numbers_in numbers.new ≡ numbers_in numbers.old ++ filled values.now) }
+    ensures room { size_of (numbers_in numbers.old ++ filled values.now) ≤ MOST_BYTES
+        → IsSome result }
+{
+    let mut i = 0;
+    while i < values.len() {
+        if are_zero(values, i) {
+            i += 4;
+            continue;
+        }
+        if values[i] != 0 {
+            numbers.put(values[i])?;
+        }
+        i += 1;
+    }
     Some(())
 }
 

@@ -1,7 +1,0 @@
-use Rattle.std.proofs.Common.{◌≡◌, ◌++◌, take}
-use Rattle.machine.proofs.told_numbers.put.Given as goal
-
-abbrev pub invariant-loop-value : goal.invariant-loop-value
-invariant-loop-value l = record {
-  behind : l.numbers.items ≡ l.fn.numbers.items ++ take l.value-index l.values;
-}
