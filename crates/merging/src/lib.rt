@@ -6,10 +6,10 @@ mod merged;
 mod mergers;
 mod merging;
 mod missing;
-mod told;
+mod writing;
 
 pub use faults::{MergeFault, Misfit};
 pub use merged::Merged;
 pub use merging::merge_parts;
 pub use missing::Missing;
-pub use told::write_merged;
+pub use writing::write_merged;

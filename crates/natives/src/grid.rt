@@ -1,6 +1,7 @@
 //! Grids of splitters: a process goes from the first vertex right and down until it stops at one or leaves the grid.
 
 ghost use Rattle.std.specs.Prelude.{◌≡◌, ◌+◌, ◌-◌, ◌*◌, ◌<◌, ◌≤◌, ◌++◌, IfSome};
+ghost use Rattle.told.specs.Numbers.{numbers_in};
 ghost use Rattle.regmodel.specs.Reply.{Replies};
 ghost use Rattle.uses.specs.declared.kinds.Use.TheVariants as kind;
 ghost use Rattle.natives.specs.Makes.{IsMadeFor};
@@ -9,7 +10,7 @@ ghost use Rattle.natives.specs.Grids.{grid_from, grid_numbers};
 
 use crate::numbers::{done, done_with};
 use crate::{MakeFault, PAST_LIMIT};
-use machine::{Machine, Told, put, value_of};
+use machine::{Machine, Told, value_of};
 use regmodel::{Access, Pending};
 use uses::Use;
 
@@ -102,18 +103,18 @@ impl Grid {
     /// Puts where it stands behind the numbers.
     fn put_standing(&self, numbers: &mut Told) -> Option<()>
         ensures { IfSome result
-            (λ _. numbers.new.items
-            ≡ numbers.old.items ++ grid_numbers self.now.level self.now.vertex self.now.stage) }
+            (λ _. numbers_in numbers.new
+            ≡ numbers_in numbers.old ++ grid_numbers self.now.level self.now.vertex self.now.stage) }
     {
         let level = u32::from(self.level);
         let vertex = u32::from(self.vertex);
         match self.stage {
-            Stage::Marks => put(&[0, level, vertex], numbers),
-            Stage::Tries => put(&[1, level, vertex], numbers),
-            Stage::Closes => put(&[2, level, vertex], numbers),
-            Stage::Looks => put(&[3, level, vertex], numbers),
-            Stage::Stopped => put(&[4, vertex], numbers),
-            Stage::Over => put(&[5], numbers),
+            Stage::Marks => numbers.put_all(&[0, level, vertex]),
+            Stage::Tries => numbers.put_all(&[1, level, vertex]),
+            Stage::Closes => numbers.put_all(&[2, level, vertex]),
+            Stage::Looks => numbers.put_all(&[3, level, vertex]),
+            Stage::Stopped => numbers.put_all(&[4, vertex]),
+            Stage::Over => numbers.put(5),
         }
     }
 }

@@ -4,10 +4,10 @@
 mod grid;
 mod names;
 mod numbers;
+mod packing;
 mod rounds;
 mod scanned_names;
 mod split;
-mod told;
 mod trees;
 
 pub use grid::Grid;

@@ -1,6 +1,7 @@
 //! Renamings: a process proposes a name in its slot until no other slot holds it.
 
 ghost use Rattle.std.specs.Prelude.{◌≡◌, ◌+◌, ◌≤◌, ◌∷◌, ◌++◌, IfSome, slice_index};
+ghost use Rattle.told.specs.Numbers.{numbers_in};
 ghost use Rattle.regmodel.specs.Reply.{Replies};
 ghost use Rattle.uses.specs.declared.kinds.Use.TheVariants as kind;
 ghost use Rattle.natives.specs.Makes.{IsMadeFor};
@@ -11,7 +12,7 @@ ghost use Rattle.natives.specs.Names.{IsRead, end_rest, name_numbers, reading_re
 use crate::numbers::{done, done_with};
 use crate::rounds::{Reading, Round, Slots, Stage};
 use crate::{MakeFault, PAST_LIMIT};
-use machine::{Machine, Told, put, value_of};
+use machine::{Machine, Told, value_of};
 use regmodel::{Access, Pending};
 use uses::Use;
 
@@ -107,29 +108,27 @@ impl NameSlots {
     /// Puts the stage behind the numbers, with the numbers that it holds, but not what the slots held.
     fn put_stage(&self, numbers: &mut Told) -> Option<()>
         ensures { IfSome result
-            (λ _. numbers.new.items
-            ≡ numbers.old.items ++ name_numbers self.now.round.later self.now.round.proposal
+            (λ _. numbers_in numbers.new
+            ≡ numbers_in numbers.old ++ name_numbers self.now.round.later self.now.round.proposal
             self.now.stage) }
     {
         match self.stage {
-            Stage::Proposes => put(
-                &[0, u32::from(self.round.later), self.round.proposal],
-                numbers,
-            ),
+            Stage::Proposes => numbers.put_all(&[
+                0,
+                u32::from(self.round.later),
+                self.round.proposal,
+            ]),
             Stage::Looks(reading) => {
-                put(
-                    &[
-                        reading.number(),
-                        u32::from(self.round.later),
-                        self.round.proposal,
-                        u32::from(reading.at),
-                        u32::from(reading.rank),
-                    ],
-                    numbers,
-                )
+                numbers.put_all(&[
+                    reading.number(),
+                    u32::from(self.round.later),
+                    self.round.proposal,
+                    u32::from(reading.at),
+                    u32::from(reading.rank),
+                ])
             }
-            Stage::Named => put(&[3, self.round.proposal], numbers),
-            Stage::Over => put(&[4], numbers),
+            Stage::Named => numbers.put_all(&[3, self.round.proposal]),
+            Stage::Over => numbers.put(4),
         }
     }
 }

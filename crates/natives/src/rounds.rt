@@ -1,6 +1,7 @@
 //! The rounds of a renaming: its slots, what a round reads in them, and how it ends.
 
 ghost use Rattle.std.specs.Prelude.{◌≡◌, ◌+◌, ◌-◌, ◌*◌, ◌<◌, ◌≤◌, ◌++◌, IfSome, length, replicate};
+ghost use Rattle.told.specs.Numbers.{numbers_in};
 ghost use Rattle.regmodel.specs.declared.limits.TheConstants.{MOST_REGISTERS, MOST_SLOTS};
 ghost use Rattle.natives.specs.declared.rounds.TheConstants.{LATER};
 ghost use Rattle.natives.specs.Rounds.{first_slot, after_slot, after_slots, number_from, reading_number, stage_after, later_after, proposal_after, seen_numbers};
@@ -103,8 +104,8 @@ impl Round {
     /// Puts what the slots held behind the numbers of a stage, where it is one in the round.
     pub fn put_seen<L>(&self, stage: &Stage<L>, numbers: &mut Told) -> Option<()>
         ensures { IfSome result
-            (λ _. numbers.new.items
-            ≡ numbers.old.items ++ seen_numbers stage.now self.now.seen) }
+            (λ _. numbers_in numbers.new
+            ≡ numbers_in numbers.old ++ seen_numbers stage.now self.now.seen) }
     {
         match stage {
             Stage::Proposes | Stage::Looks(_) => put_sparse(&self.seen, numbers),

@@ -1,6 +1,7 @@
 //! Renamings that scan: a process proposes a name in its slot until no other slot holds it, where it sees all slots at once.
 
 ghost use Rattle.std.specs.Prelude.{◌≡◌, ◌≤◌, ◌∷◌, ◌++◌, IfSome, length};
+ghost use Rattle.told.specs.Numbers.{numbers_in};
 ghost use Rattle.regmodel.specs.Reply.{Replies, one};
 ghost use Rattle.uses.specs.declared.kinds.Use.TheVariants as kind;
 ghost use Rattle.natives.specs.Makes.{IsMadeFor};
@@ -9,7 +10,7 @@ ghost use Rattle.natives.specs.ScannedNames.{scan_end_rest, scan_round_rest, nam
 use crate::numbers::{done, done_with};
 use crate::rounds::{Reading, Round, Slots, Stage};
 use crate::{MakeFault, PAST_LIMIT};
-use machine::{Machine, Told, put};
+use machine::{Machine, Told};
 use regmodel::{Access, Pending};
 use uses::Use;
 
@@ -84,21 +85,23 @@ impl Names {
     /// Puts the stage behind the numbers, with the numbers that it holds, but not what the slots held.
     fn put_stage(&self, numbers: &mut Told) -> Option<()>
         ensures { IfSome result
-            (λ _. numbers.new.items
-            ≡ numbers.old.items ++ names_numbers self.now.round.later self.now.round.proposal
+            (λ _. numbers_in numbers.new
+            ≡ numbers_in numbers.old ++ names_numbers self.now.round.later self.now.round.proposal
             self.now.stage) }
     {
         match self.stage {
-            Stage::Proposes => put(
-                &[0, u32::from(self.round.later), self.round.proposal],
-                numbers,
-            ),
-            Stage::Looks(_) => put(
-                &[1, u32::from(self.round.later), self.round.proposal],
-                numbers,
-            ),
-            Stage::Named => put(&[2, self.round.proposal], numbers),
-            Stage::Over => put(&[3], numbers),
+            Stage::Proposes => numbers.put_all(&[
+                0,
+                u32::from(self.round.later),
+                self.round.proposal,
+            ]),
+            Stage::Looks(_) => numbers.put_all(&[
+                1,
+                u32::from(self.round.later),
+                self.round.proposal,
+            ]),
+            Stage::Named => numbers.put_all(&[2, self.round.proposal]),
+            Stage::Over => numbers.put(3),
         }
     }
 }

@@ -8,7 +8,7 @@ ghost use Rattle.natives.specs.Splits.{split_stage};
 
 use crate::numbers::{done, done_with};
 use crate::{MakeFault, PAST_LIMIT};
-use machine::{Machine, Told, put, value_of};
+use machine::{Machine, Told, value_of};
 use regmodel::{Access, Pending};
 use uses::Use;
 
@@ -127,6 +127,6 @@ impl Machine for Split {
     }
 
     fn tell(&self, numbers: &mut Told) -> bool {
-        put(&[self.stage.number()], numbers).is_some()
+        numbers.put(self.stage.number()).is_some()
     }
 }

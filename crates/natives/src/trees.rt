@@ -2,6 +2,7 @@
 //! collects the values of the vertices whose marks it reads.
 
 ghost use Rattle.std.specs.Prelude.{◌≡◌, ◌≢◌, ℕ, suc, ◌+◌, ◌-◌, ◌*◌, ◌^◌, ◌<◌, ◌≤◌, [], ◌∷◌, ◌++◌, true, false, IfSome, length, replicate, slice_set};
+ghost use Rattle.told.specs.Numbers.{numbers_in};
 ghost use Rattle.regmodel.specs.Reply.{Replies, one};
 ghost use Rattle.uses.specs.declared.kinds.Use.TheVariants as kind;
 ghost use Rattle.natives.specs.Makes.{IsMadeFor};
@@ -10,9 +11,9 @@ ghost use Rattle.natives.specs.declared.trees.Stage.TheVariants.{Sees, Takes};
 ghost use Rattle.natives.specs.Trees.{IsIn, collect_numbers, tree_numbers, below_reached, from_vertex, from_past, from_at, from_next};
 
 use crate::numbers::done;
-use crate::told::packed;
+use crate::packing::packed;
 use crate::{MakeFault, PAST_LIMIT};
-use machine::{Machine, Told, put, value_of};
+use machine::{Machine, Told, value_of};
 use regmodel::{Access, Numbers, Pending};
 use uses::Use;
 
@@ -227,40 +228,40 @@ impl Tree {
     /// Puts behind the numbers that a vertex is looked at, with the number of the stage, and what was collected before it.
     fn put_collect(&self, stage: u32, vertex: u8, numbers: &mut Told) -> Option<()>
         ensures { IfSome result
-            (λ _. numbers.new.items
-            ≡ numbers.old.items
+            (λ _. numbers_in numbers.new
+            ≡ numbers_in numbers.old
             ++ collect_numbers self.now.reached self.now.numbers.items stage vertex) }
     {
         let reached = packed(&self.reached)?;
-        put(&[stage, u32::from(vertex), reached], numbers)?;
-        put(&self.numbers, numbers)
+        numbers.put_all(&[stage, u32::from(vertex), reached])?;
+        numbers.put_all(&self.numbers)
     }
 
     /// Puts where it stands behind the numbers.
     fn put_standing(&self, numbers: &mut Told) -> Option<()>
         ensures { IfSome result
-            (λ _. numbers.new.items
-            ≡ numbers.old.items
+            (λ _. numbers_in numbers.new
+            ≡ numbers_in numbers.old
             ++ tree_numbers self.now.vertex self.now.levels self.now.reached
             self.now.numbers.items self.now.stage) }
     {
         let vertex = u32::from(self.vertex);
         let levels = u32::from(self.levels);
         match self.stage {
-            Stage::Marks => put(&[0, vertex, levels], numbers),
-            Stage::Signs => put(&[1, vertex, levels], numbers),
-            Stage::Tries => put(&[2, vertex, levels], numbers),
-            Stage::Closes => put(&[3, vertex, levels], numbers),
-            Stage::Looks => put(&[4, vertex, levels], numbers),
-            Stage::Leaves => put(&[5, vertex], numbers),
+            Stage::Marks => numbers.put_all(&[0, vertex, levels]),
+            Stage::Signs => numbers.put_all(&[1, vertex, levels]),
+            Stage::Tries => numbers.put_all(&[2, vertex, levels]),
+            Stage::Closes => numbers.put_all(&[3, vertex, levels]),
+            Stage::Looks => numbers.put_all(&[4, vertex, levels]),
+            Stage::Leaves => numbers.put_all(&[5, vertex]),
             Stage::Sees(seen) => self.put_collect(6, seen, numbers),
             Stage::Takes(taken) => self.put_collect(7, taken, numbers),
             Stage::Collected => {
-                put(&[8], numbers)?;
-                put(&self.numbers, numbers)
+                numbers.put(8)?;
+                numbers.put_all(&self.numbers)
             }
-            Stage::Overfull => put(&[9], numbers),
-            Stage::Over => put(&[10], numbers),
+            Stage::Overfull => numbers.put(9),
+            Stage::Over => numbers.put(10),
         }
     }
 }
