@@ -8,8 +8,8 @@ ghost use Rattle.machine.specs.Sparse.{filled, mask_of, sparse};
 
 use told::Told;
 
-/// Puts at most 32 values of which most are 0 behind the numbers, where there is room: a number whose bit i tells whether value i
-/// is not 0, and then the values that are not 0.
+/// Puts at most 32 values of which most are 0 behind the numbers: a number whose bit i tells whether value i is not 0, and then the values
+/// that are not 0. None where they have no room; some of them may be put then.
 pub fn put_sparse(values: &[u32], numbers: &mut Told) -> Option<()>
     requires { length values.now ≤ 32 }
     ensures behind { IfSome result

@@ -1,7 +1,7 @@
 -- Numbers told by bytes, read one at a time.
 use Rattle.std.proofs.Common.{◌≡◌, ℕ, zero, suc, ◌+◌, ◌*◌, ◌%◌, ◌/◌, ◌<◌, ◌≤◌, Bool, true, false, List, [], ◌∷◌, ◌++◌, length, take, get_or, ap, refl, sym, subst, ◌∙◌, arith}
 use Rattle.std.specs.List.{flat_map}
-use Rattle.std.proofs.lemmas.List.{length-append, length-take-le}
+use Rattle.std.proofs.lemmas.List.{length-append, length-take-le, take-append-le, take-take}
 use Rattle.std.proofs.lemmas.Grind.{flat_map-append}
 use Rattle.std.specs.Prelude.{if◌then◌else◌, nat_lt}
 use Rattle.std.proofs.lemmas.Bool.Decides.{nat_tests}
@@ -111,6 +111,15 @@ put_behind old put new rest size h is =
     ap (λ bytes. take (size + length put) (front ++ (bytes ++ rest))) is
     ∙ (ap (λ n. take (n + length put) (front ++ (put ++ rest))) (sym (length-take-le size old h))
     ∙ (take-append-add front (put ++ rest) (length put) ∙ ap (λ bytes. front ++ bytes) (take-append_seam put rest)))
+
+-- the same where more were put than are meant
+pub few_behind : (old other new rest : List ℕ) (size few most : ℕ) → size ≤ length old → new ≡ take most other → few ≤ most → most ≤ length other → take (size + few) (take size old ++ (new ++ rest)) ≡ take size old ++ take few other
+few_behind old other new rest size few most h is less long =
+    let front = take size old in
+    ap (λ bytes. take (size + few) (front ++ (bytes ++ rest))) is
+    ∙ (ap (λ n. take (n + few) (front ++ (take most other ++ rest))) (sym (length-take-le size old h))
+    ∙ (take-append-add front (take most other ++ rest) few
+    ∙ ap (λ bytes. front ++ bytes) (take-append-le few (take most other) rest (omega (arith, less, length-take-le most other long)) ∙ take-take few most other less)))
 
 -- one number more has no more bytes than all have
 one_more_fits : (numbers : List ℕ) (i default : ℕ) → i < length numbers → size_of (take i numbers) + size_of (get_or numbers i default ∷ []) ≤ size_of numbers

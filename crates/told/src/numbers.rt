@@ -4,10 +4,14 @@ ghost use Rattle.std.specs.Prelude.{◌≡◌, ◌+◌, ◌≤◌, ◌∷◌, []
 ghost use Rattle.std.specs.List.{flat_map};
 ghost use Rattle.told.specs.declared.bytes.TheConstants.{PAIR};
 ghost use Rattle.told.specs.declared.limits.TheConstants.{MOST_BYTES};
+ghost use Rattle.told.specs.declared.numbers.TheConstants.{FEW};
 ghost use Rattle.told.specs.Bytes.{bytes_of, numbers_of, size_of};
 
 use crate::bytes::{FOUR, PAIR, pair};
 use crate::limits::MOST_BYTES;
+
+/// How many bytes are copied at once where there are no more.
+const FEW: usize = 16;
 
 /// Numbers told one behind another, in at most 128 bytes: a number takes one below 254, three below 65536, and else five.
 #[derive(Clone, Copy)]
@@ -60,7 +64,7 @@ impl Told {
         &self.bytes[..self.size as usize]
     }
 
-    /// Puts a number behind the others, where there is room for its bytes.
+    /// Puts a number behind the others. None where its bytes have no room, and nothing is put then.
     pub fn put(&mut self, number: u32) -> Option<()>
         ensures behind { IfSome result
             (λ _. numbers_in self.new ≡ numbers_in self.old ++ number ∷ []) }
@@ -95,7 +99,7 @@ impl Told {
         self.put_bytes(&[FOUR as u8, a, b, c, d], 1)
     }
 
-    /// Puts these numbers behind the others, where there is room for their bytes.
+    /// Puts these numbers behind the others. None where their bytes have no room; some of them may be put then.
     pub fn put_all(&mut self, numbers: &[u32]) -> Option<()>
         ensures behind { IfSome result
             (λ _. numbers_in self.new ≡ numbers_in self.old ++ numbers.now) }
@@ -107,14 +111,30 @@ impl Told {
         Some(())
     }
 
-    /// Puts the numbers of another one behind its own, where there is room for their bytes.
+    /// Puts the numbers of another one behind its own. None where their bytes have no room, and nothing is put then.
     pub fn put_told(&mut self, other: &Told) -> Option<()>
         ensures behind { IfSome result
             (λ _. numbers_in self.new ≡ numbers_in self.old ++ numbers_in other.now) }
         ensures room { size_of (numbers_in self.old ++ numbers_in other.now) ≤ MOST_BYTES
             → IsSome result }
     {
+        if other.size as usize <= FEW && self.size as usize <= MOST_BYTES - FEW {
+            self.put_few(other);
+            return Some(());
+        }
         self.put_bytes(other.bytes(), other.count)
+    }
+
+    /// The same where the other one has few bytes. So many are copied without a call: those behind its own mean nothing.
+    fn put_few(&mut self, other: &Told)
+        requires few { other.now.size ≤ FEW }
+        requires room { self.old.size + FEW ≤ MOST_BYTES }
+        ensures { numbers_in self.new ≡ numbers_in self.old ++ numbers_in other.now }
+    {
+        let start = self.size as usize;
+        self.bytes[start..start + FEW].copy_from_slice(&other.bytes[..FEW]);
+        self.size += other.size;
+        self.count += other.count;
     }
 
     /// Puts the bytes of so many numbers behind the others, where there is room for them.
