@@ -87,7 +87,7 @@ pub fn drawing_of(
 
 /// What is told of a letter that is not possible where the world stands.
 fn refused_at(world: &World, schedule: &Prefix, bad: BadLetter) -> RefusedLetter
-    requires at { IsSoundWorld program rest world.now }
+    requires at { IsSoundWorld program rest resumed world.now }
     requires there { bad.place < length schedule.now }
     ensures place { result.place ≡ bad.place }
     ensures hindrance { IsHindranceAt

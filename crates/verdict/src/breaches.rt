@@ -222,10 +222,10 @@ fn broken_line(text: &[u8], source: &Source, asks_ended: bool, outcome: &Outcome
 
 /// What is drawn of a schedule. The world stands there then.
 pub(crate) fn drawing_of(world: &mut World, schedule: &Prefix) -> Drawing
-    requires at { IsSoundWorld program rest world.old }
+    requires at { IsSoundWorld program rest resumed world.old }
     requires schedule { IsSchedule (world_programs program world.old) (budget_of world.old)
         schedule.now }
-    ensures same { IsSameWorld program rest world.old world.new }
+    ensures same { IsSameWorld program rest resumed world.old world.new }
     ensures drawn { IsPictureOf (world_programs program world.old) (register_count_of world.old)
         schedule.now result }
     ensures letters { letters_of world.new ≡ schedule.now }

@@ -11,7 +11,7 @@ loop-place-preserved g c =
     let here : c.loop-place.place < length c.args.schedule.now = omega (arith, c.loop-place-test.true, ap length c.letters-letter-items.ensures.value) in
     let went = c.row_of.ensures.same in
     record {
-      same = same_since _ _ _ _ _ kept.same went;
+      same = same_since _ _ _ _ _ _ kept.same went;
       went = letters-more _ _ _ c.args.schedule.now c.loop-place.place _ c.row_of.ensures.stepped kept.went c.letters-letter-items.ensures.value here;
       rows = rows-past _ _ _ _ (letters_of c.loop-place.world) _ _ _ _ _ kept.same.programs kept.same.registers c.row_of.ensures.stepped c.push.ensures.items kept.rows c.row_of.ensures.row;
       count = omega (arith, kept.count);

@@ -3,6 +3,7 @@ use Rattle.std.proofs.lemmas.List.{take-take}
 use Rattle.regmodel.specs.Outcomes.{outcome_of}
 use Rattle.world.specs.Sound.{letters_of}
 use Rattle.verdict.specs.Demands.{clauses_asked, meets_demands}
+use Rattle.world.proofs.Same.{same_since}
 use Rattle.verdict.proofs.Beginnings.{found-at, one-less}
 use Rattle.verdict.proofs.onsets.onset_of.Goals as goal
 
@@ -24,12 +25,7 @@ loop-onset-preserved g c =
     let same = c.back_to.ensures.same.programs ∙ kept.same.programs in
     let here = found-at (meets_demands (clauses_asked false c.args.clauses.now) c.args.allows_faults) _ _ (letters_of c.args.world.now) _ _ c.loop-onset.onset (c.loop-onset.onset - 1) _ same kept.at c.back_to.ensures.back (omega arith) told ∙ c.if-holds-2.false in
     record {
-      same = record {
-        programs = same;
-        registers = c.back_to.ensures.same.registers ∙ kept.same.registers;
-        budget = c.back_to.ensures.same.budget ∙ kept.same.budget;
-        at = c.back_to.ensures.same.at;
-      };
+      same = same_since _ _ _ _ _ _ kept.same c.back_to.ensures.same;
       at = c.back_to.ensures.back ∙ (ap (take (c.loop-onset.onset - 1)) kept.at ∙ take-take (c.loop-onset.onset - 1) c.loop-onset.onset (letters_of c.args.world.now) (omega arith));
       there = omega (arith, kept.there);
       refused = one-less (λ k. meets_demands (clauses_asked false c.args.clauses.now) c.args.allows_faults (outcome_of _ (take k (letters_of c.args.world.now))) ≡ false) c.loop-onset.onset (length (letters_of c.args.world.now)) kept.refused here;
