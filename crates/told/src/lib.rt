@@ -6,6 +6,3 @@ pub mod limits;
 mod numbers;
 
 pub use numbers::Told;
-
-#[cfg(test)]
-mod tests;
