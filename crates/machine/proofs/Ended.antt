@@ -1,20 +1,23 @@
 -- How a statement ends within its block, and a block within its `repeat` or its `if`.
-use Rattle.std.proofs.Common.{◌≡◌, ℕ, ◌+◌, ◌<◌, List, [], Vec, Global, Result, Ok, drop, get_or, length, refl, ap, sym, ◌∙◌}
-use Rattle.regmodel.specs.Act.{Flow, exec, then_do, times}
+use Rattle.std.proofs.Common.{◌≡◌, ℕ, ◌+◌, ◌<◌, List, [], ◌∷◌, Vec, Global, Result, Ok, drop, get_or, length, refl, ap, sym, ◌∙◌}
+use Rattle.regmodel.specs.Act.{exec, then_do, times}
+use Rattle.regmodel.specs.Act as flow
 use Rattle.regmodel.specs.Program as program
 use Rattle.regmodel.specs.Program.{Block, block_of, with_stmt}
-use Rattle.regmodel.specs.Reply.{Replies}
+use Rattle.regmodel.specs.Reply.{Reply, Replies}
 use Rattle.regmodel.specs.Values.{Env}
 use Rattle.regmodel.specs.declared.programs.Expr.{Expr}
 use Rattle.regmodel.specs.declared.programs.Stmt.{Stmt, If}
 use Rattle.machine.specs.Exits.{BlockAsks, StmtAsks, block_flow, exit_through, stmt_flow}
 use Rattle.machine.specs.Paths.{access_flow, of_arm, part_flow, resume}
+use Rattle.machine.specs.Runs.{StmtRunsTo}
 use Rattle.machine.specs.declared.run.Arm.{Arm}
 use Rattle.machine.specs.declared.run.BlockExit.{BlockExit}
 use Rattle.machine.specs.declared.run.Frame.{Frame}
 use Rattle.machine.specs.declared.run.Part.{Part}
 use Rattle.machine.specs.declared.run.Part.TheVariants.{Turn, Within}
 use Rattle.machine.specs.declared.run.StmtExit.{StmtExit}
+use Rattle.machine.specs.declared.run.StmtExit.TheVariants as stmt
 use Rattle.machine.proofs.Blocks.{if_block}
 use Rattle.machine.proofs.Flows.{access_flow-with_stmt, arm_part, exit_asks, known_exit, resume-at, then_exit, turn_part}
 
@@ -28,13 +31,18 @@ resume-ended n depth body x frames fs d old new replies s rest result ended shor
     ∙ flow
     ∙ ap (λ r. stmt_flow (Ok r) n fs (with_stmt x rest) rest new s) is
 
--- an access that was answered, and the statements behind it
-pub access_ended : (part known : Part) (n : ℕ) (older : List Frame) (x : Stmt) (rest : Block) (env : Env) (replies : Replies) (answer : Flow) → part ≡ known → part_flow known n (with_stmt x rest) (resume n older) env replies ≡ access_flow n (with_stmt x rest) answer
-    → part_flow part n (with_stmt x rest) (resume n older) env replies ≡ then_do answer (exec rest n)
-access_ended part known n older x rest env replies answer is answered =
-    ap (λ p. part_flow p n (with_stmt x rest) (resume n older) env replies) is
-    ∙ answered
-    ∙ access_flow-with_stmt x n rest answer
+-- past an access whose reply was stored the statements behind it are run
+pub access_ended : (part known : Part) (n : ℕ) (older fs : List Frame) (x : Stmt) (rest : Block) (old stored new : Env) (reply : Reply) → part ≡ known
+    → ((s : Replies) → part_flow known n (with_stmt x rest) (resume n older) old (reply ∷ s) ≡ access_flow n (with_stmt x rest) (flow.GoesOn stored s))
+    → stored ≡ new → StmtRunsTo (λ s. part_flow part n (with_stmt x rest) (resume n older) old (reply ∷ s)) (Ok stmt.GoesOn) n fs (with_stmt x rest) rest new
+access_ended part known n older fs x rest old stored new reply is answered same = record {
+  flow = λ s.
+      ap (λ p. part_flow p n (with_stmt x rest) (resume n older) old (reply ∷ s)) is
+      ∙ answered s
+      ∙ access_flow-with_stmt x n rest (flow.GoesOn stored s)
+      ∙ ap (λ env. exec rest n env s) same;
+  asks = tt;
+}
 
 -- a turn of a `repeat` that was resumed, by how it ended, and the turns and statements behind it
 pub turn_ended : (part : Part) (left n : ℕ) (older fs : List Frame) (x : Stmt) (count : Expr) (row rest : Block) (old new : Env) (replies s : Replies) (result ended : BlockExit) → part ≡ Turn left → with_stmt x rest ≡ program.Repeat count row rest

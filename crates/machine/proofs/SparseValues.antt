@@ -7,7 +7,7 @@ use Rattle.std.proofs.lemmas.Grind.{pow_more}
 use Rattle.std.proofs.lemmas.Nat.{le_or_l, le_or_r}
 use Rattle.std.proofs.lemmas.List.{append-nil, length-map, length-take-le, take-append-drop}
 use Rattle.machine.specs.Bits.{bit, unpacked}
-use Rattle.machine.specs.Sparse.{filled, is_filled, mask_of, past_placed, past_sparse, placed, sparse, spread}
+use Rattle.machine.specs.Sparse.{AreZero, filled, is_filled, mask_of, past_placed, past_sparse, placed, sparse, spread}
 use Rattle.machine.proofs.Packed.{unpacked-packed}
 
 bits_back : (values : List ℕ) → unpacked (length values) (mask_of values) ≡ map is_filled values
@@ -118,19 +118,19 @@ four_zeros values i none = each
     each (suc (suc (suc (suc k)))) h = absurd (omega (arith, h))
 
 -- what changes by no 0 changes by no four of them
-past_zeros : {X : Type 0} (f : List ℕ → X) (values : List ℕ) (i : ℕ) → ((k : ℕ) → k < length values → get_or values k 0 ≡ 0 → f (take (k + 1) values) ≡ f (take k values)) → i + 4 ≤ length values → ((k : ℕ) → k < 4 → get_or values (i + k) 0 ≡ 0) → f (take (i + 4) values) ≡ f (take i values)
-past_zeros f values i one long none =
-    let at : (j k : ℕ) → j ≡ i + k → k < 4 → get_or values j 0 ≡ 0 = λ j k e h. subst (λ n. get_or values n 0 ≡ 0) (sym e) (none k h) in
+past_zeros : {X : Type 0} (f : List ℕ → X) (values : List ℕ) (i : ℕ) → ((k : ℕ) → k < length values → get_or values k 0 ≡ 0 → f (take (k + 1) values) ≡ f (take k values)) → AreZero values i → f (take (i + 4) values) ≡ f (take i values)
+past_zeros f values i one four =
+    let at : (j k : ℕ) → j ≡ i + k → k < 4 → get_or values j 0 ≡ 0 = λ j k e h. subst (λ n. get_or values n 0 ≡ 0) (sym e) (four.zero k h) in
     ap (λ n. f (take n values)) (four_on i)
-    ∙ (one (i + 1 + 1 + 1) (omega (arith, long)) (at (i + 1 + 1 + 1) 3 (omega arith) (omega arith))
-    ∙ (one (i + 1 + 1) (omega (arith, long)) (at (i + 1 + 1) 2 (omega arith) (omega arith))
-    ∙ (one (i + 1) (omega (arith, long)) (at (i + 1) 1 (omega arith) (omega arith))
-    ∙ one i (omega (arith, long)) (at i 0 (omega arith) (omega arith)))))
+    ∙ (one (i + 1 + 1 + 1) (omega (arith, four.long)) (at (i + 1 + 1 + 1) 3 (omega arith) (omega arith))
+    ∙ (one (i + 1 + 1) (omega (arith, four.long)) (at (i + 1 + 1) 2 (omega arith) (omega arith))
+    ∙ (one (i + 1) (omega (arith, four.long)) (at (i + 1) 1 (omega arith) (omega arith))
+    ∙ one i (omega (arith, four.long)) (at i 0 (omega arith) (omega arith)))))
 
-pub filled-past-zeros : (values : List ℕ) (i : ℕ) → i + 4 ≤ length values → ((k : ℕ) → k < 4 → get_or values (i + k) 0 ≡ 0) → filled (take (i + 4) values) ≡ filled (take i values)
+pub filled-past-zeros : (values : List ℕ) (i : ℕ) → AreZero values i → filled (take (i + 4) values) ≡ filled (take i values)
 filled-past-zeros values i = past_zeros filled values i (filled-past-zero values)
 
-pub mask-past-zeros : (values : List ℕ) (i : ℕ) → i + 4 ≤ length values → ((k : ℕ) → k < 4 → get_or values (i + k) 0 ≡ 0) → mask_of (take (i + 4) values) ≡ mask_of (take i values)
+pub mask-past-zeros : (values : List ℕ) (i : ℕ) → AreZero values i → mask_of (take (i + 4) values) ≡ mask_of (take i values)
 mask-past-zeros values i = past_zeros mask_of values i (mask-past-zero values)
 
 -- the bit four places on

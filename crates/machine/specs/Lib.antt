@@ -2,9 +2,11 @@ pub mod Bits
 pub mod Examples
 pub mod Exits
 pub mod Following
+pub mod Interps
 pub mod Keeping
 pub mod Paths
 pub mod Rest
+pub mod Runs
 pub mod Sparse
 pub mod Standings
 pub mod Stores

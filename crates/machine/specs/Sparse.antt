@@ -1,5 +1,5 @@
 -- Values of which most are 0, told by a mask and the other ones.
-use Rattle.std.specs.Prelude.{ℕ, zero, suc, Bool, true, false, List, [], ◌∷◌, drop, map}
+use Rattle.std.specs.Prelude.{◌≡◌, ◌+◌, ◌<◌, ◌≤◌, ℕ, zero, suc, Bool, true, false, List, [], ◌∷◌, drop, length, map, slice_index}
 use Rattle.machine.specs.Bits.{packed, unpacked}
 
 -- whether a value is not 0
@@ -20,6 +20,11 @@ filled (suc n ∷ more) = suc n ∷ filled more
 -- the mask of the values, and behind it those that are not 0
 abbrev pub sparse : List ℕ → List ℕ
 sparse values = mask_of values ∷ filled values
+
+-- the four values from a place on are there, and they are 0
+pub record AreZero (values : List ℕ) (i : ℕ) : Type 0 where
+  pub long : i + 4 ≤ length values
+  pub zero : (k : ℕ) → k < 4 → slice_index values (i + k) ≡ 0
 
 -- ---- how they are read
 

@@ -5,7 +5,7 @@ ghost use Rattle.regmodel.specs.OfProg.{program_of};
 ghost use Rattle.regmodel.specs.Lawful.{IsAtStart, IsReplyTo};
 ghost use Rattle.regmodel.specs.Kept.{values_in};
 ghost use Rattle.regmodel.specs.Reply.{Replies};
-ghost use Rattle.machine.specs.Keeping.{IsKept, IsStart, LeadsTo, kept_at, state_at};
+ghost use Rattle.machine.specs.Keeping.{IsKept, IsStart, kept_at, state_at};
 ghost use Rattle.machine.specs.Rest.{Asks, pending_in, rest_in};
 
 use crate::states::{Kept, State};
@@ -35,6 +35,8 @@ pub struct Interp {
 }
 
 impl Interp {
+    ghost use Rattle.machine.specs.Interps.{WentPast, state_of};
+
     /// An interpreter of this program, at its start. An error comes where memory for the kept states is refused, and the program
     /// is dropped then. No later call takes memory.
     pub fn make(alloc: Global, prog: Prog) -> Result<Interp, OutOfMemory>
@@ -61,8 +63,7 @@ impl Interp {
     fn go_to_start(&mut self)
         ensures same { self.new.prog ≡ self.old.prog }
         ensures known { self.new.at < self.new.known }
-        ensures starts { IsStart (program_of self.new.prog)
-            (state_at self.new.kept.items self.new.at) }
+        ensures starts { IsStart (program_of self.new.prog) (state_of self.new) }
     {
         self.at = 0;
         if self.known == 0 {
@@ -87,8 +88,8 @@ impl Interp {
         ensures same { self.new.prog ≡ self.old.prog }
         ensures count { result ≤ length replies.now }
         ensures leads { (s : Replies)
-            → rest_in (program_of self.new.prog) (state_at self.new.kept.items self.new.at) s
-            ≡ rest_in (program_of self.old.prog) (state_at self.old.kept.items self.old.at)
+            → rest_in (program_of self.new.prog) (state_of self.new) s
+            ≡ rest_in (program_of self.old.prog) (state_of self.old)
             (map values_in (take result replies.now) ++ s) }
     {
         let mut count = 0;
@@ -106,12 +107,8 @@ impl Interp {
     fn run_on(&mut self, reply: &[u32])
         requires known { self.old.at < self.old.known }
         requires room { self.old.at + 1 < length self.old.kept.items }
-        requires wanted { IsReplyTo (pending_in (state_at self.old.kept.items self.old.at))
-            reply.now }
-        ensures same { self.new.prog ≡ self.old.prog }
-        ensures goes_on { LeadsTo (program_of self.old.prog)
-            (state_at self.old.kept.items self.old.at) reply.now
-            (state_at self.new.kept.items self.new.at) }
+        requires wanted { IsReplyTo (pending_in (state_of self.old)) reply.now }
+        ensures { WentPast reply.now self.old self.new }
     {
         let state = self.kept[self.at].state;
         let next = &mut self.kept[self.at + 1];
@@ -124,12 +121,8 @@ impl Interp {
 
     /// Runs past the reply at the present place, which is known no longer.
     fn run_in_place(&mut self, reply: &[u32])
-        requires wanted { IsReplyTo (pending_in (state_at self.old.kept.items self.old.at))
-            reply.now }
-        ensures same { self.new.prog ≡ self.old.prog }
-        ensures goes_on { LeadsTo (program_of self.old.prog)
-            (state_at self.old.kept.items self.old.at) reply.now
-            (state_at self.new.kept.items self.new.at) }
+        requires wanted { IsReplyTo (pending_in (state_of self.old)) reply.now }
+        ensures { WentPast reply.now self.old self.new }
     {
         self.known = self.known.min(self.at);
         self.kept[self.at].state.go_on(&self.prog, reply);
@@ -138,13 +131,13 @@ impl Interp {
 
 impl Machine for Interp {
     ghost use Rattle.regmodel.specs.OfProg.{program_of};
-    ghost use Rattle.machine.specs.Keeping.{state_at};
+    ghost use Rattle.machine.specs.Interps.{state_of};
     ghost use Rattle.machine.specs.Rest.{rest_in};
     ghost use Rattle.machine.specs.Standings.{resumed_by};
 
     ghost program = { λ m. program_of m.prog };
 
-    ghost rest = { λ m. rest_in (program_of m.prog) (state_at m.kept.items m.at) };
+    ghost rest = { λ m. rest_in (program_of m.prog) (state_of m) };
 
     ghost resumed = { λ m. resumed_by (program_of m.prog) };
 

@@ -19,15 +19,15 @@ mod interp;
 mod resume;
 mod rows;
 mod run;
+mod sparse;
 mod standings;
 mod states;
-mod told_numbers;
 mod values;
 
 pub use interp::Interp;
 use regmodel::{Pending, Reply};
+pub use sparse::put_sparse;
 pub use told::Told;
-pub use told_numbers::put_sparse;
 
 /// A program in progress, known by its program and by its rest: what is pending after each list of further replies.
 /// No call takes memory.

@@ -1,13 +1,11 @@
 //! Goes on past a reply from the place where a program stopped.
 
-ghost use Rattle.std.specs.Prelude.{◌≡◌, ℕ, ◌+◌, ◌<◌, ◌≤◌, [], ◌∷◌, IsTrue, length, drop};
-ghost use Rattle.regmodel.specs.Reply.{Replies};
+ghost use Rattle.std.specs.Prelude.{◌+◌, [], ◌∷◌, drop};
 ghost use Rattle.regmodel.specs.Program.{Block, Stop, with_stmt, block_of};
-ghost use Rattle.regmodel.specs.Limits.{open_blocks, operands_fit};
-ghost use Rattle.regmodel.specs.declared.limits.TheConstants.{MOST_REGISTERS};
 ghost use Rattle.machine.specs.Stores.{env_of};
 ghost use Rattle.machine.specs.Paths.{resume, part_flow};
-ghost use Rattle.machine.specs.Exits.{stmt_flow, StmtAsks, block_flow, BlockAsks, IsWanting};
+ghost use Rattle.machine.specs.Exits.{IsWanting};
+ghost use Rattle.machine.specs.Runs.{CanRun, StmtRunsTo, BlockRunsTo};
 
 use crate::run::{BlockExit, Frame, Part, StmtExit, block_of_arm, run_block, run_turns, stmt_exit};
 use crate::value_of;
@@ -26,20 +24,16 @@ fn resume_stmt(
     store: &mut Store,
     frames: &mut [Frame],
 ) -> Result<StmtExit, u8>
-    requires small { registers ≤ MOST_REGISTERS }
-    requires room { depth + open_blocks (with_stmt stmt.now Stop) < length frames.old }
-    requires fits { IsTrue (operands_fit registers (with_stmt stmt.now Stop)) }
+    requires runs { CanRun registers depth (with_stmt stmt.now Stop) frames.old }
     requires wanting { (rest : Block)
         × IsWanting
         (part_flow part registers (with_stmt stmt.now rest)
         (resume registers (drop (depth + 1) frames.old)) (env_of store.old) []) }
-    ensures flow { (rest : Block) (s : Replies)
-        → part_flow part registers (with_stmt stmt.now rest)
-        (resume registers (drop (depth + 1) frames.old)) (env_of store.old) (reply.now ∷ s)
-        ≡ stmt_flow result registers (drop (depth + 1) frames.new) (with_stmt stmt.now rest)
-        rest (env_of store.new) s }
-    ensures asks { (rest : Block)
-        → StmtAsks result registers (drop (depth + 1) frames.new) (with_stmt stmt.now rest)
+    ensures { (rest : Block)
+        → StmtRunsTo
+        (λ s. part_flow part registers (with_stmt stmt.now rest)
+        (resume registers (drop (depth + 1) frames.old)) (env_of store.old) (reply.now ∷ s))
+        result registers (drop (depth + 1) frames.new) (with_stmt stmt.now rest) rest
         (env_of store.new) }
 {
     match part {
@@ -77,7 +71,6 @@ fn resume_stmt(
 /// Goes on past the reply with a block, from the place to which the frames from the depth on lead. Where it stops again,
 /// they lead there.
 #[cycle(resume)]
-#[tactic(auto, using(crate::proofs::Blocks::open_blocks_at, crate::proofs::Fitting::operands_fit_at))]
 pub fn resume_block(
     block: &[Stmt],
     reply: &[u32],
@@ -86,17 +79,12 @@ pub fn resume_block(
     store: &mut Store,
     frames: &mut [Frame],
 ) -> Result<BlockExit, u8>
-    requires small { registers ≤ MOST_REGISTERS }
-    requires room { depth + open_blocks (block_of block.now) < length frames.old }
-    requires fits { IsTrue (operands_fit registers (block_of block.now)) }
+    requires runs { CanRun registers depth (block_of block.now) frames.old }
     requires wanting { IsWanting
         (resume registers (drop depth frames.old) (block_of block.now) (env_of store.old) []) }
-    ensures flow { (s : Replies)
-        → resume registers (drop depth frames.old) (block_of block.now) (env_of store.old)
-        (reply.now ∷ s)
-        ≡ block_flow result registers (drop depth frames.new) (block_of block.now)
-        (env_of store.new) s }
-    ensures asks { BlockAsks result registers (drop depth frames.new) (block_of block.now)
+    ensures { BlockRunsTo
+        (λ s. resume registers (drop depth frames.old) (block_of block.now) (env_of store.old)
+        (reply.now ∷ s)) result registers (drop depth frames.new) (block_of block.now)
         (env_of store.new) }
 {
     let Frame { at, part } = frames[depth];

@@ -1,17 +1,17 @@
 //! Runs statements up to the next access or the end, and keeps the place where they stop.
 
-ghost use Rattle.std.specs.Prelude.{◌≡◌, ℕ, ◌+◌, ◌<◌, ◌≤◌, IsTrue, List, Ok, length, drop};
+ghost use Rattle.std.specs.Prelude.{◌≡◌, ℕ, ◌+◌, ◌≤◌, IsTrue, List, Ok, drop};
 ghost use Rattle.regmodel.specs.declared.programs.Expr.{Expr};
 ghost use Rattle.regmodel.specs.Program.{Block, Stop, Assign, Read, Write, Scan, Repeat, Emit, with_stmt, block_of};
 ghost use Rattle.regmodel.specs.Act.{exec};
-ghost use Rattle.regmodel.specs.Reply.{Replies};
 ghost use Rattle.regmodel.specs.Values.{Env, operand_value, and_then, below_or_fault};
-ghost use Rattle.regmodel.specs.Limits.{open_blocks, operands_fit, scan_fits};
+ghost use Rattle.regmodel.specs.Limits.{scan_fits};
 ghost use Rattle.regmodel.specs.declared.limits.TheConstants.{MOST_REGISTERS};
 ghost use Rattle.machine.specs.declared.run.Frame.{Frame};
 ghost use Rattle.machine.specs.Stores.{env_of};
 ghost use Rattle.machine.specs.Paths.{of_arm, arm_at};
-ghost use Rattle.machine.specs.Exits.{stmt_flow, StmtAsks, block_flow, BlockAsks, exit_through, times_then};
+ghost use Rattle.machine.specs.Exits.{exit_through, times_then};
+ghost use Rattle.machine.specs.Runs.{CanRun, StmtRuns, StmtRunsTo, BlockRunsTo};
 
 use crate::values::{Place, Store};
 use regmodel::faults::{NO_PLACE, TOO_MANY_NUMBERS, TOO_MANY_TURNS};
@@ -65,11 +65,9 @@ pub enum BlockExit {
 
 /// Evaluates the expression, then stores its value.
 fn assign(target: Target, value: Expr, store: &mut Store) -> Result<StmtExit, u8>
-    ensures flow { (n : ℕ) (fs : List Frame) (rest : Block) (s : Replies)
-        → exec (Assign target value rest) n (env_of store.old) s
-        ≡ stmt_flow result n fs (Assign target value rest) rest (env_of store.new) s }
-    ensures asks { (n : ℕ) (fs : List Frame) (rest : Block)
-        → StmtAsks result n fs (Assign target value rest) (env_of store.new) }
+    ensures { (n : ℕ) (fs : List Frame) (rest : Block)
+        → StmtRuns result n fs (Assign target value rest) rest (env_of store.old)
+        (env_of store.new) }
 {
     let number = store.expr(value)?;
     let place = store.place(target)?;
@@ -94,11 +92,9 @@ fn register(operand: Operand, registers: u32, store: &Store) -> Result<u8, u8>
 /// A read up to its access: first the register, then the place where the reply is to be stored.
 fn read(to: Target, from: Operand, registers: u32, store: &Store) -> Result<StmtExit, u8>
     requires { registers ≤ MOST_REGISTERS }
-    ensures flow { (fs : List Frame) (rest : Block) (s : Replies)
-        → exec (Read to from rest) registers (env_of store.now) s
-        ≡ stmt_flow result registers fs (Read to from rest) rest (env_of store.now) s }
-    ensures asks { (fs : List Frame) (rest : Block)
-        → StmtAsks result registers fs (Read to from rest) (env_of store.now) }
+    ensures { (fs : List Frame) (rest : Block)
+        → StmtRuns result registers fs (Read to from rest) rest (env_of store.now)
+        (env_of store.now) }
 {
     let register = register(from, registers, store)?;
     let place = store.place(to)?;
@@ -108,11 +104,9 @@ fn read(to: Target, from: Operand, registers: u32, store: &Store) -> Result<Stmt
 /// A write up to its access: first the register, then the value.
 fn write(to: Operand, value: Expr, registers: u32, store: &Store) -> Result<StmtExit, u8>
     requires { registers ≤ MOST_REGISTERS }
-    ensures flow { (fs : List Frame) (rest : Block) (s : Replies)
-        → exec (Write to value rest) registers (env_of store.now) s
-        ≡ stmt_flow result registers fs (Write to value rest) rest (env_of store.now) s }
-    ensures asks { (fs : List Frame) (rest : Block)
-        → StmtAsks result registers fs (Write to value rest) (env_of store.now) }
+    ensures { (fs : List Frame) (rest : Block)
+        → StmtRuns result registers fs (Write to value rest) rest (env_of store.now)
+        (env_of store.now) }
 {
     let register = register(to, registers, store)?;
     let number = store.expr(value)?;
@@ -126,11 +120,8 @@ fn write(to: Operand, value: Expr, registers: u32, store: &Store) -> Result<Stmt
 fn scan(cell: u32, first: u32, count: u32, registers: u32) -> StmtExit
     requires small { registers ≤ MOST_REGISTERS }
     requires fits { IsTrue (scan_fits registers cell first count) }
-    ensures flow { (fs : List Frame) (rest : Block) (env : Env) (s : Replies)
-        → exec (Scan cell first count rest) registers env s
-        ≡ stmt_flow (Ok result) registers fs (Scan cell first count rest) rest env s }
-    ensures asks { (fs : List Frame) (rest : Block) (env : Env)
-        → StmtAsks (Ok result) registers fs (Scan cell first count rest) env }
+    ensures { (fs : List Frame) (rest : Block) (env : Env)
+        → StmtRuns (Ok result) registers fs (Scan cell first count rest) rest env env }
 {
     let (cell, first, count) = (cell as u8, first as u8, count as u8);
     StmtExit::Wants(
@@ -141,11 +132,8 @@ fn scan(cell: u32, first: u32, count: u32, registers: u32) -> StmtExit
 
 /// Appends a number to those of the process; a fault where there are as many as may be.
 fn emit(value: Expr, store: &mut Store) -> Result<StmtExit, u8>
-    ensures flow { (n : ℕ) (fs : List Frame) (rest : Block) (s : Replies)
-        → exec (Emit value rest) n (env_of store.old) s
-        ≡ stmt_flow result n fs (Emit value rest) rest (env_of store.new) s }
-    ensures asks { (n : ℕ) (fs : List Frame) (rest : Block)
-        → StmtAsks result n fs (Emit value rest) (env_of store.new) }
+    ensures { (n : ℕ) (fs : List Frame) (rest : Block)
+        → StmtRuns result n fs (Emit value rest) rest (env_of store.old) (env_of store.new) }
 {
     let number = store.expr(value)?;
     if store.emitted.is_full() {
@@ -186,7 +174,6 @@ pub fn stmt_exit(exit: Result<BlockExit, u8>, part: Part) -> Result<StmtExit, u8
 /// Runs one statement; a fault at a count above the most turns. Where it stops, it tells its part, and the path further down lies in
 /// the frames above the depth.
 #[cycle(run)]
-#[tactic(auto, using(crate::proofs::Blocks::open_blocks_if, crate::proofs::Blocks::open_blocks_repeat, crate::proofs::Fitting::operands_fit_repeat))]
 fn run_stmt(
     stmt: &Stmt,
     registers: u32,
@@ -194,16 +181,10 @@ fn run_stmt(
     store: &mut Store,
     frames: &mut [Frame],
 ) -> Result<StmtExit, u8>
-    requires small { registers ≤ MOST_REGISTERS }
-    requires room { depth + open_blocks (with_stmt stmt.now Stop) < length frames.old }
-    requires fits { IsTrue (operands_fit registers (with_stmt stmt.now Stop)) }
-    ensures flow { (rest : Block) (s : Replies)
-        → exec (with_stmt stmt.now rest) registers (env_of store.old) s
-        ≡ stmt_flow result registers (drop (depth + 1) frames.new) (with_stmt stmt.now rest)
-        rest (env_of store.new) s }
-    ensures asks { (rest : Block)
-        → StmtAsks result registers (drop (depth + 1) frames.new) (with_stmt stmt.now rest)
-        (env_of store.new) }
+    requires { CanRun registers depth (with_stmt stmt.now Stop) frames.old }
+    ensures { (rest : Block)
+        → StmtRuns result registers (drop (depth + 1) frames.new) (with_stmt stmt.now rest) rest
+        (env_of store.old) (env_of store.new) }
 {
     match stmt {
         Stmt::Assign(target, value) => assign(*target, *value, store),
@@ -238,16 +219,11 @@ pub fn run_turns(
     store: &mut Store,
     frames: &mut [Frame],
 ) -> Result<StmtExit, u8>
-    requires small { registers ≤ MOST_REGISTERS }
-    requires room { depth + 1 + open_blocks (block_of body.now) < length frames.old }
-    requires fits { IsTrue (operands_fit registers (block_of body.now)) }
-    ensures flow { (e : Expr) (rest : Block) (s : Replies)
-        → times_then turns registers (block_of body.now) rest (env_of store.old) s
-        ≡ stmt_flow result registers (drop (depth + 1) frames.new)
-        (Repeat e (block_of body.now) rest) rest (env_of store.new) s }
-    ensures asks { (e : Expr) (rest : Block)
-        → StmtAsks result registers (drop (depth + 1) frames.new)
-        (Repeat e (block_of body.now) rest) (env_of store.new) }
+    requires { CanRun registers (depth + 1) (block_of body.now) frames.old }
+    ensures { (e : Expr) (rest : Block)
+        → StmtRunsTo (times_then turns registers (block_of body.now) rest (env_of store.old)) result
+        registers (drop (depth + 1) frames.new) (Repeat e (block_of body.now) rest) rest
+        (env_of store.new) }
 {
     let mut left = turns;
     while left > 0 {
@@ -264,7 +240,6 @@ pub fn run_turns(
 /// Runs a block from the statement with this number on. Where it stops, the path to that place lies in the frames from
 /// the depth on.
 #[cycle(run)]
-#[tactic(auto, using(crate::proofs::Blocks::open_blocks_at, crate::proofs::Fitting::operands_fit_at))]
 pub fn run_block(
     block: &[Stmt],
     start: usize,
@@ -273,15 +248,9 @@ pub fn run_block(
     store: &mut Store,
     frames: &mut [Frame],
 ) -> Result<BlockExit, u8>
-    requires small { registers ≤ MOST_REGISTERS }
-    requires room { depth + open_blocks (block_of block.now) < length frames.old }
-    requires fits { IsTrue (operands_fit registers (block_of block.now)) }
-    ensures flow { (s : Replies)
-        → exec (block_of (drop start block.now)) registers (env_of store.old) s
-        ≡ block_flow result registers (drop depth frames.new) (block_of block.now)
-        (env_of store.new) s }
-    ensures asks { BlockAsks result registers (drop depth frames.new) (block_of block.now)
-        (env_of store.new) }
+    requires { CanRun registers depth (block_of block.now) frames.old }
+    ensures { BlockRunsTo (exec (block_of (drop start block.now)) registers (env_of store.old))
+        result registers (drop depth frames.new) (block_of block.now) (env_of store.new) }
 {
     for at in start..block.len() {
         match run_stmt(&block[at], registers, depth, store, frames)? {

@@ -1,6 +1,6 @@
 use Rattle.std.proofs.Common.{◌≡◌, ◌-◌, ◌^◌, ◌≤◌, length, take}
 use Rattle.machine.specs.Sparse.{mask_of}
-use Rattle.machine.proofs.told_numbers.mask.Given as goal
+use Rattle.machine.proofs.sparse.mask.Given as goal
 
 abbrev pub invariant-loop-i : goal.invariant-loop-i
 invariant-loop-i l = record {

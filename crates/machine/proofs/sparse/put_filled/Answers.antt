@@ -5,19 +5,15 @@ use Rattle.told.proofs.NumberBytes.{size_behind}
 use Rattle.told.specs.Numbers.{numbers_in}
 use Rattle.machine.specs.Sparse.{filled}
 use Rattle.machine.proofs.SparseValues.{filled-parts, filled-past-other, filled-past-zero, filled-past-zeros}
-use Rattle.machine.proofs.told_numbers.put_filled.Goals as goal
-use Rattle.machine.proofs.told_numbers.put_filled.Goals.{then-values-i-ne0+in_ok-put, else-values-i-ne0}
+use Rattle.machine.proofs.sparse.put_filled.Goals as goal
+use Rattle.machine.proofs.sparse.put_filled.Goals.{then-values-i-ne0+in_ok-put, else-values-i-ne0}
 
 pub loop-i-preserved-then-are_zero : goal.loop-i-preserved-then-are_zero
 loop-i-preserved-then-are_zero c =
-    let values = c.args.values.now in
-    let i = c.loop-i.i in
-    let told = c.loop-i.invariant in
-    let long = c.are_zero.ensures.long c.if-are_zero.true in
-    let zero = c.are_zero.ensures.zero c.if-are_zero.true in
+    let four = c.are_zero.ensures c.if-are_zero.true in
     record {
-      short = long;
-      behind = told.behind ∙ ap (λ ns. numbers_in c.args.numbers.now ++ ns) (sym (filled-past-zeros values i long zero));
+      short = four.long;
+      behind = c.loop-i.invariant.behind ∙ ap (λ ns. numbers_in c.args.numbers.now ++ ns) (sym (filled-past-zeros c.args.values.now c.loop-i.i four));
     }
 
 pub loop-i-preserved : goal.loop-i-preserved

@@ -1,7 +1,7 @@
 use Rattle.std.proofs.Common.{◌≡◌, ◌-◌, ◌≤◌, ◌++◌, length, take}
 use Rattle.told.specs.Numbers.{numbers_in}
 use Rattle.machine.specs.Sparse.{filled}
-use Rattle.machine.proofs.told_numbers.put_filled.Given as goal
+use Rattle.machine.proofs.sparse.put_filled.Given as goal
 
 abbrev pub invariant-loop-i : goal.invariant-loop-i
 invariant-loop-i l = record {

@@ -3,20 +3,18 @@ use Rattle.std.proofs.lemmas.Grind.{pow_more}
 use Rattle.std.proofs.lemmas.List.{length-take-le, take_all}
 use Rattle.machine.specs.Sparse.{mask_of}
 use Rattle.machine.proofs.SparseValues.{mask-past-other, mask-past-zero, mask-past-zeros, mask_small, pow_four}
-use Rattle.machine.proofs.told_numbers.mask.Goals as goal
-use Rattle.machine.proofs.told_numbers.mask.Goals.{then-values-i-ne0, else-values-i-ne0}
+use Rattle.machine.proofs.sparse.mask.Goals as goal
+use Rattle.machine.proofs.sparse.mask.Goals.{then-values-i-ne0, else-values-i-ne0}
 
 pub loop-i-preserved-then-are_zero : goal.loop-i-preserved-then-are_zero
 loop-i-preserved-then-are_zero c =
-    let values = c.args.values.now in
     let i = c.loop-i.i in
     let told = c.loop-i.invariant in
-    let long = c.are_zero.ensures.long c.if-are_zero.true in
-    let zero = c.are_zero.ensures.zero c.if-are_zero.true in
+    let four = c.are_zero.ensures c.if-are_zero.true in
     record {
-      short = long;
+      short = four.long;
       bit = ap (λ n. n * 16) told.bit ∙ sym (pow_four i);
-      mask = told.mask ∙ sym (mask-past-zeros values i long zero);
+      mask = told.mask ∙ sym (mask-past-zeros c.args.values.now i four);
     }
 
 pub overflow_add-mask : goal.overflow_add-mask

@@ -1,10 +1,10 @@
 //! Values of which most are 0, told by a mask and the other ones.
 
-ghost use Rattle.std.specs.Prelude.{◌≡◌, ◌+◌, ◌<◌, ◌≤◌, ◌++◌, IfSome, IsSome, IsTrue, length, slice_index, ℕ};
+ghost use Rattle.std.specs.Prelude.{◌≡◌, ◌<◌, ◌≤◌, ◌++◌, IfSome, IsSome, IsTrue, length};
 ghost use Rattle.told.specs.Bytes.{size_of};
 ghost use Rattle.told.specs.Numbers.{numbers_in};
 ghost use Rattle.told.specs.declared.limits.TheConstants.{MOST_BYTES};
-ghost use Rattle.machine.specs.Sparse.{filled, mask_of, sparse};
+ghost use Rattle.machine.specs.Sparse.{AreZero, filled, mask_of, sparse};
 
 use told::Told;
 
@@ -68,8 +68,7 @@ fn put_filled(values: &[u32], numbers: &mut Told) -> Option<()>
 /// Whether there are four values from this place on, and they are 0.
 fn are_zero(values: &[u32], i: usize) -> bool
     requires { i < length values.now }
-    ensures long { IsTrue result → i + 4 ≤ length values.now }
-    ensures zero { IsTrue result → (k : ℕ) → k < 4 → slice_index values.now (i + k) ≡ 0 }
+    ensures { IsTrue result → AreZero values.now i }
 {
     values.len() - i >= 4 && values[i] | values[i + 1] | values[i + 2] | values[i + 3] == 0
 }
