@@ -154,8 +154,11 @@ module _ (base id registers depth value : ℕ) where
         ∙ way-same k (vertex * 2) _ _ _ _ s more
 
   -- from the root
-  pub from_root : (s : Replies) → depth ≤ 4 → from_vertex base registers depth id value depth 1 s ≡ act_of (expansion (kind.Tree base depth id value) registers) s
-  from_root s small = sym (ap (λ test. flow_pending (then_do (cond test (Faults 3) (descends depth (on_way 1 0 0) s)) (exec (tree_after base depth value) registers))) (lt_no 99 depth (omega arith)))
+  pub from_root : (s : Replies) → 1 ≤ depth → depth ≤ 4 → from_vertex base registers depth id value (suc (depth - 1)) 1 s ≡ act_of (expansion (kind.Tree base depth id value) registers) s
+  from_root s some small =
+      let levels : suc (depth - 1) ≡ depth = omega (arith, some) in
+      ap (λ n. from_vertex base registers depth id value n 1 s) levels
+      ∙ sym (ap (λ test. flow_pending (then_do (cond test (Faults 3) (descends depth (on_way 1 0 0) s)) (exec (tree_after base depth value) registers))) (lt_no 99 depth (omega arith)))
 
   -- ---- where it stopped
 

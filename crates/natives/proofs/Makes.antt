@@ -1,4 +1,4 @@
--- A machine that is made is reset, and stands at its start then.
+-- A machine that is made stands at its start.
 use Rattle.std.proofs.Common.{◌≡◌, ℕ, true, Ok, rules, subst}
 use Rattle.regmodel.specs.Lawful.{IsAtStart}
 use Rattle.regmodel.specs.Program.{Program}
@@ -9,8 +9,8 @@ use Rattle.uses.specs.Uses.{use_fits}
 use Rattle.uses.specs.declared.kinds.Use.{Use}
 use Rattle.natives.specs.Makes.{IsMadeFor}
 
-pub reset-made : {M : Type 0} (kind : Use) (registers : ℕ) (program : M → Program) (rest : M → Replies → Pending) (m : M) → use_fits kind registers ≡ true → program m ≡ expansion kind registers → IsAtStart (program m) (rest m) → IsMadeFor kind registers program rest (Ok m)
-reset-made kind registers program rest m fits same starts = record {
+pub made-at-start : {M : Type 0} (kind : Use) (registers : ℕ) (program : M → Program) (rest : M → Replies → Pending) (m : M) → use_fits kind registers ≡ true → program m ≡ expansion kind registers → IsAtStart (program m) (rest m) → IsMadeFor kind registers program rest (Ok m)
+made-at-start kind registers program rest m fits same starts = record {
   same = same;
   starts = subst (λ p. IsAtStart p (rest m)) same starts;
   limits = rw fits (search rules);

@@ -15,8 +15,8 @@ use Rattle.natives.specs.declared.rounds.Reading.{Reading}
 use Rattle.natives.specs.declared.rounds.Round.{Round}
 use Rattle.natives.specs.declared.rounds.Slots.{Slots}
 use Rattle.natives.specs.declared.rounds.Stage.{Stage}
+use Rattle.natives.specs.declared.rounds.Stage.TheVariants.{Proposes}
 use Rattle.natives.specs.declared.rounds.TheConstants.{LATER}
-use Rattle.natives.specs.RoundEnds.{from_end}
 use Rattle.natives.specs.Rounds.{at_slot, cells_of, from_after, later_after, number_from, proposal_after, stage_after, stage_rest}
 use Rattle.natives.proofs.NextNames.{AreAlike, IsChoice, finish-next}
 use Rattle.natives.proofs.Steps.{then_stop}
@@ -29,43 +29,44 @@ pub record AreRounds (slots : Slots) (rounds : ℕ → Env → Replies → Flow)
   pub none : (env : Env) (s : Replies) → rounds 0 env s ≡ GoesOn env s
   pub alike : (n : ℕ) → AreAlike slots.count slots.registers slots.few_slots (rounds n)
 
-module _ {L : Type 0} (slots : Slots) (rounds : ℕ → Env → Replies → Flow) (are : AreRounds slots rounds) (look : L → Replies → Pending) where
-  abbrev begins : ℕ → ℕ → List ℕ → Replies → Pending
-  begins later proposal seen s = flow_pending (rounds (suc later) (at_slot proposal 0 0 0 (cells_of seen)) s)
+module _ {L : Type 0} {rounds : Slots → ℕ → Env → Replies → Flow} (are : (slots : Slots) → AreRounds slots (rounds slots)) (look : L → Replies → Pending) where
+  abbrev begins : Slots → ℕ → ℕ → List ℕ → Replies → Pending
+  begins slots later proposal seen s = flow_pending (rounds slots (suc later) (at_slot proposal 0 0 0 (cells_of seen)) s)
 
-  -- where the process stands, by what is after the round
-  abbrev stands : Stage L → ℕ → ℕ → List ℕ → Replies → Pending
-  stands stage later proposal seen = stage_rest (begins later proposal seen) look proposal stage
+  -- where the process stands
+  abbrev stands : Slots → Stage L → ℕ → ℕ → List ℕ → Replies → Pending
+  stands slots stage later proposal seen = stage_rest (begins slots later proposal seen) look proposal stage
 
-  module _ (seen : List ℕ) (eight : length seen ≡ 8) (proposal rank at : ℕ) (s : Replies) where
-    by_clash : (clash : Bool) (later : ℕ) → stands (stage_after clash later) (later_after clash later) (proposal_after clash later slots.count rank seen proposal) seen s ≡ from_after slots.count slots.registers (rounds later) (at_slot proposal (bit clash) rank at (cells_of seen)) s
+  module _ (slots : Slots) (seen : List ℕ) (eight : length seen ≡ 8) (proposal rank at : ℕ) (s : Replies) where
+    by_clash : (clash : Bool) (later : ℕ) → stands slots (stage_after clash later) (later_after clash later) (proposal_after clash later slots.count rank seen proposal) seen s ≡ from_after slots.count slots.registers (rounds slots later) (at_slot proposal (bit clash) rank at (cells_of seen)) s
     by_clash false later = refl
     by_clash true zero =
         let number = number_from (take slots.count seen) (2 * slots.count - 1) rank 0 in
-        sym (finish-next slots.count slots.registers slots.few_slots (rounds 0) (are.alike 0) seen eight proposal rank at s ∙ ap flow_pending (are.none (at_slot number 0 0 0 (cells_of seen)) s))
+        sym (finish-next slots.count slots.registers slots.few_slots (rounds slots 0) ((are slots).alike 0) seen eight proposal rank at s ∙ ap flow_pending ((are slots).none (at_slot number 0 0 0 (cells_of seen)) s))
     by_clash true (suc later) =
         let number = number_from (take slots.count seen) (2 * slots.count - 1) rank 0 in
         let left : suc later - 1 ≡ later = omega arith in
-        ap (λ n. begins n number seen s) left ∙ sym (finish-next slots.count slots.registers slots.few_slots (rounds (suc later)) (are.alike (suc later)) seen eight proposal rank at s)
+        ap (λ n. begins slots n number seen s) left ∙ sym (finish-next slots.count slots.registers slots.few_slots (rounds slots (suc later)) ((are slots).alike (suc later)) seen eight proposal rank at s)
 
-  -- by what the machine's step gave
-  pub ends : (round : Round) (reading : Reading) (stage : Stage L) (later proposal : ℕ) (seen : List ℕ) (s : Replies) → stage ≡ stage_after reading.clash round.later → later ≡ later_after reading.clash round.later → proposal ≡ proposal_after reading.clash round.later slots.count reading.rank round.seen round.proposal → seen ≡ round.seen → stage_rest (begins later proposal seen) look proposal stage s ≡ from_end slots round rounds reading s
-  ends round reading stage later proposal seen s e f g h =
-      let clash = reading.clash in
-      let named = proposal_after clash round.later slots.count reading.rank round.seen round.proposal in
-      ap (λ x. stands x later proposal seen s) e
-      ∙ ap (λ n. stands (stage_after clash round.later) n proposal seen s) f
-      ∙ ap (λ p. stands (stage_after clash round.later) (later_after clash round.later) p seen s) g
-      ∙ ap (λ l. stands (stage_after clash round.later) (later_after clash round.later) named l s) h
-      ∙ by_clash round.seen round.eight round.proposal reading.rank reading.at s clash round.later
+  -- once it has ended, by what the machine's step gave
+  pub ends : {slots : Slots} {seen : List ℕ} (later proposal : ℕ) (new : Round L) (reading : Reading) (s : Replies) → new.slots ≡ slots → new.stage ≡ stage_after reading.clash later → new.later ≡ later_after reading.clash later → new.proposal ≡ proposal_after reading.clash later slots.count reading.rank seen proposal → new.seen ≡ seen → stands new.slots new.stage new.later new.proposal new.seen s ≡ from_after slots.count slots.registers (rounds slots later) (at_slot proposal (bit reading.clash) reading.rank reading.at (cells_of seen)) s
+  ends {slots} {seen} later proposal new reading s d e f g h =
+      ap (λ x. stands x new.stage new.later new.proposal new.seen s) d
+      ∙ ap (λ x. stands slots x new.later new.proposal new.seen s) e
+      ∙ ap (λ n. stands slots (stage_after reading.clash later) n new.proposal new.seen s) f
+      ∙ ap (λ p. stands slots (stage_after reading.clash later) (later_after reading.clash later) p new.seen s) g
+      ∙ ap (λ l. stands slots (stage_after reading.clash later) (later_after reading.clash later) (proposal_after reading.clash later slots.count reading.rank seen proposal) l s) h
+      ∙ by_clash slots seen (ap length (sym h) ∙ new.eight) proposal reading.rank reading.at s reading.clash later
 
--- at the start of the first one, which begins the program
-pub starts : (rounds : ℕ → Env → Replies → Flow) (registers later proposal : ℕ) (seen : List ℕ) (s : Replies) → later ≡ LATER → proposal ≡ 1 → seen ≡ replicate 8 0 → flow_pending (rounds (suc later) (at_slot proposal 0 0 0 (cells_of seen)) s) ≡ flow_pending (then_do (rounds 99 (at_slot 1 0 0 0 (replicate 32 0)) s) (exec Stop registers))
-starts rounds registers later proposal seen s e f g =
-    ap (λ n. flow_pending (rounds (suc n) (at_slot proposal 0 0 0 (cells_of seen)) s)) e
-    ∙ ap (λ p. flow_pending (rounds 99 (at_slot p 0 0 0 (cells_of seen)) s)) f
-    ∙ ap (λ l. flow_pending (rounds 99 (at_slot 1 0 0 0 (cells_of l)) s)) g
-    ∙ sym (ap flow_pending (then_stop (rounds 99 (at_slot 1 0 0 0 (replicate 32 0)) s) registers))
+  -- at the start of the first one, which begins the program
+  pub starts : (first : Round L) (s : Replies) → first.stage ≡ Proposes → first.later ≡ LATER → first.proposal ≡ 1 → first.seen ≡ replicate 8 0 → stands first.slots first.stage first.later first.proposal first.seen s ≡ flow_pending (then_do (rounds first.slots 99 (at_slot 1 0 0 0 (replicate 32 0)) s) (exec Stop first.slots.registers))
+  starts first s d e f g =
+      let slots = first.slots in
+      ap (λ x. stands slots x first.later first.proposal first.seen s) d
+      ∙ ap (λ n. begins slots n first.proposal first.seen s) e
+      ∙ ap (λ p. begins slots LATER p first.seen s) f
+      ∙ ap (λ l. begins slots LATER 1 l s) g
+      ∙ sym (ap flow_pending (then_stop (rounds slots 99 (at_slot 1 0 0 0 (replicate 32 0)) s) slots.registers))
 
 -- what was seen is told whole
 pub told-whole : (seen : List ℕ) → length seen ≡ 8 → spread 8 (sparse seen) ≡ seen

@@ -123,6 +123,11 @@ module _ (base id registers : ℕ) where
       one_turn turns k level vertex _ e
       ∙ ap (then_turns k) (visit-stops base id registers level vertex h 0 0 0 w x last s same)
 
+  pub from-marks : (turns k level vertex : ℕ) → turns ≡ suc k → IsVertex base registers level vertex → grid_from base id registers turns level vertex [] ≡ pending.Wants (access.Write (vertex * 2 + base - 2) id)
+  from-marks turns k level vertex e h =
+      one_turn turns k level vertex _ e
+      ∙ ap (then_turns k) (visit-marks base id registers level vertex h 0 0 0)
+
   pub from-closes : (turns k level vertex : ℕ) (w : Reply) → turns ≡ suc k → IsVertex base registers level vertex → grid_from base id registers turns level vertex (w ∷ one 0 ∷ []) ≡ pending.Wants (access.Write (vertex * 2 + base - 2 + 1) 1)
   from-closes turns k level vertex w e h =
       one_turn turns k level vertex _ e

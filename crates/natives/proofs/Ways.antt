@@ -5,7 +5,9 @@ use Rattle.regmodel.specs.declared.accesses.Pending.TheVariants.{Fault}
 use Rattle.regmodel.specs.Reply.{Reply, Replies, value_of, one}
 use Rattle.natives.specs.declared.trees.Tree.{Tree}
 use Rattle.natives.specs.declared.trees.Stage.{Stage}
-use Rattle.natives.specs.declared.trees.Stage.TheVariants.{Marks, Signs, Tries, Closes, Looks, Leaves, Sees, Takes, Collected, Overfull, Over}
+use Rattle.natives.specs.declared.trees.Stage.TheVariants.{Marks, At, Leaves, Sees, Takes, Collected, Overfull, Over}
+use Rattle.natives.specs.declared.splitters.Step.TheVariants as step
+use Rattle.natives.specs.declared.splitters.Step.TheVariants.{Tries, Closes, Looks}
 use Rattle.machine.specs.Bits.{packed, unpacked}
 use Rattle.natives.specs.Trees.{IsIn, below_reached, from_vertex, from_stop, from_past, from_at, tree_numbers, tree_rest, tree_resumed}
 use Rattle.natives.proofs.Collects.{IsTree, sees-unmarked, sees-marked, takes-empty, takes-value, takes-ninth}
@@ -32,16 +34,16 @@ module _ (m : Tree) where
 
   -- ---- on the way down
 
-  pub opens : (door : Reply) (s : Replies) → m.stage ≡ Tries → value_of door ≡ 0 → rest_at Closes s ≡ rest_at m.stage (door ∷ s)
+  pub opens : (door : Reply) (s : Replies) → m.stage ≡ At Tries → value_of door ≡ 0 → rest_at (At Closes) s ≡ rest_at m.stage (door ∷ s)
   opens door s e free =
       sym (ap (λ stage. rest_at stage (door ∷ s)) e ∙ from-open m.base m.id m.registers m.depth m.value (suc m.levels) m.levels m.vertex refl here (one 0) (one 0) door s free)
 
-  pub goes_right : (v : ℕ) (door : Reply) (s : Replies) → m.stage ≡ Tries → value_of door ≡ v → v ≢ 0 → from_vertex m.base m.registers m.depth m.id m.value m.levels (m.vertex * 2 + 1) s ≡ rest_at m.stage (door ∷ s)
+  pub goes_right : (v : ℕ) (door : Reply) (s : Replies) → m.stage ≡ At Tries → value_of door ≡ v → v ≢ 0 → from_vertex m.base m.registers m.depth m.id m.value m.levels (m.vertex * 2 + 1) s ≡ rest_at m.stage (door ∷ s)
   goes_right v door s e value closed =
       let next : 1 ≤ m.vertex * 2 + 1 = omega arith in
       sym (ap (λ stage. rest_at stage (door ∷ s)) e ∙ from-right m.base m.id m.registers m.depth m.value (suc m.levels) m.levels m.vertex refl here v (one 0) (one 0) door s value closed (below (m.vertex * 2 + 1) next (omega arith)))
 
-  pub goes_down : (last : Reply) (s : Replies) → m.stage ≡ Looks → value_of last ≢ m.id → from_vertex m.base m.registers m.depth m.id m.value m.levels (m.vertex * 2) s ≡ rest_at m.stage (last ∷ s)
+  pub goes_down : (last : Reply) (s : Replies) → m.stage ≡ At Looks → value_of last ≢ m.id → from_vertex m.base m.registers m.depth m.id m.value m.levels (m.vertex * 2) s ≡ rest_at m.stage (last ∷ s)
   goes_down last s e other =
       let next : 1 ≤ m.vertex * 2 = omega (arith, m.some) in
       sym (ap (λ stage. rest_at stage (last ∷ s)) e ∙ from-down m.base m.id m.registers m.depth m.value (suc m.levels) m.levels m.vertex refl here (one 0) (one 0) (one 0) last s other (below (m.vertex * 2) next (omega arith)))
@@ -49,7 +51,7 @@ module _ (m : Tree) where
   whole : IsTree m.base m.registers (2 ^ m.depth - 1)
   whole = subst (λ n. IsTree m.base m.registers n) m.all tree
 
-  pub stops : (last : Reply) (s : Replies) → m.stage ≡ Looks → value_of last ≡ m.id → from_stop m.base m.registers m.depth m.value m.vertex s ≡ rest_at m.stage (last ∷ s)
+  pub stops : (last : Reply) (s : Replies) → m.stage ≡ At Looks → value_of last ≡ m.id → from_stop m.base m.registers m.depth m.value m.vertex s ≡ rest_at m.stage (last ∷ s)
   stops last s e same =
       sym (ap (λ stage. rest_at stage (last ∷ s)) e ∙ from-stops m.base m.id m.registers m.depth m.value m.vertex here m.small whole (suc m.levels) m.levels (one 0) (one 0) (one 0) last s refl same)
 
@@ -95,10 +97,10 @@ module _ (m : Tree) where
   -- from the numbers of a stage follows what comes of it
   pub stage-told : (stage : Stage) (s : Replies) → rest_at stage s ≡ tree_resumed m.base m.registers m.depth m.last m.id m.value (tree_numbers m.vertex m.levels m.reached m.numbers.items stage) s
   stage-told Marks s = refl
-  stage-told Signs s = refl
-  stage-told Tries s = refl
-  stage-told Closes s = refl
-  stage-told Looks s = refl
+  stage-told (At step.Marks) s = refl
+  stage-told (At Tries) s = refl
+  stage-told (At Closes) s = refl
+  stage-told (At Looks) s = refl
   stage-told Leaves s = refl
   stage-told (Sees at) s = ap (λ reached. from_at m.base m.registers m.last reached m.numbers.items at s) reached-told
   stage-told (Takes at) s = ap (λ reached. from_at m.base m.registers m.last reached m.numbers.items at (one 1 ∷ s)) reached-told

@@ -4,7 +4,8 @@ use Rattle.regmodel.specs.declared.accesses.Access.TheVariants.{Read, Write, Sca
 use Rattle.regmodel.specs.declared.accesses.Pending.TheVariants.{Wants, Done, Fault}
 use Rattle.regmodel.specs.Reply.{one}
 use Rattle.uses.specs.Expansions.{split_program}
-use Rattle.natives.specs.declared.split.Stage.TheVariants as split
+use Rattle.natives.specs.declared.split.Stage.TheVariants.{At}
+use Rattle.natives.specs.declared.splitters.Step.TheVariants.{Looks}
 use Rattle.natives.specs.Splits.{split_rest, split_resumed}
 use Rattle.machine.specs.Bits.{packed, unpacked}
 use Rattle.natives.specs.Grids.{grid_from, grid_resumed}
@@ -15,7 +16,7 @@ use Rattle.natives.specs.Trees.{from_stop, from_past, from_at, tree_resumed}
 
 -- ---- a splitter that is about to look who came last
 
-pub split_finds_itself : split_rest (split_program 0 1 2) split.Looks (one 1 ∷ []) ≡ Done (record { items = 1 ∷ [] })
+pub split_finds_itself : split_rest (split_program 0 1 2) (At Looks) (one 1 ∷ []) ≡ Done (record { items = 1 ∷ [] })
 split_finds_itself = refl
 
 -- ---- a grid of side 2 at registers 0 to 5: at its first vertex, and at the vertex below, in its last turn

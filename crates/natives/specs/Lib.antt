@@ -2,8 +2,8 @@ pub mod Examples
 pub mod Grids
 pub mod Makes
 pub mod Names
-pub mod RoundEnds
 pub mod Rounds
 pub mod ScannedNames
 pub mod Splits
+pub mod Splitters
 pub mod Trees

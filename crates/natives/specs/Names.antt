@@ -9,10 +9,8 @@ use Rattle.uses.specs.Expansions.{name_after, name_round, name_slot}
 use Rattle.machine.specs.Sparse.{spread}
 use Rattle.machine.specs.Bits.{bit}
 use Rattle.natives.specs.Rounds.{at_slot, cells_of, reading_number}
-use Rattle.natives.specs.RoundEnds.{from_end}
 use Rattle.natives.specs.declared.rounds.Reading.{Reading}
 use Rattle.natives.specs.declared.rounds.Round.{Round}
-use Rattle.natives.specs.declared.rounds.Slots.{Slots}
 use Rattle.natives.specs.declared.rounds.Stage.{Stage}
 use Rattle.natives.specs.declared.rounds.Stage.TheVariants.{Proposes, Looks, Named, Over}
 
@@ -47,15 +45,11 @@ module _ (base slots own registers : ℕ) where
       from_slot later (slots - reading.at) (at_slot proposal (bit reading.clash) reading.rank reading.at (cells_of seen)) s
 
 -- the same of a renaming in progress
-abbrev pub round_rest : Slots → Round → Replies → Pending
-round_rest slots round = from_round slots.base slots.count slots.own slots.registers (suc round.later) round.proposal (cells_of round.seen)
+abbrev pub round_rest : Round Reading → Replies → Pending
+round_rest round = from_round round.slots.base round.slots.count round.slots.own round.slots.registers (suc round.later) round.proposal (cells_of round.seen)
 
-abbrev pub reading_rest : Slots → Round → Reading → Replies → Pending
-reading_rest slots round = from_reading slots.base slots.count slots.own slots.registers round.later round.proposal round.seen
-
--- once its slots were read, from the end of the round on
-abbrev pub end_rest : Slots → Round → Reading → Replies → Pending
-end_rest slots round = from_end slots round (rounds_from slots.base slots.count slots.own slots.registers)
+abbrev pub reading_rest : Round Reading → Reading → Replies → Pending
+reading_rest round = from_reading round.slots.base round.slots.count round.slots.own round.slots.registers round.later round.proposal round.seen
 
 -- how a stage is told: a number for what it is, and what it holds
 abbrev pub name_numbers : ℕ → ℕ → Stage Reading → List ℕ

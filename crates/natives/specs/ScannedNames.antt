@@ -8,10 +8,7 @@ use Rattle.regmodel.specs.Reply.{Replies, one}
 use Rattle.uses.specs.Expansions.{names_round}
 use Rattle.machine.specs.Sparse.{spread}
 use Rattle.natives.specs.Rounds.{at_slot, cells_of}
-use Rattle.natives.specs.RoundEnds.{from_end}
-use Rattle.natives.specs.declared.rounds.Reading.{Reading}
 use Rattle.natives.specs.declared.rounds.Round.{Round}
-use Rattle.natives.specs.declared.rounds.Slots.{Slots}
 use Rattle.natives.specs.declared.rounds.Stage.{Stage}
 use Rattle.natives.specs.declared.rounds.Stage.TheVariants.{Proposes, Looks, Named, Over}
 use Rattle.natives.specs.declared.scanned_names.Scan.{Scan}
@@ -26,16 +23,12 @@ module _ (base slots own registers : ℕ) where
   from_scan_round rounds proposal cells s = flow_pending (scan_rounds rounds (at_slot proposal 0 0 0 cells) s)
 
 -- the same of a renaming in progress
-abbrev pub scan_round_rest : Slots → Round → Replies → Pending
-scan_round_rest slots round = from_scan_round slots.base slots.count slots.own slots.registers (suc round.later) round.proposal (cells_of round.seen)
+abbrev pub scan_round_rest : Round Scan → Replies → Pending
+scan_round_rest round = from_scan_round round.slots.base round.slots.count round.slots.own round.slots.registers (suc round.later) round.proposal (cells_of round.seen)
 
 -- at the scan, the value from the round on after the reply to its write
-abbrev pub scan_rest : Slots → Round → Scan → Replies → Pending
-scan_rest slots round scan s = scan_round_rest slots round (one 0 ∷ s)
-
--- once its slots were scanned, from the end of the round on
-abbrev pub scan_end_rest : Slots → Round → Reading → Replies → Pending
-scan_end_rest slots round = from_end slots round (scan_rounds slots.base slots.count slots.own slots.registers)
+abbrev pub scan_rest : Round Scan → Scan → Replies → Pending
+scan_rest round scan s = scan_round_rest round (one 0 ∷ s)
 
 -- how a stage is told: a number for what it is, and what it holds
 abbrev pub names_numbers : ℕ → ℕ → Stage Scan → List ℕ

@@ -4,16 +4,15 @@ use Rattle.regmodel.specs.declared.accesses.Pending.{Pending}
 use Rattle.regmodel.specs.declared.accesses.Pending.TheVariants.{Done}
 use Rattle.regmodel.specs.Program.{Program}
 use Rattle.regmodel.specs.Act.{act_of}
-use Rattle.regmodel.specs.Reply.{Replies, one}
+use Rattle.regmodel.specs.Reply.{Replies}
 use Rattle.natives.specs.declared.split.Stage.{Stage}
-use Rattle.natives.specs.declared.split.Stage.TheVariants.{Marks, Tries, Closes, Looks, Stopped, Right, Down, Ended}
+use Rattle.natives.specs.declared.split.Stage.TheVariants.{At, Stopped, Right, Down, Ended}
+use Rattle.natives.specs.declared.splitters.Step.TheVariants.{Marks, Tries, Closes, Looks}
+use Rattle.natives.specs.Splitters.{since_first}
 
 -- at an access the program's value from its start, after the replies since then
 abbrev pub split_rest : Program → Stage → Replies → Pending
-split_rest program Marks s = act_of program s
-split_rest program Tries s = act_of program (one 0 ∷ s)
-split_rest program Closes s = act_of program (one 0 ∷ one 0 ∷ s)
-split_rest program Looks s = act_of program (one 0 ∷ one 0 ∷ one 0 ∷ s)
+split_rest program (At step) s = act_of program (since_first step s)
 split_rest program Stopped s = Done (record { items = 1 ∷ [] })
 split_rest program Right s = Done (record { items = 2 ∷ [] })
 split_rest program Down s = Done (record { items = 3 ∷ [] })
@@ -21,10 +20,10 @@ split_rest program Ended s = Done (record { items = [] })
 
 -- the stage that a number tells
 abbrev pub split_stage : ℕ → Stage
-split_stage zero = Marks
-split_stage (suc zero) = Tries
-split_stage (suc (suc zero)) = Closes
-split_stage (suc (suc (suc zero))) = Looks
+split_stage zero = At Marks
+split_stage (suc zero) = At Tries
+split_stage (suc (suc zero)) = At Closes
+split_stage (suc (suc (suc zero))) = At Looks
 split_stage (suc (suc (suc (suc zero)))) = Stopped
 split_stage (suc (suc (suc (suc (suc zero))))) = Right
 split_stage (suc (suc (suc (suc (suc (suc zero)))))) = Down

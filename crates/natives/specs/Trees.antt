@@ -8,7 +8,8 @@ use Rattle.regmodel.specs.Reply.{Replies, one}
 use Rattle.uses.specs.Expansions.{tree_leave, tree_after, tree_descend, tree_collect, tree_look}
 use Rattle.machine.specs.Bits.{bit, packed, unpacked}
 use Rattle.natives.specs.declared.trees.Stage.{Stage}
-use Rattle.natives.specs.declared.trees.Stage.TheVariants.{Marks, Signs, Tries, Closes, Looks, Leaves, Sees, Takes, Collected, Overfull, Over}
+use Rattle.natives.specs.declared.trees.Stage.TheVariants.{Marks, At, Leaves, Sees, Takes, Collected, Overfull, Over}
+use Rattle.natives.specs.Splitters.{since_first, step_number}
 
 -- on the way down: the vertex, and whether the process stopped at it
 abbrev pub on_way : ℕ → ℕ → ℕ → Env
@@ -63,10 +64,7 @@ below_reached vertex reached = slice_set (slice_set reached (vertex * 2) true) (
 -- on the way down the value from the vertex on, in the collect that from the vertex looked at, after the replies since then
 abbrev pub tree_rest : (Replies → Pending) → (Replies → Pending) → (ℕ → Replies → Pending) → List ℕ → Stage → Replies → Pending
 tree_rest vertex stop look numbers Marks s = vertex s
-tree_rest vertex stop look numbers Signs s = vertex (one 0 ∷ s)
-tree_rest vertex stop look numbers Tries s = vertex (one 0 ∷ one 0 ∷ s)
-tree_rest vertex stop look numbers Closes s = vertex (one 0 ∷ one 0 ∷ one 0 ∷ s)
-tree_rest vertex stop look numbers Looks s = vertex (one 0 ∷ one 0 ∷ one 0 ∷ one 0 ∷ s)
+tree_rest vertex stop look numbers (At step) s = vertex (one 0 ∷ since_first step s)
 tree_rest vertex stop look numbers Leaves s = stop s
 tree_rest vertex stop look numbers (Sees at) s = look at s
 tree_rest vertex stop look numbers (Takes at) s = look at (one 1 ∷ s)
@@ -81,10 +79,7 @@ collect_numbers reached numbers stage at = stage ∷ at ∷ packed reached ∷ n
 -- how a stage is told: a number for what it is, and what it holds
 abbrev pub tree_numbers : ℕ → ℕ → List Bool → List ℕ → Stage → List ℕ
 tree_numbers vertex levels reached numbers Marks = 0 ∷ vertex ∷ levels ∷ []
-tree_numbers vertex levels reached numbers Signs = 1 ∷ vertex ∷ levels ∷ []
-tree_numbers vertex levels reached numbers Tries = 2 ∷ vertex ∷ levels ∷ []
-tree_numbers vertex levels reached numbers Closes = 3 ∷ vertex ∷ levels ∷ []
-tree_numbers vertex levels reached numbers Looks = 4 ∷ vertex ∷ levels ∷ []
+tree_numbers vertex levels reached numbers (At step) = (step_number step + 1) ∷ vertex ∷ levels ∷ []
 tree_numbers vertex levels reached numbers Leaves = 5 ∷ vertex ∷ []
 tree_numbers vertex levels reached numbers (Sees at) = collect_numbers reached numbers 6 at
 tree_numbers vertex levels reached numbers (Takes at) = collect_numbers reached numbers 7 at

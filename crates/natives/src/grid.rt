@@ -8,23 +8,19 @@ ghost use Rattle.natives.specs.Makes.{IsMadeFor};
 ghost use Rattle.regmodel.specs.declared.limits.TheConstants.{MOST_REGISTERS, MOST_ROWS};
 ghost use Rattle.natives.specs.Grids.{grid_from, grid_numbers};
 
+use crate::MakeFault;
+use crate::limits::check_fits;
 use crate::numbers::{done, done_with};
-use crate::{MakeFault, PAST_LIMIT};
+use crate::splitters::Step;
 use machine::{Machine, Told, value_of};
-use regmodel::{Access, Pending};
+use regmodel::Pending;
 use uses::Use;
 
 /// Where a process stands in the grid.
 #[derive(Clone, Copy)]
 enum Stage {
-    /// It writes its number at a vertex.
-    Marks,
-    /// It reads the vertex's door.
-    Tries,
-    /// It closes the door.
-    Closes,
-    /// It reads who came last to the vertex.
-    Looks,
+    /// It is at the splitter of a vertex.
+    At(Step),
     /// It stopped at the vertex.
     Stopped,
     /// It left the grid, or was ended.
@@ -57,20 +53,16 @@ impl Grid {
         ensures { IsMadeFor (kind.Grid base side id) registers ⟦<Grid as Machine>⟧.program
             ⟦<Grid as Machine>⟧.rest result }
     {
-        if !Use::Grid(base, side, id).fits(registers) {
-            return Err(MakeFault { code: PAST_LIMIT });
-        }
-        let mut grid = Grid {
+        check_fits(Use::Grid(base, side, id), registers)?;
+        Ok(Grid {
             base: base as u8,
             side: side as u8,
             id,
             registers,
             level: 0,
             vertex: 1,
-            stage: Stage::Over,
-        };
-        grid.reset();
-        Ok(grid)
+            stage: Stage::At(Step::Marks),
+        })
     }
 
     /// The register that tells who came last to the vertex.
@@ -96,7 +88,7 @@ impl Grid {
         } else {
             self.level += 1;
             self.vertex = vertex;
-            self.stage = Stage::Marks;
+            self.stage = Stage::At(Step::Marks);
         }
     }
 
@@ -104,15 +96,13 @@ impl Grid {
     fn put_standing(&self, numbers: &mut Told) -> Option<()>
         ensures { IfSome result
             (λ _. numbers_in numbers.new
-            ≡ numbers_in numbers.old ++ grid_numbers self.now.level self.now.vertex self.now.stage) }
+            ≡ numbers_in numbers.old
+            ++ grid_numbers self.now.level self.now.vertex self.now.stage) }
     {
         let level = u32::from(self.level);
         let vertex = u32::from(self.vertex);
         match self.stage {
-            Stage::Marks => numbers.put_all(&[0, level, vertex]),
-            Stage::Tries => numbers.put_all(&[1, level, vertex]),
-            Stage::Closes => numbers.put_all(&[2, level, vertex]),
-            Stage::Looks => numbers.put_all(&[3, level, vertex]),
+            Stage::At(step) => numbers.put_all(&[step.number(), level, vertex]),
             Stage::Stopped => numbers.put_all(&[4, vertex]),
             Stage::Over => numbers.put(5),
         }
@@ -134,30 +124,29 @@ impl Machine for Grid {
     fn reset(&mut self) {
         self.level = 0;
         self.vertex = 1;
-        self.stage = Stage::Marks;
+        self.stage = Stage::At(Step::Marks);
     }
 
     fn pending(&self) -> Pending {
         match self.stage {
-            Stage::Marks => Pending::Wants(Access::Write(self.last(), self.id)),
-            Stage::Tries => Pending::Wants(Access::Read(self.last() + 1)),
-            Stage::Closes => Pending::Wants(Access::Write(self.last() + 1, 1)),
-            Stage::Looks => Pending::Wants(Access::Read(self.last())),
+            Stage::At(step) => Pending::Wants(step.access(self.last(), self.id)),
             Stage::Stopped => done_with(u32::from(self.vertex)),
             Stage::Over => done(),
         }
     }
 
     fn feed(&mut self, reply: &[u32]) {
+        let Stage::At(step) = self.stage else {
+            return;
+        };
         let value = value_of(reply);
-        match self.stage {
-            Stage::Marks => self.stage = Stage::Tries,
-            Stage::Tries if value != 0 => self.go_to(self.vertex + self.level + 2),
-            Stage::Tries => self.stage = Stage::Closes,
-            Stage::Closes => self.stage = Stage::Looks,
-            Stage::Looks if value == self.id => self.stage = Stage::Stopped,
-            Stage::Looks => self.go_to(self.vertex + self.level + 1),
-            Stage::Stopped | Stage::Over => {}
+        match step {
+            Step::Marks => self.stage = Stage::At(Step::Tries),
+            Step::Tries if value != 0 => self.go_to(self.vertex + self.level + 2),
+            Step::Tries => self.stage = Stage::At(Step::Closes),
+            Step::Closes => self.stage = Stage::At(Step::Looks),
+            Step::Looks if value == self.id => self.stage = Stage::Stopped,
+            Step::Looks => self.go_to(self.vertex + self.level + 1),
         }
     }
 

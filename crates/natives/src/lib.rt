@@ -2,12 +2,14 @@
 #![tactic(auto)]
 
 mod grid;
+mod limits;
 mod names;
 mod numbers;
 mod packing;
 mod rounds;
 mod scanned_names;
 mod split;
+mod splitters;
 mod trees;
 
 pub use grid::Grid;

@@ -7,11 +7,12 @@ ghost use Rattle.uses.specs.declared.kinds.Use.TheVariants as kind;
 ghost use Rattle.natives.specs.Makes.{IsMadeFor};
 ghost use Rattle.natives.specs.declared.rounds.Reading.{Reading};
 ghost use Rattle.natives.specs.declared.rounds.Stage.TheVariants.{Looks};
-ghost use Rattle.natives.specs.Names.{IsRead, end_rest, name_numbers, reading_rest};
+ghost use Rattle.natives.specs.Names.{IsRead, name_numbers, reading_rest};
 
+use crate::MakeFault;
+use crate::limits::check_fits;
 use crate::numbers::{done, done_with};
 use crate::rounds::{Reading, Round, Slots, Stage};
-use crate::{MakeFault, PAST_LIMIT};
 use machine::{Machine, Told, value_of};
 use regmodel::{Access, Pending};
 use uses::Use;
@@ -20,12 +21,10 @@ use uses::Use;
 /// slot, 0 for its own.
 #[derive(Drop)]
 pub struct NameSlots {
-    slots: Slots,
-    round: Round,
-    stage: Stage<Reading>,
-    ghost own_empty: { slice_index round.seen slots.own ≡ 0 },
-    ghost reads: { (reading : Reading) → stage ≡ Looks reading
-        → IsRead slots.count slots.own reading },
+    round: Round<Reading>,
+    ghost own_empty: { slice_index round.seen round.slots.own ≡ 0 },
+    ghost reads: { (reading : Reading) → round.stage ≡ Looks reading
+        → IsRead round.slots.count round.slots.own reading },
 }
 
 impl NameSlots {
@@ -35,48 +34,24 @@ impl NameSlots {
         ensures { IsMadeFor (kind.Name base slots slot) registers ⟦<NameSlots as Machine>⟧.program
             ⟦<NameSlots as Machine>⟧.rest result }
     {
-        if !Use::Name(base, slots, slot).fits(registers) {
-            return Err(MakeFault { code: PAST_LIMIT });
-        }
-        let slots = Slots {
-            base: base as u8,
-            count: slots as u8,
-            own: slot as u8,
-            registers,
-        };
-        let mut names = NameSlots {
-            slots,
-            round: Round::first(),
-            stage: Stage::Over,
-        };
-        names.reset();
-        Ok(names)
-    }
-
-    /// Ends a round: the proposal stands, or there is a new one for the next round, where one is left.
-    fn finish(&mut self, reading: Reading)
-        requires { 1 ≤ reading.rank }
-        ensures same { ⟦<NameSlots as Machine>⟧.program self.new
-            ≡ ⟦<NameSlots as Machine>⟧.program self.old }
-        ensures goes_on { (s : Replies)
-            → ⟦<NameSlots as Machine>⟧.rest self.new s
-            ≡ end_rest self.old.slots self.old.round reading s }
-    {
-        self.stage = self.round.end(self.slots, reading);
+        check_fits(Use::Name(base, slots, slot), registers)?;
+        Ok(NameSlots {
+            round: Round::first(Slots::of(base, slots, slot, registers)),
+        })
     }
 
     /// Goes on to a slot, past the own one; past the last one it ends the round.
     fn go_on(&mut self, reading: Reading)
-        requires inside { reading.at ≤ self.old.slots.count }
+        requires inside { reading.at ≤ self.old.round.slots.count }
         requires some { 1 ≤ reading.rank }
         requires small { reading.rank ≤ reading.at + 1 }
         ensures same { ⟦<NameSlots as Machine>⟧.program self.new
             ≡ ⟦<NameSlots as Machine>⟧.program self.old }
         ensures goes_on { (s : Replies)
             → ⟦<NameSlots as Machine>⟧.rest self.new s
-            ≡ reading_rest self.old.slots self.old.round reading s }
+            ≡ reading_rest self.old.round reading s }
     {
-        let next = if reading.at == self.slots.own {
+        let next = if reading.at == self.round.slots.own {
             Reading {
                 at: reading.at + 1,
                 ..reading
@@ -84,25 +59,25 @@ impl NameSlots {
         } else {
             reading
         };
-        if next.at < self.slots.count {
-            self.stage = Stage::Looks(next);
+        if next.at < self.round.slots.count {
+            self.round.stage = Stage::Looks(next);
         } else {
-            self.finish(next);
+            self.round.finish(next);
         }
     }
 
     /// Takes what a slot holds, and goes on to the next one.
     fn take(&mut self, reading: Reading, reply: &[u32])
-        requires read { IsRead self.old.slots.count self.old.slots.own reading }
+        requires read { IsRead self.old.round.slots.count self.old.round.slots.own reading }
         ensures same { ⟦<NameSlots as Machine>⟧.program self.new
             ≡ ⟦<NameSlots as Machine>⟧.program self.old }
         ensures goes_on { (s : Replies)
             → ⟦<NameSlots as Machine>⟧.rest self.new s
-            ≡ reading_rest self.old.slots self.old.round reading (reply.now ∷ s) }
+            ≡ reading_rest self.old.round reading (reply.now ∷ s) }
     {
         let held = value_of(reply);
         self.round.seen[usize::from(reading.at)] = held;
-        self.go_on(reading.after_slot(held, self.round.proposal, self.slots.own));
+        self.go_on(reading.after_slot(held, self.round.proposal, self.round.slots.own));
     }
 
     /// Puts the stage behind the numbers, with the numbers that it holds, but not what the slots held.
@@ -110,9 +85,9 @@ impl NameSlots {
         ensures { IfSome result
             (λ _. numbers_in numbers.new
             ≡ numbers_in numbers.old ++ name_numbers self.now.round.later self.now.round.proposal
-            self.now.stage) }
+            self.now.round.stage) }
     {
-        match self.stage {
+        match self.round.stage {
             Stage::Proposes => numbers.put_all(&[
                 0,
                 u32::from(self.round.later),
@@ -139,28 +114,29 @@ impl Machine for NameSlots {
     ghost use Rattle.natives.specs.Rounds.{stage_rest};
     ghost use Rattle.natives.specs.Names.{round_rest, reading_rest, name_resumed};
 
-    ghost program = { λ m. expansion (kind.Name m.slots.base m.slots.count m.slots.own) m.slots.registers };
+    ghost program = { λ m. expansion (kind.Name m.round.slots.base m.round.slots.count m.round.slots.own) m.round.slots.registers };
 
-    ghost rest = { λ m. stage_rest (round_rest m.slots m.round) (reading_rest m.slots m.round) m.round.proposal m.stage };
+    ghost rest = { λ m. stage_rest (round_rest m.round) (reading_rest m.round) m.round.proposal m.round.stage };
 
-    ghost resumed = { λ m. name_resumed m.slots.base m.slots.count m.slots.own m.slots.registers };
+    ghost resumed = { λ m. name_resumed m.round.slots.base m.round.slots.count m.round.slots.own m.round.slots.registers };
 
     fn reset(&mut self) {
-        self.round = Round::first();
-        self.stage = Stage::Proposes;
+        self.round = Round::first(self.round.slots);
     }
 
     fn pending(&self) -> Pending {
-        match self.stage {
-            Stage::Proposes => Pending::Wants(self.slots.write(self.round.proposal)),
-            Stage::Looks(reading) => Pending::Wants(Access::Read(reading.at + self.slots.base)),
+        match self.round.stage {
+            Stage::Proposes => Pending::Wants(self.round.write()),
+            Stage::Looks(reading) => Pending::Wants(Access::Read(
+                reading.at + self.round.slots.base,
+            )),
             Stage::Named => done_with(self.round.proposal),
             Stage::Over => done(),
         }
     }
 
     fn feed(&mut self, reply: &[u32]) {
-        match self.stage {
+        match self.round.stage {
             Stage::Proposes => self.go_on(Reading::first()),
             Stage::Looks(reading) => self.take(reading, reply),
             Stage::Named | Stage::Over => {}
@@ -168,10 +144,10 @@ impl Machine for NameSlots {
     }
 
     fn end(&mut self) {
-        self.stage = Stage::Over;
+        self.round.stage = Stage::Over;
     }
 
     fn tell(&self, numbers: &mut Told) -> bool {
-        self.put_stage(numbers).is_some() && self.round.put_seen(&self.stage, numbers).is_some()
+        self.put_stage(numbers).is_some() && self.round.put_seen(numbers).is_some()
     }
 }

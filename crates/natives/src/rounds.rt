@@ -1,10 +1,13 @@
 //! The rounds of a renaming: its slots, what a round reads in them, and how it ends.
 
-ghost use Rattle.std.specs.Prelude.{◌≡◌, ◌+◌, ◌-◌, ◌*◌, ◌<◌, ◌≤◌, ◌++◌, IfSome, length, replicate};
+ghost use Rattle.std.specs.Prelude.{◌≡◌, ◌+◌, ◌-◌, ◌*◌, ◌<◌, ◌≤◌, ◌++◌, true, IfSome, length, replicate};
 ghost use Rattle.told.specs.Numbers.{numbers_in};
 ghost use Rattle.regmodel.specs.declared.limits.TheConstants.{MOST_REGISTERS, MOST_SLOTS};
 ghost use Rattle.natives.specs.declared.rounds.TheConstants.{LATER};
+ghost use Rattle.natives.specs.declared.rounds.Stage.TheVariants.{Proposes};
 ghost use Rattle.natives.specs.Rounds.{first_slot, after_slot, after_slots, number_from, reading_number, stage_after, later_after, proposal_after, seen_numbers};
+ghost use Rattle.uses.specs.Uses.{use_fits};
+ghost use Rattle.uses.specs.declared.kinds.Use.TheVariants.{Name};
 ghost use Rattle.regmodel.specs.declared.accesses.Access.TheVariants.{Write};
 
 use machine::{Told, put_sparse};
@@ -32,11 +35,20 @@ pub struct Slots {
 }
 
 impl Slots {
-    /// The write of a proposal into the own slot.
-    pub fn write(self, proposal: u32) -> Access
-        ensures { result ≡ Write (self.base + self.own) proposal }
+    /// Those of a use line that is within its limits.
+    pub fn of(base: u32, slots: u32, slot: u32, registers: u32) -> Slots
+        requires { use_fits (Name base slots slot) registers ≡ true }
+        ensures base { result.base ≡ base }
+        ensures count { result.count ≡ slots }
+        ensures own { result.own ≡ slot }
+        ensures registers { result.registers ≡ registers }
     {
-        Access::Write(self.base + self.own, proposal)
+        Slots {
+            base: base as u8,
+            count: slots as u8,
+            own: slot as u8,
+            registers,
+        }
     }
 }
 
@@ -53,9 +65,13 @@ pub enum Stage<L> {
     Over,
 }
 
-/// A round of a renaming.
+/// A round of a renaming, and where its process stands in it.
 #[derive(Drop)]
-pub struct Round {
+pub struct Round<L> {
+    /// The slots.
+    pub slots: Slots,
+    /// Where the process stands.
+    pub stage: Stage<L>,
     /// How many rounds there are after this one.
     pub later: u8,
     /// The name that the process proposes.
@@ -65,49 +81,60 @@ pub struct Round {
     ghost eight: { length seen ≡ 8 },
 }
 
-impl Round {
+impl<L: Copy> Round<L> {
     /// The first one, which proposes 1.
-    pub fn first() -> Round
+    pub fn first(slots: Slots) -> Round<L>
+        ensures slots { result.slots ≡ slots }
+        ensures stage { result.stage ≡ Proposes }
         ensures later { result.later ≡ LATER }
         ensures proposal { result.proposal ≡ 1 }
         ensures seen { result.seen ≡ replicate 8 0 }
     {
         Round {
+            slots,
+            stage: Stage::Proposes,
             later: LATER,
             proposal: 1,
             seen: [0; 8],
         }
     }
 
-    /// Ends the round, and gives where the process stands then: its proposal is its name, or there is a new one for the
-    /// next round, where one is left.
-    pub fn end<L>(&mut self, slots: Slots, reading: Reading) -> Stage<L>
+    /// The write of the proposal into the own slot.
+    pub fn write(&self) -> Access
+        ensures { result ≡ Write (self.now.slots.base + self.now.slots.own) self.now.proposal }
+    {
+        Access::Write(self.slots.base + self.slots.own, self.proposal)
+    }
+
+    /// Ends the round: the proposal is the name of the process, or there is a new one for the next round, where one is left.
+    pub fn finish(&mut self, reading: Reading)
         requires { 1 ≤ reading.rank }
-        ensures stage { result ≡ stage_after reading.clash self.old.later }
+        ensures slots { self.new.slots ≡ self.old.slots }
+        ensures stage { self.new.stage ≡ stage_after reading.clash self.old.later }
         ensures later { self.new.later ≡ later_after reading.clash self.old.later }
         ensures proposal { self.new.proposal
-            ≡ proposal_after reading.clash self.old.later slots.count reading.rank self.old.seen
-            self.old.proposal }
+            ≡ proposal_after reading.clash self.old.later self.old.slots.count reading.rank
+            self.old.seen self.old.proposal }
         ensures seen { self.new.seen ≡ self.old.seen }
     {
         if !reading.clash {
-            return Stage::Named;
+            self.stage = Stage::Named;
+        } else if self.later == 0 {
+            self.stage = Stage::Over;
+        } else {
+            self.stage = Stage::Proposes;
+            self.later -= 1;
+            self.proposal = free_number(&self.seen[..usize::from(self.slots.count)], reading.rank);
         }
-        if self.later == 0 {
-            return Stage::Over;
-        }
-        self.later -= 1;
-        self.proposal = free_number(&self.seen[..usize::from(slots.count)], reading.rank);
-        Stage::Proposes
     }
 
-    /// Puts what the slots held behind the numbers of a stage, where it is one in the round.
-    pub fn put_seen<L>(&self, stage: &Stage<L>, numbers: &mut Told) -> Option<()>
+    /// Puts what the slots held behind the numbers, where the process stands in the round.
+    pub fn put_seen(&self, numbers: &mut Told) -> Option<()>
         ensures { IfSome result
             (λ _. numbers_in numbers.new
-            ≡ numbers_in numbers.old ++ seen_numbers stage.now self.now.seen) }
+            ≡ numbers_in numbers.old ++ seen_numbers self.now.stage self.now.seen) }
     {
-        match stage {
+        match self.stage {
             Stage::Proposes | Stage::Looks(_) => put_sparse(&self.seen, numbers),
             Stage::Named | Stage::Over => Some(()),
         }

@@ -1,15 +1,16 @@
 //! Renamings that scan: a process proposes a name in its slot until no other slot holds it, where it sees all slots at once.
 
-ghost use Rattle.std.specs.Prelude.{◌≡◌, ◌≤◌, ◌∷◌, ◌++◌, IfSome, length};
+ghost use Rattle.std.specs.Prelude.{◌≡◌, ◌∷◌, ◌++◌, IfSome, length};
 ghost use Rattle.told.specs.Numbers.{numbers_in};
 ghost use Rattle.regmodel.specs.Reply.{Replies, one};
 ghost use Rattle.uses.specs.declared.kinds.Use.TheVariants as kind;
 ghost use Rattle.natives.specs.Makes.{IsMadeFor};
-ghost use Rattle.natives.specs.ScannedNames.{scan_end_rest, scan_round_rest, names_numbers};
+ghost use Rattle.natives.specs.ScannedNames.{scan_round_rest, names_numbers};
 
+use crate::MakeFault;
+use crate::limits::check_fits;
 use crate::numbers::{done, done_with};
 use crate::rounds::{Reading, Round, Slots, Stage};
-use crate::{MakeFault, PAST_LIMIT};
 use machine::{Machine, Told};
 use regmodel::{Access, Pending};
 use uses::Use;
@@ -22,9 +23,7 @@ struct Scan;
 /// its own.
 #[derive(Drop)]
 pub struct Names {
-    slots: Slots,
-    round: Round,
-    stage: Stage<Scan>,
+    round: Round<Scan>,
 }
 
 impl Names {
@@ -34,52 +33,33 @@ impl Names {
         ensures { IsMadeFor (kind.Names base slots slot) registers ⟦<Names as Machine>⟧.program
             ⟦<Names as Machine>⟧.rest result }
     {
-        if !Use::Names(base, slots, slot).fits(registers) {
-            return Err(MakeFault { code: PAST_LIMIT });
-        }
-        let slots = Slots {
-            base: base as u8,
-            count: slots as u8,
-            own: slot as u8,
-            registers,
-        };
-        let mut names = Names {
-            slots,
-            round: Round::first(),
-            stage: Stage::Over,
-        };
-        names.reset();
-        Ok(names)
-    }
-
-    /// Ends a round: the proposal stands, or there is a new one for the next round, where one is left.
-    fn finish(&mut self, reading: Reading)
-        requires { 1 ≤ reading.rank }
-        ensures same { ⟦<Names as Machine>⟧.program self.new
-            ≡ ⟦<Names as Machine>⟧.program self.old }
-        ensures goes_on { (s : Replies) → ⟦<Names as Machine>⟧.rest self.new s
-            ≡ scan_end_rest self.old.slots self.old.round reading s }
-    {
-        self.stage = self.round.end(self.slots, reading);
+        check_fits(Use::Names(base, slots, slot), registers)?;
+        Ok(Names {
+            round: Round::first(Slots::of(base, slots, slot, registers)),
+        })
     }
 
     /// Takes what a scan gave, of which the own slot counts as empty, and ends the round.
     fn take(&mut self, reply: &[u32])
-        requires { length reply.now ≡ self.old.slots.count }
+        requires { length reply.now ≡ self.old.round.slots.count }
         ensures same { ⟦<Names as Machine>⟧.program self.new
             ≡ ⟦<Names as Machine>⟧.program self.old }
         ensures goes_on { (s : Replies) → ⟦<Names as Machine>⟧.rest self.new s
-            ≡ scan_round_rest self.old.slots self.old.round
+            ≡ scan_round_rest self.old.round
             (one 0 ∷ reply.now ∷ s) }
     {
-        let slots = usize::from(self.slots.count);
-        let own = usize::from(self.slots.own);
+        let slots = usize::from(self.round.slots.count);
+        let own = usize::from(self.round.slots.own);
         let mut seen = self.round.seen;
         seen[..slots].copy_from_slice(reply);
         seen[own] = 0;
         self.round.seen = seen;
-        let reading = Reading::after_slots(&seen[..slots], self.round.proposal, self.slots.own);
-        self.finish(reading);
+        let reading = Reading::after_slots(
+            &seen[..slots],
+            self.round.proposal,
+            self.round.slots.own,
+        );
+        self.round.finish(reading);
     }
 
     /// Puts the stage behind the numbers, with the numbers that it holds, but not what the slots held.
@@ -87,9 +67,9 @@ impl Names {
         ensures { IfSome result
             (λ _. numbers_in numbers.new
             ≡ numbers_in numbers.old ++ names_numbers self.now.round.later self.now.round.proposal
-            self.now.stage) }
+            self.now.round.stage) }
     {
-        match self.stage {
+        match self.round.stage {
             Stage::Proposes => numbers.put_all(&[
                 0,
                 u32::from(self.round.later),
@@ -112,39 +92,41 @@ impl Machine for Names {
     ghost use Rattle.natives.specs.Rounds.{stage_rest};
     ghost use Rattle.natives.specs.ScannedNames.{scan_round_rest, scan_rest, names_resumed};
 
-    ghost program = { λ m. expansion (kind.Names m.slots.base m.slots.count m.slots.own) m.slots.registers };
+    ghost program = { λ m. expansion (kind.Names m.round.slots.base m.round.slots.count m.round.slots.own) m.round.slots.registers };
 
-    ghost rest = { λ m. stage_rest (scan_round_rest m.slots m.round) (scan_rest m.slots m.round) m.round.proposal m.stage };
+    ghost rest = { λ m. stage_rest (scan_round_rest m.round) (scan_rest m.round) m.round.proposal m.round.stage };
 
-    ghost resumed = { λ m. names_resumed m.slots.base m.slots.count m.slots.own m.slots.registers };
+    ghost resumed = { λ m. names_resumed m.round.slots.base m.round.slots.count m.round.slots.own m.round.slots.registers };
 
     fn reset(&mut self) {
-        self.round = Round::first();
-        self.stage = Stage::Proposes;
+        self.round = Round::first(self.round.slots);
     }
 
     fn pending(&self) -> Pending {
-        match self.stage {
-            Stage::Proposes => Pending::Wants(self.slots.write(self.round.proposal)),
-            Stage::Looks(_) => Pending::Wants(Access::Scan(self.slots.base, self.slots.count)),
+        match self.round.stage {
+            Stage::Proposes => Pending::Wants(self.round.write()),
+            Stage::Looks(_) => Pending::Wants(Access::Scan(
+                self.round.slots.base,
+                self.round.slots.count,
+            )),
             Stage::Named => done_with(self.round.proposal),
             Stage::Over => done(),
         }
     }
 
     fn feed(&mut self, reply: &[u32]) {
-        match self.stage {
-            Stage::Proposes => self.stage = Stage::Looks(Scan),
+        match self.round.stage {
+            Stage::Proposes => self.round.stage = Stage::Looks(Scan),
             Stage::Looks(_) => self.take(reply),
             Stage::Named | Stage::Over => {}
         }
     }
 
     fn end(&mut self) {
-        self.stage = Stage::Over;
+        self.round.stage = Stage::Over;
     }
 
     fn tell(&self, numbers: &mut Told) -> bool {
-        self.put_stage(numbers).is_some() && self.round.put_seen(&self.stage, numbers).is_some()
+        self.put_stage(numbers).is_some() && self.round.put_seen(numbers).is_some()
     }
 }

@@ -6,23 +6,19 @@ ghost use Rattle.natives.specs.Makes.{IsMadeFor};
 ghost use Rattle.regmodel.specs.declared.limits.TheConstants.{MOST_REGISTERS};
 ghost use Rattle.natives.specs.Splits.{split_stage};
 
+use crate::MakeFault;
+use crate::limits::check_fits;
 use crate::numbers::{done, done_with};
-use crate::{MakeFault, PAST_LIMIT};
+use crate::splitters::Step;
 use machine::{Machine, Told, value_of};
-use regmodel::{Access, Pending};
+use regmodel::Pending;
 use uses::Use;
 
 /// Where a splitter stands.
 #[derive(Clone, Copy)]
 enum Stage {
-    /// It writes its number.
-    Marks,
-    /// It reads the door.
-    Tries,
-    /// It closes the door.
-    Closes,
-    /// It reads who came last.
-    Looks,
+    /// It is on its way.
+    At(Step),
     /// It found itself last.
     Stopped,
     /// It found the door closed.
@@ -39,10 +35,7 @@ impl Stage {
         ensures { split_stage result ≡ self }
     {
         match self {
-            Stage::Marks => 0,
-            Stage::Tries => 1,
-            Stage::Closes => 2,
-            Stage::Looks => 3,
+            Stage::At(step) => step.number(),
             Stage::Stopped => 4,
             Stage::Right => 5,
             Stage::Down => 6,
@@ -69,14 +62,12 @@ impl Split {
         ensures { IsMadeFor (kind.Split base id) registers ⟦<Split as Machine>⟧.program
             ⟦<Split as Machine>⟧.rest result }
     {
-        if !Use::Split(base, id).fits(registers) {
-            return Err(MakeFault { code: PAST_LIMIT });
-        }
+        check_fits(Use::Split(base, id), registers)?;
         Ok(Split {
             base: base as u8,
             id,
             registers,
-            stage: Stage::Marks,
+            stage: Stage::At(Step::Marks),
         })
     }
 }
@@ -93,15 +84,12 @@ impl Machine for Split {
     ghost resumed = { λ m. split_resumed (expansion (kind.Split m.base m.id) m.registers) };
 
     fn reset(&mut self) {
-        self.stage = Stage::Marks;
+        self.stage = Stage::At(Step::Marks);
     }
 
     fn pending(&self) -> Pending {
         match self.stage {
-            Stage::Marks => Pending::Wants(Access::Write(self.base, self.id)),
-            Stage::Tries => Pending::Wants(Access::Read(self.base + 1)),
-            Stage::Closes => Pending::Wants(Access::Write(self.base + 1, 1)),
-            Stage::Looks => Pending::Wants(Access::Read(self.base)),
+            Stage::At(step) => Pending::Wants(step.access(self.base, self.id)),
             Stage::Stopped => done_with(1),
             Stage::Right => done_with(2),
             Stage::Down => done_with(3),
@@ -112,12 +100,12 @@ impl Machine for Split {
     fn feed(&mut self, reply: &[u32]) {
         let value = value_of(reply);
         self.stage = match self.stage {
-            Stage::Marks => Stage::Tries,
-            Stage::Tries if value != 0 => Stage::Right,
-            Stage::Tries => Stage::Closes,
-            Stage::Closes => Stage::Looks,
-            Stage::Looks if value == self.id => Stage::Stopped,
-            Stage::Looks => Stage::Down,
+            Stage::At(Step::Marks) => Stage::At(Step::Tries),
+            Stage::At(Step::Tries) if value != 0 => Stage::Right,
+            Stage::At(Step::Tries) => Stage::At(Step::Closes),
+            Stage::At(Step::Closes) => Stage::At(Step::Looks),
+            Stage::At(Step::Looks) if value == self.id => Stage::Stopped,
+            Stage::At(Step::Looks) => Stage::Down,
             over => over,
         };
     }

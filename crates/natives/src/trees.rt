@@ -1,7 +1,7 @@
 //! Collect trees: a process goes down a binary tree of splitters until it stops at a vertex, leaves its value there, and
 //! collects the values of the vertices whose marks it reads.
 
-ghost use Rattle.std.specs.Prelude.{◌≡◌, ◌≢◌, ℕ, suc, ◌+◌, ◌-◌, ◌*◌, ◌^◌, ◌<◌, ◌≤◌, [], ◌∷◌, ◌++◌, true, false, IfSome, length, replicate, slice_set};
+ghost use Rattle.std.specs.Prelude.{◌≡◌, ℕ, suc, ◌+◌, ◌-◌, ◌*◌, ◌^◌, ◌<◌, ◌≤◌, [], ◌∷◌, ◌++◌, true, false, IfSome, length, replicate, slice_set};
 ghost use Rattle.told.specs.Numbers.{numbers_in};
 ghost use Rattle.regmodel.specs.Reply.{Replies, one};
 ghost use Rattle.uses.specs.declared.kinds.Use.TheVariants as kind;
@@ -10,9 +10,11 @@ ghost use Rattle.regmodel.specs.declared.limits.TheConstants.{MOST_LEVELS, MOST_
 ghost use Rattle.natives.specs.declared.trees.Stage.TheVariants.{Sees, Takes};
 ghost use Rattle.natives.specs.Trees.{IsIn, collect_numbers, tree_numbers, below_reached, from_vertex, from_past, from_at, from_next};
 
+use crate::MakeFault;
+use crate::limits::check_fits;
 use crate::numbers::done;
 use crate::packing::packed;
-use crate::{MakeFault, PAST_LIMIT};
+use crate::splitters::Step;
 use machine::{Machine, Told, value_of};
 use regmodel::{Access, Numbers, Pending};
 use uses::Use;
@@ -22,14 +24,8 @@ use uses::Use;
 enum Stage {
     /// It marks a vertex.
     Marks,
-    /// It writes its number there.
-    Signs,
-    /// It reads the vertex's door.
-    Tries,
-    /// It closes the door.
-    Closes,
-    /// It reads who came last to the vertex.
-    Looks,
+    /// It is at the vertex's splitter.
+    At(Step),
     /// It writes its value at the vertex where it stopped.
     Leaves,
     /// It reads the mark of this vertex, whose parent was marked.
@@ -94,11 +90,9 @@ impl Tree {
         ensures { IsMadeFor (kind.Tree base depth id value) registers ⟦<Tree as Machine>⟧.program
             ⟦<Tree as Machine>⟧.rest result }
     {
-        if !Use::Tree(base, depth, id, value).fits(registers) {
-            return Err(MakeFault { code: PAST_LIMIT });
-        }
+        check_fits(Use::Tree(base, depth, id, value), registers)?;
         let depth = depth as u8;
-        let mut tree = Tree {
+        Ok(Tree {
             base: base as u8,
             depth,
             last: vertices(depth),
@@ -109,10 +103,8 @@ impl Tree {
             levels: depth - 1,
             reached: [false; 32],
             numbers: Numbers::new(),
-            stage: Stage::Over,
-        };
-        tree.reset();
-        Ok(tree)
+            stage: Stage::Marks,
+        })
     }
 
     /// The first register of a vertex, which is its mark.
@@ -249,10 +241,7 @@ impl Tree {
         let levels = u32::from(self.levels);
         match self.stage {
             Stage::Marks => numbers.put_all(&[0, vertex, levels]),
-            Stage::Signs => numbers.put_all(&[1, vertex, levels]),
-            Stage::Tries => numbers.put_all(&[2, vertex, levels]),
-            Stage::Closes => numbers.put_all(&[3, vertex, levels]),
-            Stage::Looks => numbers.put_all(&[4, vertex, levels]),
+            Stage::At(step) => numbers.put_all(&[step.number() + 1, vertex, levels]),
             Stage::Leaves => numbers.put_all(&[5, vertex]),
             Stage::Sees(seen) => self.put_collect(6, seen, numbers),
             Stage::Takes(taken) => self.put_collect(7, taken, numbers),
@@ -287,10 +276,7 @@ impl Machine for Tree {
     fn pending(&self) -> Pending {
         match self.stage {
             Stage::Marks => Pending::Wants(Access::Write(self.mark(self.vertex), 1)),
-            Stage::Signs => Pending::Wants(Access::Write(self.mark(self.vertex) + 1, self.id)),
-            Stage::Tries => Pending::Wants(Access::Read(self.mark(self.vertex) + 2)),
-            Stage::Closes => Pending::Wants(Access::Write(self.mark(self.vertex) + 2, 1)),
-            Stage::Looks => Pending::Wants(Access::Read(self.mark(self.vertex) + 1)),
+            Stage::At(step) => Pending::Wants(step.access(self.mark(self.vertex) + 1, self.id)),
             Stage::Leaves => Pending::Wants(Access::Write(self.mark(self.vertex) + 3, self.value)),
             Stage::Sees(vertex) => Pending::Wants(Access::Read(self.mark(vertex))),
             Stage::Takes(vertex) => Pending::Wants(Access::Read(self.mark(vertex) + 3)),
@@ -303,13 +289,15 @@ impl Machine for Tree {
     fn feed(&mut self, reply: &[u32]) {
         let value = value_of(reply);
         match self.stage {
-            Stage::Marks => self.stage = Stage::Signs,
-            Stage::Signs => self.stage = Stage::Tries,
-            Stage::Tries if value != 0 => self.go_to(self.vertex * 2 + 1),
-            Stage::Tries => self.stage = Stage::Closes,
-            Stage::Closes => self.stage = Stage::Looks,
-            Stage::Looks if value == self.id => self.stage = Stage::Leaves,
-            Stage::Looks => self.go_to(self.vertex * 2),
+            Stage::Marks => self.stage = Stage::At(Step::Marks),
+            Stage::At(step) => match step {
+                Step::Marks => self.stage = Stage::At(Step::Tries),
+                Step::Tries if value != 0 => self.go_to(self.vertex * 2 + 1),
+                Step::Tries => self.stage = Stage::At(Step::Closes),
+                Step::Closes => self.stage = Stage::At(Step::Looks),
+                Step::Looks if value == self.id => self.stage = Stage::Leaves,
+                Step::Looks => self.go_to(self.vertex * 2),
+            },
             Stage::Leaves => self.collect(),
             Stage::Sees(vertex) if value != 0 => self.stage = Stage::Takes(vertex),
             Stage::Sees(vertex) => self.go_past(vertex),

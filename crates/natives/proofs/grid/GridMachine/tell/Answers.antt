@@ -3,16 +3,17 @@ use Rattle.regmodel.specs.Reply.{Replies}
 use Rattle.machine.proofs.StandingNumbers.{where_some}
 use Rattle.natives.specs.declared.grid.Grid.{Grid}
 use Rattle.natives.specs.declared.grid.Stage.{Stage}
-use Rattle.natives.specs.declared.grid.Stage.TheVariants.{Marks, Tries, Closes, Looks, Stopped, Over}
+use Rattle.natives.specs.declared.grid.Stage.TheVariants.{At, Stopped, Over}
+use Rattle.natives.specs.declared.splitters.Step.TheVariants.{Marks, Tries, Closes, Looks}
 use Rattle.natives.specs.Grids.{grid_from, grid_numbers, grid_rest, grid_resumed}
 use Rattle.natives.proofs.grid.GridMachine.tell.Goals as goal
 
 -- from the numbers of a stage follows what comes of it
 stage-told : (m : Grid) (stage : Stage) (s : Replies) → grid_rest (grid_from m.base m.id m.registers (m.side - m.level) m.level m.vertex) m.vertex stage s ≡ grid_resumed m.base m.side m.id m.registers (grid_numbers m.level m.vertex stage) s
-stage-told m Marks s = refl
-stage-told m Tries s = refl
-stage-told m Closes s = refl
-stage-told m Looks s = refl
+stage-told m (At Marks) s = refl
+stage-told m (At Tries) s = refl
+stage-told m (At Closes) s = refl
+stage-told m (At Looks) s = refl
 stage-told m Stopped s = refl
 stage-told m Over s = refl
 

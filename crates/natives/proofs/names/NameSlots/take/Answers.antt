@@ -11,7 +11,7 @@ returns-clause-goes_on c = λ s.
     let r = c.args.reading in
     let held = c.value_of-held.result in
     c.go_on.ensures.goes_on s
-    ∙ ap (λ i. from_reading m.slots.base m.slots.count m.slots.own m.slots.registers m.round.later m.round.proposal (slice_set m.round.seen i held) c.after_slot.result s) c.from.ensures
-    ∙ ap (λ q. from_reading m.slots.base m.slots.count m.slots.own m.slots.registers m.round.later m.round.proposal (slice_set m.round.seen r.at held) q s) c.after_slot.ensures
-    ∙ ap (λ v. from_reading m.slots.base m.slots.count m.slots.own m.slots.registers m.round.later m.round.proposal (slice_set m.round.seen r.at v) (after_slot m.slots.own m.round.proposal v r) s) c.value_of-held.ensures
+    ∙ ap (λ i. from_reading m.round.slots.base m.round.slots.count m.round.slots.own m.round.slots.registers m.round.later m.round.proposal (slice_set m.round.seen i held) c.after_slot.result s) c.from.ensures
+    ∙ ap (λ q. from_reading m.round.slots.base m.round.slots.count m.round.slots.own m.round.slots.registers m.round.later m.round.proposal (slice_set m.round.seen r.at held) q s) c.after_slot.ensures
+    ∙ ap (λ v. from_reading m.round.slots.base m.round.slots.count m.round.slots.own m.round.slots.registers m.round.later m.round.proposal (slice_set m.round.seen r.at v) (after_slot m.round.slots.own m.round.proposal v r) s) c.value_of-held.ensures
     ∙ sym (reads-other m r c.args.reply.now s c.requires.read)

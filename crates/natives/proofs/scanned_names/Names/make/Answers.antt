@@ -1,6 +1,11 @@
-use Rattle.std.proofs.Common.{sym, ◌∙◌}
-use Rattle.natives.proofs.Makes.{reset-made}
+use Rattle.std.proofs.Common.{rules}
+use Rattle.natives.specs.ScannedNames.{scan_rest}
+use Rattle.natives.proofs.ScanStages.{are-rounds}
+use Rattle.natives.proofs.Makes.{made-at-start}
+use Rattle.natives.proofs.RoundEnds.{starts}
 use Rattle.natives.proofs.scanned_names.Names.make.Goals as goal
 
 pub returns : goal.returns
-returns c = reset-made _ _ _ _ c.reset.new.self (sym c.fits.ensures ∙ c.if-not-fits.false) c.reset.ensures.same c.reset.ensures.starts
+returns c =
+    let first = c.first in
+    made-at-start _ _ _ _ _ (search rules) (search rules) (λ s lawful. starts are-rounds (scan_rest first.result) first.result s first.ensures.stage first.ensures.later first.ensures.proposal first.ensures.seen)

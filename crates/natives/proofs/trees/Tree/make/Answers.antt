@@ -1,6 +1,9 @@
-use Rattle.std.proofs.Common.{sym, ◌∙◌}
-use Rattle.natives.proofs.Makes.{reset-made}
+use Rattle.std.proofs.Common.{rules}
+use Rattle.natives.proofs.Descents.{from_root}
+use Rattle.natives.proofs.Makes.{made-at-start}
 use Rattle.natives.proofs.trees.Tree.make.Goals as goal
 
 pub returns : goal.returns
-returns c = reset-made _ _ _ _ c.reset.new.self (sym c.fits.ensures ∙ c.if-not-fits.false) c.reset.ensures.same c.reset.ensures.starts
+returns c =
+    let a = c.args in
+    made-at-start _ _ _ _ _ (search rules) (search rules) (λ s lawful. from_root a.base a.id a.registers a.depth a.value s (search rules) (search rules))

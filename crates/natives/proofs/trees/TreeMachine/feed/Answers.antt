@@ -1,18 +1,19 @@
-use Rattle.std.proofs.Common.{sym, ◌∙◌}
+use Rattle.std.proofs.Common.{ap, sym, ◌∙◌}
+use Rattle.natives.specs.declared.trees.Stage.TheVariants.{At}
 use Rattle.natives.proofs.Ways.{opens, goes_right, goes_down, stops, leaves, unmarked}
 use Rattle.natives.proofs.trees.TreeMachine.feed.Goals as goal
 
 pub returns-in-Tries-clause-goes_on : goal.returns-in-Tries-clause-goes_on
 returns-in-Tries-clause-goes_on c = λ s.
-    c.go_to.ensures.goes_on s ∙ goes_right c.args.self.now c.value_of-value.result c.args.reply.now s c.in-Tries.is (sym c.value_of-value.ensures) c.if-value-ne0.true
+    c.go_to.ensures.goes_on s ∙ goes_right c.args.self.now c.value_of-value.result c.args.reply.now s (c.in-At.is ∙ ap At c.in-Tries.is) (sym c.value_of-value.ensures) c.if-value-ne0.true
 
 pub returns-in-Looks-clause-goes_on : goal.returns-in-Looks-clause-goes_on
 returns-in-Looks-clause-goes_on c = λ s.
-    stops c.args.self.now c.args.reply.now s c.in-Looks.is (sym c.value_of-value.ensures ∙ c.if-value-self.true)
+    stops c.args.self.now c.args.reply.now s (c.in-At.is ∙ ap At c.in-Looks.is) (sym c.value_of-value.ensures ∙ c.if-value-self.true)
 
 pub returns-in-Looks-2-clause-goes_on : goal.returns-in-Looks-2-clause-goes_on
 returns-in-Looks-2-clause-goes_on c = λ s.
-    c.go_to-in-Looks-2.ensures.goes_on s ∙ goes_down c.args.self.now c.args.reply.now s c.in-Looks-2.is (λ same. c.if-value-self.false (c.value_of-value.ensures ∙ same))
+    c.go_to-in-Looks-2.ensures.goes_on s ∙ goes_down c.args.self.now c.args.reply.now s (c.in-At.is ∙ ap At c.in-Looks-2.is) (λ same. c.if-value-self.false (c.value_of-value.ensures ∙ same))
 
 pub returns-in-Leaves-clause-goes_on : goal.returns-in-Leaves-clause-goes_on
 returns-in-Leaves-clause-goes_on c = λ s.
@@ -24,4 +25,4 @@ returns-in-Sees-2-clause-goes_on c = λ s.
 
 pub returns-in-Tries-2-clause-goes_on : goal.returns-in-Tries-2-clause-goes_on
 returns-in-Tries-2-clause-goes_on c = λ s.
-    opens c.args.self.now c.args.reply.now s c.in-Tries-2.is (sym c.value_of-value.ensures ∙ c.if-value-ne0.false)
+    opens c.args.self.now c.args.reply.now s (c.in-At.is ∙ ap At c.in-Tries-2.is) (sym c.value_of-value.ensures ∙ c.if-value-ne0.false)

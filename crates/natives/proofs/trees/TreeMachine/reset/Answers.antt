@@ -1,5 +1,3 @@
-use Rattle.std.proofs.Common.{ap, suc, ◌-◌, ◌≡◌, ◌∙◌, arith}
-use Rattle.natives.specs.Trees.{from_vertex}
 use Rattle.natives.proofs.Descents.{from_root}
 use Rattle.natives.proofs.Powers.{root_within}
 use Rattle.natives.proofs.trees.TreeMachine.reset.Goals as goal
@@ -12,6 +10,4 @@ invariant_of-self-clause-within c =
 pub returns-clause-starts : goal.returns-clause-starts
 returns-clause-starts c = λ s lawful.
     let m = c.args.self.now in
-    let levels : suc (m.depth - 1) ≡ m.depth = omega arith in
-    ap (λ n. from_vertex m.base m.registers m.depth m.id m.value n 1 s) levels
-    ∙ from_root m.base m.id m.registers m.depth m.value s m.small
+    from_root m.base m.id m.registers m.depth m.value s m.some_level m.small

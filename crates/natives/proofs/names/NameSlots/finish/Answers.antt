@@ -1,9 +1,0 @@
-use Rattle.natives.specs.Names.{rounds_from, reading_rest}
-use Rattle.natives.proofs.Choices.{are-rounds}
-use Rattle.natives.proofs.RoundEnds.{ends}
-use Rattle.natives.proofs.names.NameSlots.finish.Goals as goal
-
-pub returns-clause-goes_on : goal.returns-clause-goes_on
-returns-clause-goes_on c = λ s.
-    let m = c.args.self.now in
-    ends m.slots (rounds_from m.slots.base m.slots.count m.slots.own m.slots.registers) (are-rounds m.slots) (reading_rest m.slots c.end-self.new.self) m.round c.args.reading c.end-self.result c.end-self.new.self.later c.end-self.new.self.proposal c.end-self.new.self.seen s c.end-self.ensures.stage c.end-self.ensures.later c.end-self.ensures.proposal c.end-self.ensures.seen
