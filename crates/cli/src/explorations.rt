@@ -3,8 +3,8 @@
 ghost use Rattle.std.specs.Prelude.{◌≡◌, Bool, IfErr, IfOk, option_map};
 ghost use Rattle.reglang.specs.Grammar.{Spells};
 ghost use Rattle.reglang.specs.Sources.{contents_of, source_programs};
+ghost use Rattle.explorer.specs.Running.{AreListsOf};
 ghost use Rattle.cli.specs.Findings.{IsFoundBy, IsRefusedBy, exploring_task, part_head};
-ghost use Rattle.cli.specs.Runs.{AreListsOf};
 
 use crate::faults::AnswerFault;
 use crate::runs::Run;
