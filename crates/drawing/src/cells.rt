@@ -150,6 +150,31 @@ fn end_cell(end: &ProcEnd) -> Cell
     }
 }
 
+/// A line of a drawing.
+#[derive(Clone, Copy)]
+enum Line<'a> {
+    /// The header.
+    Head,
+    /// What stands before the first letter.
+    Start,
+    /// What one letter did.
+    Row(&'a Row),
+    /// The ends.
+    End,
+}
+
+/// The text of a line in the column of the letters' numbers.
+fn number_cell(line: Line<'_>) -> Cell
+    ensures { result ≡ texts.number_cell (texts.line_of line.entry) }
+{
+    match line {
+        Line::Head => Cell::new().with(b"step"),
+        Line::Start => Cell::new().with(b"0"),
+        Line::Row(row) => Cell::new().with_number(u32::from(row.number)),
+        Line::End => Cell::new(),
+    }
+}
+
 impl Drawing {
     /// How many lines there are: the header, the start, a line a letter, and the ends.
     pub(crate) fn lines(&self) -> usize
@@ -166,14 +191,29 @@ impl Drawing {
         1 + self.ends().len() + self.start().len()
     }
 
+    /// What a line is.
+    fn line_at(&self, line: usize) -> Line<'_>
+        ensures { texts.line_of result ≡ texts.line_at self.now line }
+    {
+        match line {
+            0 => Line::Head,
+            1 => Line::Start,
+            _ => match self.rows().get(line - 2) {
+                Some(row) => Line::Row(row),
+                None => Line::End,
+            },
+        }
+    }
+
     /// The text at a line and a column.
     pub(crate) fn cell(&self, line: usize, column: usize) -> Cell
         requires { column < MOST_COLUMNS }
         ensures { result ≡ texts.cell_text self.now line column }
     {
+        let line = self.line_at(line);
         let processes = self.ends().len();
         if column == 0 {
-            self.number_cell(line)
+            number_cell(line)
         } else if column <= processes {
             self.process_cell(line, column - 1)
         } else {
@@ -181,37 +221,16 @@ impl Drawing {
         }
     }
 
-    /// The text of a line in the column of the letters' numbers.
-    fn number_cell(&self, line: usize) -> Cell
-        ensures { result ≡ texts.number_cell self.now line }
-    {
-        if line == 0 {
-            return Cell::new().with(b"step");
-        }
-        if line == 1 {
-            return Cell::new().with(b"0");
-        }
-        match self.rows().get(line - 2) {
-            Some(row) => Cell::new().with_number(u32::from(row.number)),
-            None => Cell::new(),
-        }
-    }
-
     /// The text of a line in the column of a process.
-    fn process_cell(&self, line: usize, p: usize) -> Cell
+    fn process_cell(&self, line: Line<'_>, p: usize) -> Cell
         requires { p < MOST_COLUMNS }
-        ensures { result ≡ texts.process_cell self.now line p }
+        ensures { result ≡ texts.process_cell self.now.ends p (texts.line_of line.entry) }
     {
-        if line == 0 {
-            return Cell::new().with(b"process ").with_number(p as u32);
-        }
-        if line == 1 {
-            return Cell::new();
-        }
-        match self.rows().get(line - 2) {
-            Some(row) if usize::from(row.process) == p => row_cell(row),
-            Some(_) => Cell::new(),
-            None => match self.ends().get(p) {
+        match line {
+            Line::Head => Cell::new().with(b"process ").with_number(p as u32),
+            Line::Row(row) if usize::from(row.process) == p => row_cell(row),
+            Line::Start | Line::Row(_) => Cell::new(),
+            Line::End => match self.ends().get(p) {
                 Some(end) => end_cell(end),
                 None => Cell::new(),
             },
@@ -219,20 +238,15 @@ impl Drawing {
     }
 
     /// The text of a line in the column of a register.
-    fn register_cell(&self, line: usize, r: usize) -> Cell
+    fn register_cell(&self, line: Line<'_>, r: usize) -> Cell
         requires { r < MOST_COLUMNS }
-        ensures { result ≡ texts.register_cell self.now line r }
+        ensures { result ≡ texts.register_cell self.now.start r (texts.line_of line.entry) }
     {
-        if line == 0 {
-            return Cell::new().with(b"r").with_number(r as u32);
-        }
-        let registers = if line == 1 {
-            self.start()
-        } else {
-            match self.rows().get(line - 2) {
-                Some(row) => row.registers.as_slice(),
-                None => return Cell::new(),
-            }
+        let registers = match line {
+            Line::Head => return Cell::new().with(b"r").with_number(r as u32),
+            Line::Start => self.start(),
+            Line::Row(row) => row.registers.as_slice(),
+            Line::End => return Cell::new(),
         };
         match registers.get(r) {
             Some(held) => held_cell(*held),
