@@ -1,18 +1,16 @@
 -- A machine that is made stands at its start.
 use Rattle.std.proofs.Common.{◌≡◌, ℕ, true, Ok, rules, subst}
 use Rattle.regmodel.specs.Lawful.{IsAtStart}
-use Rattle.regmodel.specs.Program.{Program}
-use Rattle.regmodel.specs.Reply.{Replies}
-use Rattle.regmodel.specs.declared.accesses.Pending.{Pending}
+use Rattle.machine.specs.declared.Machine.{Ghosts}
 use Rattle.uses.specs.Expansions.{expansion}
 use Rattle.uses.specs.Uses.{use_fits}
 use Rattle.uses.specs.declared.kinds.Use.{Use}
 use Rattle.natives.specs.Makes.{IsMadeFor}
 
-pub made-at-start : {M : Type 0} (kind : Use) (registers : ℕ) (program : M → Program) (rest : M → Replies → Pending) (m : M) → use_fits kind registers ≡ true → program m ≡ expansion kind registers → IsAtStart (program m) (rest m) → IsMadeFor kind registers program rest (Ok m)
-made-at-start kind registers program rest m fits same starts = record {
+pub made-at-start : {M : Type 0} (kind : Use) (registers : ℕ) (machine : Ghosts M) (m : M) → use_fits kind registers ≡ true → machine.program m ≡ expansion kind registers → IsAtStart (machine.program m) (machine.rest m) → IsMadeFor kind registers machine (Ok m)
+made-at-start kind registers machine m fits same starts = record {
   same = same;
-  starts = subst (λ p. IsAtStart p (rest m)) same starts;
+  starts = subst (λ p. IsAtStart p (machine.rest m)) same starts;
   limits = rw fits (search rules);
   made = rw fits (search rules);
 }

@@ -2,6 +2,7 @@ pub mod Examples
 pub mod Grids
 pub mod Makes
 pub mod Names
+pub mod Puts
 pub mod Rounds
 pub mod ScannedNames
 pub mod Splits

@@ -1,9 +1,7 @@
 -- What is promised of a machine that is made for a use line.
 use Rattle.std.specs.Prelude.{◌≡◌, ◌↔◌, ℕ, false, Result, Err, IfOk, IsOk, IsTrue}
 use Rattle.regmodel.specs.Lawful.{IsAtStart}
-use Rattle.regmodel.specs.Program.{Program}
-use Rattle.regmodel.specs.Reply.{Replies}
-use Rattle.regmodel.specs.declared.accesses.Pending.{Pending}
+use Rattle.machine.specs.declared.Machine.{Ghosts}
 use Rattle.uses.specs.Expansions.{expansion}
 use Rattle.uses.specs.Uses.{use_fits}
 use Rattle.uses.specs.declared.kinds.Use.{Use}
@@ -12,8 +10,8 @@ use Rattle.natives.specs.declared.TheConstants.{PAST_LIMIT}
 
 -- one over so many registers: its program is the line's expansion, at whose start it stands; it is made exactly where the line is within
 -- its limits, and else they are the fault
-pub record IsMadeFor {M : Type 0} (kind : Use) (registers : ℕ) (program : M → Program) (rest : M → Replies → Pending) (result : Result M MakeFault) : Type 0 where
-  pub same : IfOk result (λ m. program m ≡ expansion kind registers)
-  pub starts : IfOk result (λ m. IsAtStart (expansion kind registers) (rest m))
+pub record IsMadeFor {M : Type 0} (kind : Use) (registers : ℕ) (machine : Ghosts M) (result : Result M MakeFault) : Type 0 where
+  pub same : IfOk result (λ m. machine.program m ≡ expansion kind registers)
+  pub starts : IfOk result (λ m. IsAtStart (expansion kind registers) (machine.rest m))
   pub limits : (result ≡ Err (record { code = PAST_LIMIT })) ↔ (use_fits kind registers ≡ false)
   pub made : IsOk result ↔ IsTrue (use_fits kind registers)

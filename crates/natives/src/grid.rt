@@ -1,10 +1,10 @@
 //! Grids of splitters: a process goes from the first vertex right and down until it stops at one or leaves the grid.
 
-ghost use Rattle.std.specs.Prelude.{◌≡◌, ◌+◌, ◌-◌, ◌*◌, ◌<◌, ◌≤◌, ◌++◌, IfSome};
-ghost use Rattle.told.specs.Numbers.{numbers_in};
+ghost use Rattle.std.specs.Prelude.{◌≡◌, ◌+◌, ◌-◌, ◌*◌, ◌<◌, ◌≤◌};
 ghost use Rattle.regmodel.specs.Reply.{Replies};
 ghost use Rattle.uses.specs.declared.kinds.Use.TheVariants as kind;
 ghost use Rattle.natives.specs.Makes.{IsMadeFor};
+ghost use Rattle.natives.specs.Puts.{ArePut};
 ghost use Rattle.regmodel.specs.declared.limits.TheConstants.{MOST_REGISTERS, MOST_ROWS};
 ghost use Rattle.natives.specs.Grids.{grid_from, grid_numbers};
 
@@ -50,8 +50,7 @@ impl Grid {
     /// The grid of a use line, at its start: BASE, SIDE, ID, and how many registers there are. Fault 1 where a limit of the
     /// line is passed, which [`Use::fits`] tells; no other fault comes. It takes no memory.
     pub fn make(base: u32, side: u32, id: u32, registers: u32) -> Result<Grid, MakeFault>
-        ensures { IsMadeFor (kind.Grid base side id) registers ⟦<Grid as Machine>⟧.program
-            ⟦<Grid as Machine>⟧.rest result }
+        ensures { IsMadeFor (kind.Grid base side id) registers ⟦<Grid as Machine>⟧ result }
     {
         check_fits(Use::Grid(base, side, id), registers)?;
         Ok(Grid {
@@ -94,10 +93,8 @@ impl Grid {
 
     /// Puts where it stands behind the numbers.
     fn put_standing(&self, numbers: &mut Told) -> Option<()>
-        ensures { IfSome result
-            (λ _. numbers_in numbers.new
-            ≡ numbers_in numbers.old
-            ++ grid_numbers self.now.level self.now.vertex self.now.stage) }
+        ensures { ArePut (grid_numbers self.now.level self.now.vertex self.now.stage) numbers.old
+            numbers.new result }
     {
         let level = u32::from(self.level);
         let vertex = u32::from(self.vertex);

@@ -1,12 +1,12 @@
 //! Renamings: a process proposes a name in its slot until no other slot holds it.
 
-ghost use Rattle.std.specs.Prelude.{◌≡◌, ◌+◌, ◌≤◌, ◌∷◌, ◌++◌, IfSome, slice_index};
-ghost use Rattle.told.specs.Numbers.{numbers_in};
+ghost use Rattle.std.specs.Prelude.{◌≡◌, ◌+◌, ◌≤◌, ◌∷◌, slice_index};
 ghost use Rattle.regmodel.specs.Reply.{Replies};
 ghost use Rattle.uses.specs.declared.kinds.Use.TheVariants as kind;
 ghost use Rattle.natives.specs.Makes.{IsMadeFor};
 ghost use Rattle.natives.specs.declared.rounds.Reading.{Reading};
 ghost use Rattle.natives.specs.declared.rounds.Stage.TheVariants.{Looks};
+ghost use Rattle.natives.specs.Puts.{ArePut};
 ghost use Rattle.natives.specs.Names.{IsRead, name_numbers, reading_rest};
 
 use crate::MakeFault;
@@ -31,8 +31,7 @@ impl NameSlots {
     /// The renaming of a use line, at its start: BASE, SLOTS, SLOT, and how many registers there are. Fault 1 where a limit of
     /// the line is passed, which [`Use::fits`] tells; no other fault comes. It takes no memory.
     pub fn make(base: u32, slots: u32, slot: u32, registers: u32) -> Result<NameSlots, MakeFault>
-        ensures { IsMadeFor (kind.Name base slots slot) registers ⟦<NameSlots as Machine>⟧.program
-            ⟦<NameSlots as Machine>⟧.rest result }
+        ensures { IsMadeFor (kind.Name base slots slot) registers ⟦<NameSlots as Machine>⟧ result }
     {
         check_fits(Use::Name(base, slots, slot), registers)?;
         Ok(NameSlots {
@@ -82,25 +81,15 @@ impl NameSlots {
 
     /// Puts the stage behind the numbers, with the numbers that it holds, but not what the slots held.
     fn put_stage(&self, numbers: &mut Told) -> Option<()>
-        ensures { IfSome result
-            (λ _. numbers_in numbers.new
-            ≡ numbers_in numbers.old ++ name_numbers self.now.round.later self.now.round.proposal
-            self.now.round.stage) }
+        ensures { ArePut
+            (name_numbers self.now.round.later self.now.round.proposal self.now.round.stage)
+            numbers.old numbers.new result }
     {
         match self.round.stage {
-            Stage::Proposes => numbers.put_all(&[
-                0,
-                u32::from(self.round.later),
-                self.round.proposal,
-            ]),
+            Stage::Proposes => self.round.put_stage(0, numbers),
             Stage::Looks(reading) => {
-                numbers.put_all(&[
-                    reading.number(),
-                    u32::from(self.round.later),
-                    self.round.proposal,
-                    u32::from(reading.at),
-                    u32::from(reading.rank),
-                ])
+                self.round.put_stage(reading.number(), numbers)?;
+                numbers.put_all(&[u32::from(reading.at), u32::from(reading.rank)])
             }
             Stage::Named => numbers.put_all(&[3, self.round.proposal]),
             Stage::Over => numbers.put(4),

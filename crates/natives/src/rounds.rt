@@ -1,7 +1,7 @@
 //! The rounds of a renaming: its slots, what a round reads in them, and how it ends.
 
-ghost use Rattle.std.specs.Prelude.{◌≡◌, ◌+◌, ◌-◌, ◌*◌, ◌<◌, ◌≤◌, ◌++◌, true, IfSome, length, replicate};
-ghost use Rattle.told.specs.Numbers.{numbers_in};
+ghost use Rattle.std.specs.Prelude.{◌≡◌, ◌+◌, ◌-◌, ◌*◌, ◌<◌, ◌≤◌, [], ◌∷◌, true, length, replicate};
+ghost use Rattle.natives.specs.Puts.{ArePut};
 ghost use Rattle.regmodel.specs.declared.limits.TheConstants.{MOST_REGISTERS, MOST_SLOTS};
 ghost use Rattle.natives.specs.declared.rounds.TheConstants.{LATER};
 ghost use Rattle.natives.specs.declared.rounds.Stage.TheVariants.{Proposes};
@@ -128,11 +128,18 @@ impl<L: Copy> Round<L> {
         }
     }
 
+    /// Puts behind the numbers that of a stage in the round, how many rounds there are after it, and the proposal.
+    pub fn put_stage(&self, stage: u32, numbers: &mut Told) -> Option<()>
+        ensures { ArePut (stage ∷ self.now.later ∷ self.now.proposal ∷ []) numbers.old numbers.new
+            result }
+    {
+        numbers.put_all(&[stage, u32::from(self.later), self.proposal])
+    }
+
     /// Puts what the slots held behind the numbers, where the process stands in the round.
     pub fn put_seen(&self, numbers: &mut Told) -> Option<()>
-        ensures { IfSome result
-            (λ _. numbers_in numbers.new
-            ≡ numbers_in numbers.old ++ seen_numbers self.now.stage self.now.seen) }
+        ensures { ArePut (seen_numbers self.now.stage self.now.seen) numbers.old numbers.new
+            result }
     {
         match self.stage {
             Stage::Proposes | Stage::Looks(_) => put_sparse(&self.seen, numbers),

@@ -1,10 +1,10 @@
 //! Renamings that scan: a process proposes a name in its slot until no other slot holds it, where it sees all slots at once.
 
-ghost use Rattle.std.specs.Prelude.{◌≡◌, ◌∷◌, ◌++◌, IfSome, length};
-ghost use Rattle.told.specs.Numbers.{numbers_in};
+ghost use Rattle.std.specs.Prelude.{◌≡◌, ◌∷◌, length};
 ghost use Rattle.regmodel.specs.Reply.{Replies, one};
 ghost use Rattle.uses.specs.declared.kinds.Use.TheVariants as kind;
 ghost use Rattle.natives.specs.Makes.{IsMadeFor};
+ghost use Rattle.natives.specs.Puts.{ArePut};
 ghost use Rattle.natives.specs.ScannedNames.{scan_round_rest, names_numbers};
 
 use crate::MakeFault;
@@ -30,8 +30,7 @@ impl Names {
     /// The renaming of a use line, at its start: BASE, SLOTS, SLOT, and how many registers there are. Fault 1 where a limit of
     /// the line is passed, which [`Use::fits`] tells; no other fault comes. It takes no memory.
     pub fn make(base: u32, slots: u32, slot: u32, registers: u32) -> Result<Names, MakeFault>
-        ensures { IsMadeFor (kind.Names base slots slot) registers ⟦<Names as Machine>⟧.program
-            ⟦<Names as Machine>⟧.rest result }
+        ensures { IsMadeFor (kind.Names base slots slot) registers ⟦<Names as Machine>⟧ result }
     {
         check_fits(Use::Names(base, slots, slot), registers)?;
         Ok(Names {
@@ -64,22 +63,13 @@ impl Names {
 
     /// Puts the stage behind the numbers, with the numbers that it holds, but not what the slots held.
     fn put_stage(&self, numbers: &mut Told) -> Option<()>
-        ensures { IfSome result
-            (λ _. numbers_in numbers.new
-            ≡ numbers_in numbers.old ++ names_numbers self.now.round.later self.now.round.proposal
-            self.now.round.stage) }
+        ensures { ArePut
+            (names_numbers self.now.round.later self.now.round.proposal self.now.round.stage)
+            numbers.old numbers.new result }
     {
         match self.round.stage {
-            Stage::Proposes => numbers.put_all(&[
-                0,
-                u32::from(self.round.later),
-                self.round.proposal,
-            ]),
-            Stage::Looks(_) => numbers.put_all(&[
-                1,
-                u32::from(self.round.later),
-                self.round.proposal,
-            ]),
+            Stage::Proposes => self.round.put_stage(0, numbers),
+            Stage::Looks(_) => self.round.put_stage(1, numbers),
             Stage::Named => numbers.put_all(&[2, self.round.proposal]),
             Stage::Over => numbers.put(3),
         }

@@ -59,8 +59,7 @@ impl Split {
     /// The splitter of a use line, at its start: BASE, ID, and how many registers there are. Fault 1 where a limit of the
     /// line is passed, which [`Use::fits`] tells; no other fault comes. It takes no memory.
     pub fn make(base: u32, id: u32, registers: u32) -> Result<Split, MakeFault>
-        ensures { IsMadeFor (kind.Split base id) registers ⟦<Split as Machine>⟧.program
-            ⟦<Split as Machine>⟧.rest result }
+        ensures { IsMadeFor (kind.Split base id) registers ⟦<Split as Machine>⟧ result }
     {
         check_fits(Use::Split(base, id), registers)?;
         Ok(Split {

@@ -1,11 +1,11 @@
 //! Collect trees: a process goes down a binary tree of splitters until it stops at a vertex, leaves its value there, and
 //! collects the values of the vertices whose marks it reads.
 
-ghost use Rattle.std.specs.Prelude.{◌≡◌, ℕ, suc, ◌+◌, ◌-◌, ◌*◌, ◌^◌, ◌<◌, ◌≤◌, [], ◌∷◌, ◌++◌, true, false, IfSome, length, replicate, slice_set};
-ghost use Rattle.told.specs.Numbers.{numbers_in};
+ghost use Rattle.std.specs.Prelude.{◌≡◌, ℕ, suc, ◌+◌, ◌-◌, ◌*◌, ◌^◌, ◌<◌, ◌≤◌, [], ◌∷◌, true, false, IfSome, length, replicate, slice_set};
 ghost use Rattle.regmodel.specs.Reply.{Replies, one};
 ghost use Rattle.uses.specs.declared.kinds.Use.TheVariants as kind;
 ghost use Rattle.natives.specs.Makes.{IsMadeFor};
+ghost use Rattle.natives.specs.Puts.{ArePut};
 ghost use Rattle.regmodel.specs.declared.limits.TheConstants.{MOST_LEVELS, MOST_REGISTERS};
 ghost use Rattle.natives.specs.declared.trees.Stage.TheVariants.{Sees, Takes};
 ghost use Rattle.natives.specs.Trees.{IsIn, collect_numbers, tree_numbers, below_reached, from_vertex, from_past, from_at, from_next};
@@ -87,8 +87,7 @@ impl Tree {
         value: u32,
         registers: u32,
     ) -> Result<Tree, MakeFault>
-        ensures { IsMadeFor (kind.Tree base depth id value) registers ⟦<Tree as Machine>⟧.program
-            ⟦<Tree as Machine>⟧.rest result }
+        ensures { IsMadeFor (kind.Tree base depth id value) registers ⟦<Tree as Machine>⟧ result }
     {
         check_fits(Use::Tree(base, depth, id, value), registers)?;
         let depth = depth as u8;
@@ -219,10 +218,8 @@ impl Tree {
 
     /// Puts behind the numbers that a vertex is looked at, with the number of the stage, and what was collected before it.
     fn put_collect(&self, stage: u32, vertex: u8, numbers: &mut Told) -> Option<()>
-        ensures { IfSome result
-            (λ _. numbers_in numbers.new
-            ≡ numbers_in numbers.old
-            ++ collect_numbers self.now.reached self.now.numbers.items stage vertex) }
+        ensures { ArePut (collect_numbers self.now.reached self.now.numbers.items stage vertex)
+            numbers.old numbers.new result }
     {
         let reached = packed(&self.reached)?;
         numbers.put_all(&[stage, u32::from(vertex), reached])?;
@@ -231,11 +228,9 @@ impl Tree {
 
     /// Puts where it stands behind the numbers.
     fn put_standing(&self, numbers: &mut Told) -> Option<()>
-        ensures { IfSome result
-            (λ _. numbers_in numbers.new
-            ≡ numbers_in numbers.old
-            ++ tree_numbers self.now.vertex self.now.levels self.now.reached
-            self.now.numbers.items self.now.stage) }
+        ensures { ArePut
+            (tree_numbers self.now.vertex self.now.levels self.now.reached self.now.numbers.items
+            self.now.stage) numbers.old numbers.new result }
     {
         let vertex = u32::from(self.vertex);
         let levels = u32::from(self.levels);
