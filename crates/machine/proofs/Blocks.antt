@@ -1,12 +1,12 @@
 -- Statements with parts, and how deep the statements of a block are nested.
-use Rattle.std.proofs.Common.{◌≡◌, ℕ, ◌+◌, ◌<◌, ◌≤◌, max, List, Vec, Global, length, get_or, refl, ap, sym, ◌∙◌, arith}
+use Rattle.std.proofs.Common.{◌≡◌, ℕ, suc, ◌+◌, ◌<◌, ◌≤◌, max, List, Vec, Global, length, get_or, refl, ap, sym, ◌∙◌, arith}
 use Rattle.regmodel.specs.declared.programs.Expr.{Expr}
 use Rattle.regmodel.specs.declared.programs.Stmt.{Stmt, If, Repeat}
 use Rattle.regmodel.specs.Program as program
 use Rattle.regmodel.specs.Program.{Block, Stop, with_stmt, block_of}
 use Rattle.regmodel.specs.Limits.{open_blocks}
 use Rattle.regmodel.proofs.Rows.{with_stmt-If, with_stmt-Repeat}
-use Rattle.regmodel.proofs.Blocks.{open_blocks-step, open_blocks-drop}
+use Rattle.regmodel.proofs.Blocks.{nesting-step, nesting-drop}
 
 pub if_block : (x : Stmt) (e : Expr) (a b : Vec Stmt Global) (rest : Block) → x ≡ If e a b → with_stmt x rest ≡ program.If e (block_of a.items) (block_of b.items) rest
 if_block x e a b rest h = ap (λ y. with_stmt y rest) h ∙ with_stmt-If e a b rest
@@ -16,7 +16,7 @@ repeat_block x e a row rest h k =
     ap (λ y. with_stmt y rest) h ∙ with_stmt-Repeat e a rest ∙ ap (λ y. program.Repeat e (block_of y) rest) (sym k)
 
 pub open_blocks_at : (xs : List Stmt) (i : ℕ) (x : Stmt) → i < length xs → x ≡ get_or xs i x → open_blocks (with_stmt x Stop) ≤ open_blocks (block_of xs)
-open_blocks_at xs i x h e = omega (arith, open_blocks-drop i xs, open_blocks-step xs i x h e)
+open_blocks_at xs i x h e = omega (arith, nesting-drop suc i xs, nesting-step suc xs i x h e)
 
 pub open_blocks_if : (x : Stmt) (e : Expr) (a b : Vec Stmt Global) → x ≡ If e a b → open_blocks (with_stmt x Stop) ≡ max (open_blocks (block_of a.items)) (open_blocks (block_of b.items)) + 1
 open_blocks_if x e a b h = let k = ap open_blocks (if_block x e a b Stop h) in omega (arith, k)

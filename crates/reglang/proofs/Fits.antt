@@ -4,7 +4,7 @@ use Rattle.std.specs.Prelude.{if◌then◌else◌, ◌&&◌, nat_lt}
 use Rattle.std.proofs.lemmas.Bool.{and_parts, and_from, leb-true, ltb-true}
 use Rattle.std.proofs.lemmas.List.Elements.{All-append, All-from_recursion}
 use Rattle.regmodel.specs.declared.programs.Expr.{Expr}
-use Rattle.regmodel.specs.Limits.{target_fits, operand_fits, expr_fits, scan_fits, operands_fit, statements, open_blocks, open_repeats}
+use Rattle.regmodel.specs.Limits.{target_fits, operand_fits, expr_fits, scan_fits, operands_fit, statements, nesting, open_blocks, open_repeats}
 use Rattle.regmodel.specs.Program as program
 use Rattle.regmodel.specs.Program.{Block, Stop}
 use Rattle.reglang.specs.Contents.{Contents, Body, Text, Kind, IsBodyWithin, IsSourceWithin, clause_fits}
@@ -44,32 +44,21 @@ statements-join (program.Repeat e body rest) b = omega (arith, statements-join r
 statements-join (program.Emit e rest) b = omega (arith, statements-join rest b)
 statements-join (program.Halt rest) b = omega (arith, statements-join rest b)
 
-pub open_blocks-join : (a b : Block) → open_blocks (a ⊕ b) ≡ max (open_blocks a) (open_blocks b)
-open_blocks-join Stop b = omega arith
-open_blocks-join (program.Assign t e rest) b = open_blocks-join rest b
-open_blocks-join (program.Read t a rest) b = open_blocks-join rest b
-open_blocks-join (program.Write a e rest) b = open_blocks-join rest b
-open_blocks-join (program.Scan cell first count rest) b = open_blocks-join rest b
-open_blocks-join (program.If e first second rest) b = omega (arith, open_blocks-join rest b)
-open_blocks-join (program.Repeat e body rest) b = omega (arith, open_blocks-join rest b)
-open_blocks-join (program.Emit e rest) b = open_blocks-join rest b
-open_blocks-join (program.Halt rest) b = open_blocks-join rest b
-
-pub open_repeats-join : (a b : Block) → open_repeats (a ⊕ b) ≡ max (open_repeats a) (open_repeats b)
-open_repeats-join Stop b = omega arith
-open_repeats-join (program.Assign t e rest) b = open_repeats-join rest b
-open_repeats-join (program.Read t a rest) b = open_repeats-join rest b
-open_repeats-join (program.Write a e rest) b = open_repeats-join rest b
-open_repeats-join (program.Scan cell first count rest) b = open_repeats-join rest b
-open_repeats-join (program.If e first second rest) b = omega (arith, open_repeats-join rest b)
-open_repeats-join (program.Repeat e body rest) b = omega (arith, open_repeats-join rest b)
-open_repeats-join (program.Emit e rest) b = open_repeats-join rest b
-open_repeats-join (program.Halt rest) b = open_repeats-join rest b
+nesting-join : (around_if : ℕ → ℕ) (a b : Block) → nesting around_if (a ⊕ b) ≡ max (nesting around_if a) (nesting around_if b)
+nesting-join around_if Stop b = omega arith
+nesting-join around_if (program.Assign t e rest) b = nesting-join around_if rest b
+nesting-join around_if (program.Read t a rest) b = nesting-join around_if rest b
+nesting-join around_if (program.Write a e rest) b = nesting-join around_if rest b
+nesting-join around_if (program.Scan cell first count rest) b = nesting-join around_if rest b
+nesting-join around_if (program.If e first second rest) b = omega (arith, nesting-join around_if rest b)
+nesting-join around_if (program.Repeat e body rest) b = omega (arith, nesting-join around_if rest b)
+nesting-join around_if (program.Emit e rest) b = nesting-join around_if rest b
+nesting-join around_if (program.Halt rest) b = nesting-join around_if rest b
 
 fits_join : (registers blocks repeats : ℕ) (a b : Block) → BlockFits registers blocks repeats a → BlockFits registers blocks repeats b → BlockFits registers blocks repeats (a ⊕ b)
 fits_join registers blocks repeats a b h k =
-    let depth = open_blocks-join a b in
-    let turning = open_repeats-join a b in
+    let depth = nesting-join suc a b in
+    let turning = nesting-join (λ depth. depth) a b in
     let hd = h.depth in let kd = k.depth in let ht = h.turning in let kt = k.turning in
     record { operands = operands-join registers a b ∙ and_from _ _ h.operands k.operands; depth = omega arith; turning = omega arith }
 

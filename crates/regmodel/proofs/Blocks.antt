@@ -6,7 +6,7 @@ use Rattle.regmodel.specs.declared.programs.Stmt.{Stmt, If, Repeat}
 use Rattle.regmodel.specs.declared.programs.Stmt.TheVariants as stmt
 use Rattle.regmodel.specs.Program as program
 use Rattle.regmodel.specs.Program.{Block, Stop, with_stmt, block_of}
-use Rattle.regmodel.specs.Limits.{open_blocks, open_repeats, statements, operands_fit, target_fits, operand_fits, expr_fits, scan_fits}
+use Rattle.regmodel.specs.Limits.{nesting, statements, operands_fit, target_fits, operand_fits, expr_fits, scan_fits}
 use Rattle.regmodel.proofs.Rows.{with_stmt-If, with_stmt-Repeat}
 
 pub block_of-drop : (xs : List Stmt) (i : ℕ) (x : Stmt) → i < length xs → x ≡ get_or xs i x → block_of (drop i xs) ≡ with_stmt x (block_of (drop (i + 1) xs))
@@ -14,13 +14,9 @@ block_of-drop xs i x h e = ap block_of (drop-cons xs i x h) ∙ rw (← e, add-o
 
 -- ---- a statement before the rest of its block
 
-open_blocks-with_stmt : (s : Stmt) (b : Block) → open_blocks (with_stmt s b) ≡ max (open_blocks (with_stmt s Stop)) (open_blocks b)
-open_blocks-with_stmt (stmt.Assign t e) b = omega arith
-open_blocks-with_stmt _ b = omega arith
-
-open_repeats-with_stmt : (s : Stmt) (b : Block) → open_repeats (with_stmt s b) ≡ max (open_repeats (with_stmt s Stop)) (open_repeats b)
-open_repeats-with_stmt (stmt.Assign t e) b = omega arith
-open_repeats-with_stmt _ b = omega arith
+nesting-with_stmt : (around_if : ℕ → ℕ) (s : Stmt) (b : Block) → nesting around_if (with_stmt s b) ≡ max (nesting around_if (with_stmt s Stop)) (nesting around_if b)
+nesting-with_stmt around_if (stmt.Assign t e) b = omega arith
+nesting-with_stmt around_if _ b = omega arith
 
 statements-with_stmt : (s : Stmt) (b : Block) → statements (with_stmt s b) ≡ statements (with_stmt s Stop) + statements b
 statements-with_stmt (stmt.Assign t e) b = omega arith
@@ -43,11 +39,8 @@ operands_fit-with_stmt n stmt.Halt b = refl
 
 -- ---- a loop over a list of statements, at statement x
 
-pub open_blocks-step : (xs : List Stmt) (i : ℕ) (x : Stmt) → i < length xs → x ≡ get_or xs i x → open_blocks (block_of (drop i xs)) ≡ max (open_blocks (with_stmt x Stop)) (open_blocks (block_of (drop (i + 1) xs)))
-open_blocks-step xs i x h e = ap open_blocks (block_of-drop xs i x h e) ∙ open_blocks-with_stmt x (block_of (drop (i + 1) xs))
-
-pub open_repeats-step : (xs : List Stmt) (i : ℕ) (x : Stmt) → i < length xs → x ≡ get_or xs i x → open_repeats (block_of (drop i xs)) ≡ max (open_repeats (with_stmt x Stop)) (open_repeats (block_of (drop (i + 1) xs)))
-open_repeats-step xs i x h e = ap open_repeats (block_of-drop xs i x h e) ∙ open_repeats-with_stmt x (block_of (drop (i + 1) xs))
+pub nesting-step : (around_if : ℕ → ℕ) (xs : List Stmt) (i : ℕ) (x : Stmt) → i < length xs → x ≡ get_or xs i x → nesting around_if (block_of (drop i xs)) ≡ max (nesting around_if (with_stmt x Stop)) (nesting around_if (block_of (drop (i + 1) xs)))
+nesting-step around_if xs i x h e = ap (nesting around_if) (block_of-drop xs i x h e) ∙ nesting-with_stmt around_if x (block_of (drop (i + 1) xs))
 
 pub statements-step : (xs : List Stmt) (i : ℕ) (x : Stmt) → i < length xs → x ≡ get_or xs i x → statements (block_of (drop i xs)) ≡ statements (with_stmt x Stop) + statements (block_of (drop (i + 1) xs))
 statements-step xs i x h e = ap statements (block_of-drop xs i x h e) ∙ statements-with_stmt x (block_of (drop (i + 1) xs))
@@ -62,15 +55,10 @@ operands_fit-drop n (suc k) [] h = h
 operands_fit-drop n (suc k) (s ∷ xs) h = operands_fit-drop n k xs (and_parts (operands_fit n (with_stmt s Stop)) (operands_fit n (block_of xs)) (subst IsTrue (operands_fit-with_stmt n s (block_of xs)) h)).1
 
 -- what is left of a list is not nested deeper than the whole
-pub open_blocks-drop : (k : ℕ) (xs : List Stmt) → open_blocks (block_of (drop k xs)) ≤ open_blocks (block_of xs)
-open_blocks-drop zero xs = omega arith
-open_blocks-drop (suc k) [] = omega arith
-open_blocks-drop (suc k) (s ∷ xs) = omega (arith, open_blocks-drop k xs, open_blocks-with_stmt s (block_of xs))
-
-pub open_repeats-drop : (k : ℕ) (xs : List Stmt) → open_repeats (block_of (drop k xs)) ≤ open_repeats (block_of xs)
-open_repeats-drop zero xs = omega arith
-open_repeats-drop (suc k) [] = omega arith
-open_repeats-drop (suc k) (s ∷ xs) = omega (arith, open_repeats-drop k xs, open_repeats-with_stmt s (block_of xs))
+pub nesting-drop : (around_if : ℕ → ℕ) (k : ℕ) (xs : List Stmt) → nesting around_if (block_of (drop k xs)) ≤ nesting around_if (block_of xs)
+nesting-drop around_if zero xs = omega arith
+nesting-drop around_if (suc k) [] = omega arith
+nesting-drop around_if (suc k) (s ∷ xs) = omega (arith, nesting-drop around_if k xs, nesting-with_stmt around_if s (block_of xs))
 
 -- ---- a statement with parts
 

@@ -1,5 +1,5 @@
 -- The limits of a program. What faults only when it is run is no such limit.
-use Rattle.std.specs.Prelude.{ℕ, ◌+◌, ◌<◌, ◌≤◌, Bool, true, ◌&&◌, IsTrue, max, nat_lt, nat_le}
+use Rattle.std.specs.Prelude.{ℕ, suc, ◌+◌, ◌<◌, ◌≤◌, Bool, true, ◌&&◌, IsTrue, max, nat_lt, nat_le}
 use Rattle.regmodel.specs.declared.limits.TheConstants.{CELLS, GREATEST_VALUE, MOST_OPEN_BLOCKS, MOST_OPEN_REPEATS, MOST_REGISTERS, MOST_STATEMENTS, VARIABLES}
 use Rattle.regmodel.specs.declared.programs.Target.{Target}
 use Rattle.regmodel.specs.declared.programs.Target.TheVariants as target
@@ -55,29 +55,25 @@ statements (Repeat e body rest) = 1 + statements body + statements rest
 statements (Emit e rest) = 1 + statements rest
 statements (Halt rest) = 1 + statements rest
 
+-- how deep blocks are nested: a `repeat` around them makes one deeper, an `if` makes this of the depth within it
+abbrev pub nesting : (ℕ → ℕ) → Block → ℕ
+nesting around_if Stop = 0
+nesting around_if (Assign t e rest) = nesting around_if rest
+nesting around_if (Read t a rest) = nesting around_if rest
+nesting around_if (Write a e rest) = nesting around_if rest
+nesting around_if (Scan cell first count rest) = nesting around_if rest
+nesting around_if (If e first second rest) = max (around_if (max (nesting around_if first) (nesting around_if second))) (nesting around_if rest)
+nesting around_if (Repeat e body rest) = max (nesting around_if body + 1) (nesting around_if rest)
+nesting around_if (Emit e rest) = nesting around_if rest
+nesting around_if (Halt rest) = nesting around_if rest
+
 -- how deep `if` and `repeat` are nested
 abbrev pub open_blocks : Block → ℕ
-open_blocks Stop = 0
-open_blocks (Assign t e rest) = open_blocks rest
-open_blocks (Read t a rest) = open_blocks rest
-open_blocks (Write a e rest) = open_blocks rest
-open_blocks (Scan cell first count rest) = open_blocks rest
-open_blocks (If e first second rest) = max (max (open_blocks first) (open_blocks second) + 1) (open_blocks rest)
-open_blocks (Repeat e body rest) = max (open_blocks body + 1) (open_blocks rest)
-open_blocks (Emit e rest) = open_blocks rest
-open_blocks (Halt rest) = open_blocks rest
+open_blocks block = nesting suc block
 
 -- how deep `repeat` is nested
 abbrev pub open_repeats : Block → ℕ
-open_repeats Stop = 0
-open_repeats (Assign t e rest) = open_repeats rest
-open_repeats (Read t a rest) = open_repeats rest
-open_repeats (Write a e rest) = open_repeats rest
-open_repeats (Scan cell first count rest) = open_repeats rest
-open_repeats (If e first second rest) = max (max (open_repeats first) (open_repeats second)) (open_repeats rest)
-open_repeats (Repeat e body rest) = max (open_repeats body + 1) (open_repeats rest)
-open_repeats (Emit e rest) = open_repeats rest
-open_repeats (Halt rest) = open_repeats rest
+open_repeats block = nesting (λ depth. depth) block
 
 -- a program within the limits
 pub record IsWithin (program : Program) : Type 0 where

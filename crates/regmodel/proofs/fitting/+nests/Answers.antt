@@ -1,7 +1,7 @@
-use Rattle.std.proofs.Common.{ap, refl, arith}
+use Rattle.std.proofs.Common.{suc, ap, refl, arith}
 use Rattle.regmodel.specs.Limits.{open_blocks, open_repeats}
 use Rattle.regmodel.specs.Program.{block_of}
-use Rattle.regmodel.proofs.Blocks.{open_blocks-step, open_repeats-step, open_blocks-drop, open_repeats-drop, with_stmt_if, with_stmt_repeat}
+use Rattle.regmodel.proofs.Blocks.{nesting-step, nesting-drop, with_stmt_if, with_stmt_repeat}
 use Rattle.regmodel.proofs.fitting.+nests.Goals as goal
 
 pub nests_within-returns-then-not-stmt_nests_within : goal.nests_within-returns-then-not-stmt_nests_within
@@ -9,17 +9,17 @@ nests_within-returns-then-not-stmt_nests_within t c =
     let i = c.loop-stmt.stmt-index in
     let x = c.stmt-item.result in
     let block = c.args.block.now in
-    let a = open_blocks-step block i x (omega arith) c.stmt-item.is in
-    let b = open_repeats-step block i x (omega arith) c.stmt-item.is in
-    (λ h. absurd (cc h), λ h. c.if-not-stmt_nests_within.ensures.1 (omega (arith, a, open_blocks-drop i block, h.0), omega (arith, b, open_repeats-drop i block, h.1)))
+    let a = nesting-step suc block i x (omega arith) c.stmt-item.is in
+    let b = nesting-step (λ depth. depth) block i x (omega arith) c.stmt-item.is in
+    (λ h. absurd (cc h), λ h. c.if-not-stmt_nests_within.ensures.1 (omega (arith, a, nesting-drop suc i block, h.0), omega (arith, b, nesting-drop (λ depth. depth) i block, h.1)))
 
 pub nests_within-loop-stmt-preserved : goal.nests_within-loop-stmt-preserved
 nests_within-loop-stmt-preserved t c =
     let i = c.loop-stmt.stmt-index in
     let x = c.stmt-item.result in
     let block = c.args.block.now in
-    let a = open_blocks-step block i x (omega arith) c.stmt-item.is in
-    let b = open_repeats-step block i x (omega arith) c.stmt-item.is in
+    let a = nesting-step suc block i x (omega arith) c.stmt-item.is in
+    let b = nesting-step (λ depth. depth) block i x (omega arith) c.stmt-item.is in
     let fits = c.if-not-stmt_nests_within.ensures.0 refl in
     record {
       blocks = λ h. c.loop-stmt.invariant.blocks (omega (arith, a, h, fits.0));
