@@ -22,9 +22,13 @@ pub record StmtRunsTo (run : Replies → Flow) (result : Result StmtExit ℕ) (n
   pub flow : (s : Replies) → run s ≡ stmt_flow result n fs whole rest env s
   pub asks : StmtAsks result n fs whole env
 
--- so does the statement with which a block begins, run from the old environment
-abbrev pub StmtRuns : Result StmtExit ℕ → ℕ → List Frame → Block → Block → Env → Env → Type 0
-StmtRuns result n fs whole rest old new = StmtRunsTo (exec whole n old) result n fs whole rest new
+-- so does a statement, run from the old environment, whatever rest follows it
+abbrev pub StmtRuns : Result StmtExit ℕ → ℕ → List Frame → (Block → Block) → Env → Env → Type 0
+StmtRuns result n fs before old new = (rest : Block) → StmtRunsTo (exec (before rest) n old) result n fs (before rest) rest new
+
+-- so does one that comes to its access, or to a fault before it, and changes nothing
+abbrev pub ComesTo : Result StmtExit ℕ → ℕ → (Block → Block) → Env → Type 0
+ComesTo result n before env = (fs : List Frame) → StmtRuns result n fs before env env
 
 -- a run comes to what is left to do after a block, and the access that is told is the one that is wanted
 pub record BlockRunsTo (run : Replies → Flow) (result : Result BlockExit ℕ) (n : ℕ) (fs : List Frame) (b : Block) (env : Env) : Type 0 where

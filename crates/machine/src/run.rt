@@ -11,7 +11,7 @@ ghost use Rattle.machine.specs.declared.run.Frame.{Frame};
 ghost use Rattle.machine.specs.Stores.{env_of};
 ghost use Rattle.machine.specs.Paths.{of_arm, arm_at};
 ghost use Rattle.machine.specs.Exits.{exit_through, times_then};
-ghost use Rattle.machine.specs.Runs.{CanRun, StmtRuns, StmtRunsTo, BlockRunsTo};
+ghost use Rattle.machine.specs.Runs.{CanRun, ComesTo, StmtRuns, StmtRunsTo, BlockRunsTo};
 
 use crate::values::{Place, Store};
 use regmodel::faults::{NO_PLACE, TOO_MANY_NUMBERS, TOO_MANY_TURNS};
@@ -65,9 +65,8 @@ pub enum BlockExit {
 
 /// Evaluates the expression, then stores its value.
 fn assign(target: Target, value: Expr, store: &mut Store) -> Result<StmtExit, u8>
-    ensures { (n : ℕ) (fs : List Frame) (rest : Block)
-        → StmtRuns result n fs (Assign target value rest) rest (env_of store.old)
-        (env_of store.new) }
+    ensures { (n : ℕ) (fs : List Frame)
+        → StmtRuns result n fs (Assign target value) (env_of store.old) (env_of store.new) }
 {
     let number = store.expr(value)?;
     let place = store.place(target)?;
@@ -92,9 +91,7 @@ fn register(operand: Operand, registers: u32, store: &Store) -> Result<u8, u8>
 /// A read up to its access: first the register, then the place where the reply is to be stored.
 fn read(to: Target, from: Operand, registers: u32, store: &Store) -> Result<StmtExit, u8>
     requires { registers ≤ MOST_REGISTERS }
-    ensures { (fs : List Frame) (rest : Block)
-        → StmtRuns result registers fs (Read to from rest) rest (env_of store.now)
-        (env_of store.now) }
+    ensures { ComesTo result registers (Read to from) (env_of store.now) }
 {
     let register = register(from, registers, store)?;
     let place = store.place(to)?;
@@ -104,9 +101,7 @@ fn read(to: Target, from: Operand, registers: u32, store: &Store) -> Result<Stmt
 /// A write up to its access: first the register, then the value.
 fn write(to: Operand, value: Expr, registers: u32, store: &Store) -> Result<StmtExit, u8>
     requires { registers ≤ MOST_REGISTERS }
-    ensures { (fs : List Frame) (rest : Block)
-        → StmtRuns result registers fs (Write to value rest) rest (env_of store.now)
-        (env_of store.now) }
+    ensures { ComesTo result registers (Write to value) (env_of store.now) }
 {
     let register = register(to, registers, store)?;
     let number = store.expr(value)?;
@@ -120,8 +115,7 @@ fn write(to: Operand, value: Expr, registers: u32, store: &Store) -> Result<Stmt
 fn scan(cell: u32, first: u32, count: u32, registers: u32) -> StmtExit
     requires small { registers ≤ MOST_REGISTERS }
     requires fits { IsTrue (scan_fits registers cell first count) }
-    ensures { (fs : List Frame) (rest : Block) (env : Env)
-        → StmtRuns (Ok result) registers fs (Scan cell first count rest) rest env env }
+    ensures { (env : Env) → ComesTo (Ok result) registers (Scan cell first count) env }
 {
     let (cell, first, count) = (cell as u8, first as u8, count as u8);
     StmtExit::Wants(
@@ -132,8 +126,8 @@ fn scan(cell: u32, first: u32, count: u32, registers: u32) -> StmtExit
 
 /// Appends a number to those of the process; a fault where there are as many as may be.
 fn emit(value: Expr, store: &mut Store) -> Result<StmtExit, u8>
-    ensures { (n : ℕ) (fs : List Frame) (rest : Block)
-        → StmtRuns result n fs (Emit value rest) rest (env_of store.old) (env_of store.new) }
+    ensures { (n : ℕ) (fs : List Frame)
+        → StmtRuns result n fs (Emit value) (env_of store.old) (env_of store.new) }
 {
     let number = store.expr(value)?;
     if store.emitted.is_full() {
@@ -182,8 +176,7 @@ fn run_stmt(
     frames: &mut [Frame],
 ) -> Result<StmtExit, u8>
     requires { CanRun registers depth (with_stmt stmt.now Stop) frames.old }
-    ensures { (rest : Block)
-        → StmtRuns result registers (drop (depth + 1) frames.new) (with_stmt stmt.now rest) rest
+    ensures { StmtRuns result registers (drop (depth + 1) frames.new) (with_stmt stmt.now)
         (env_of store.old) (env_of store.new) }
 {
     match stmt {

@@ -63,7 +63,7 @@ pub run_stmt-returns-in-Emit : goal.run_stmt-returns-in-Emit
 run_stmt-returns-in-Emit t c = rw c.in-Emit.is (c.emit.ensures c.args.registers _)
 
 pub run_stmt-returns-in-Scan : goal.run_stmt-returns-in-Scan
-run_stmt-returns-in-Scan t c = rw c.in-Scan.is (λ rest. c.scan.ensures _ rest _)
+run_stmt-returns-in-Scan t c = rw c.in-Scan.is (c.scan.ensures _ _)
 
 pub run_stmt-returns-in_ok-expr-in-If : goal.run_stmt-returns-in_ok-expr-in-If
 run_stmt-returns-in_ok-expr-in-If t c = λ rest.
