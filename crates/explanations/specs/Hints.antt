@@ -1,9 +1,10 @@
 -- What to write in place of an unknown word.
-use Rattle.std.specs.Prelude.{ℕ, ◌==◌, ◌||◌, Bool, true, false, if◌then◌else◌, List, [], ◌∷◌, Option, Some, None, codes}
+use Rattle.std.specs.Prelude.{ℕ, ◌==◌, ◌||◌, Bool, true, false, if◌then◌else◌, List, [], ◌∷◌, Option, Some, None, codes, is_some}
 use Rattle.std.specs.List.{list_any}
 use Rattle.std.specs.Str.{bytes_eq}
 use Rattle.explanations.specs.LineForms.{first_of, form_of}
 use Rattle.explanations.specs.Misfits.{first_that, is_keyword, is_unknown}
+use Rattle.reglang.specs.Forms.{target_of}
 use Rattle.reglang.specs.Words.{word_of}
 use Rattle.reglang.specs.declared.words.Keyword.TheVariants as keyword
 use Rattle.reglang.specs.declared.words.Word.{Word}
@@ -47,10 +48,7 @@ later_hint word =
 
 -- whether a word is a variable or a cell
 abbrev pub is_target : Word → Bool
-is_target (word.Var i) = true
-is_target (word.Cell i) = true
-is_target (word.CellOf i) = true
-is_target _ = false
+is_target word = is_some (target_of word)
 
 -- of a first word
 abbrev pub first_hint : List ℕ → List ℕ

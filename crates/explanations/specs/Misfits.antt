@@ -1,6 +1,7 @@
 -- Which word of a refused line is at fault.
 use Rattle.std.specs.Prelude.{ℕ, ◌==◌, ◌||◌, Bool, true, false, not, if◌then◌else◌, List, [], ◌∷◌, Option, Some, None, is_some, nat_lt, option_map}
 use Rattle.regmodel.specs.declared.limits.TheConstants.{GREATEST_VALUE}
+use Rattle.regmodel.specs.declared.programs.Operand.TheVariants as operand
 use Rattle.reglang.specs.declared.refusals.TheConstants.{NO_CLAUSE, NO_FORM, NO_NUMBER, PAST_LIMIT, UNKNOWN_WORD}
 use Rattle.reglang.specs.Forms.{argument_of, is_known, is_no_number, kind_of, operator_of, property_of}
 use Rattle.reglang.specs.Lines.{words}
@@ -32,7 +33,7 @@ is_operator word = is_some (operator_of word)
 
 -- whether it is a number past the greatest one
 abbrev pub is_past : Word → Bool
-is_past (word.Number n) = nat_lt GREATEST_VALUE n
+is_past (word.Operand (operand.Number n)) = nat_lt GREATEST_VALUE n
 is_past _ = false
 
 -- what the words of these sorts must be, place by place; an expression in its longest form is an operand, an operator and an operand

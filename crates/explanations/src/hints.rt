@@ -7,7 +7,7 @@ ghost use Rattle.reglang.specs.Lines.{words};
 
 use crate::line_forms::{first_of, form_of};
 use crate::misfits::first_unknown;
-use reglang::{Keyword, Word, split_word, word_of};
+use reglang::{Keyword, Word, split_word, target_of, word_of};
 
 /// Whether a byte stands in an operator.
 fn is_operator_byte(byte: u8) -> bool
@@ -80,13 +80,10 @@ fn later_hint(word: &[u8]) -> &'static str
 fn first_hint(word: &[u8]) -> &'static str
     ensures { result.now ≡ spec.first_hint word.now }
 {
-    match word_of(word) {
-        Word::Var(_) | Word::Cell(_) | Word::CellOf(_) => {
-            "write set before it, as in set v0 v0 + 1"
-        }
-        _ => {
-            "begin the line with one of registers, process, end, set, read, write, scan, if, else, fi, repeat, done, emit, halt, use and check"
-        }
+    if target_of(word_of(word)).is_some() {
+        "write set before it, as in set v0 v0 + 1"
+    } else {
+        "begin the line with one of registers, process, end, set, read, write, scan, if, else, fi, repeat, done, emit, halt, use and check"
     }
 }
 

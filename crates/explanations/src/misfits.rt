@@ -11,6 +11,7 @@ use reglang::{
     is_known, kind_of, kind_sorts, operator_of, property_of, property_sorts, sorts_after,
     split_word, word_of,
 };
+use regmodel::Operand;
 use regmodel::limits::GREATEST_VALUE;
 
 /// The word of a line that is at fault, where the fault of the line has this code: for code 2 the first unknown one, for code 3 the first
@@ -86,7 +87,7 @@ fn is_past(word: Word) -> bool
     ensures { result ≡ spec.is_past word }
 {
     match word {
-        Word::Number(n) => n > GREATEST_VALUE,
+        Word::Operand(Operand::Number(n)) => n > GREATEST_VALUE,
         _ => false,
     }
 }

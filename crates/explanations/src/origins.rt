@@ -2,26 +2,15 @@
 
 ghost use Rattle.std.specs.Prelude.{◌≡◌, ℕ, ◌+◌, ◌<◌, ◌≤◌, option_copied};
 ghost use Rattle.explanations.specs.Origins as spec;
-ghost use Rattle.reglang.specs.Forms.{number_in};
 ghost use Rattle.reglang.specs.Lines.{words};
 
-use reglang::{Word, enclosed, split_line, split_word, word_of};
+use reglang::{enclosed, number_in, split_line, split_word, word_of};
 
 /// Where a line comes from: a file, and the number of the line there, counted from 1.
 #[derive(Clone, Copy)]
 pub struct Origin<'a> {
     pub path: &'a [u8],
     pub line: u64,
-}
-
-/// The number that a word is.
-fn number_in(word: Word) -> Option<u32>
-    ensures { result ≡ number_in word }
-{
-    match word {
-        Word::Number(n) => Some(n),
-        _ => None,
-    }
 }
 
 /// The number that the first word is.

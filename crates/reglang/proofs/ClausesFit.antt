@@ -6,6 +6,7 @@ use Rattle.std.proofs.lemmas.Bool.{and_from}
 use Rattle.regmodel.specs.declared.clauses.Clause.{Clause}
 use Rattle.regmodel.specs.declared.programs.Expr.{Expr}
 use Rattle.regmodel.specs.declared.programs.Operand.{Operand}
+use Rattle.regmodel.specs.declared.programs.Operand.TheVariants as operand
 use Rattle.regmodel.specs.declared.programs.Target.{Target}
 use Rattle.uses.specs.declared.kinds.Use.{Use}
 use Rattle.reglang.specs.Arguments.{are_of, clause_with, line_with}
@@ -56,7 +57,7 @@ number_chosen limit n true h = h
 number_chosen limit n false h = tt
 
 number_fits : (limit : ℕ) (w : Word) → IsUpTo limit (number_to limit w)
-number_fits limit (word.Number n) = number_chosen limit n (leb n limit) refl
+number_fits limit (word.Operand (operand.Number n)) = number_chosen limit n (leb n limit) refl
 number_fits limit _ = tt
 
 limited_more : (limit : ℕ) (sorts : List Sort) (n : Option ℕ) (more : Option (List Argument)) → IsUpTo limit n → AreOf sorts more → AreOf (sort.NumberTo limit ∷ sorts) (and_more (option_map argument.Number n) more)

@@ -7,8 +7,6 @@ use Rattle.std.proofs.lemmas.List.{append-nil}
 use Rattle.std.proofs.lemmas.List.Folds.{list_all-append}
 use Rattle.regmodel.specs.declared.programs.Target.{Target}
 use Rattle.regmodel.specs.declared.programs.Target.TheVariants as target
-use Rattle.regmodel.specs.declared.programs.Operand.{Operand}
-use Rattle.regmodel.specs.declared.programs.Operand.TheVariants as operand
 use Rattle.regmodel.specs.declared.programs.Expr.{Expr}
 use Rattle.regmodel.specs.declared.programs.Expr.TheVariants as expr
 use Rattle.regmodel.specs.declared.clauses.Clause.{Clause}
@@ -16,9 +14,9 @@ use Rattle.regmodel.specs.declared.clauses.Clause.TheVariants as clause
 use Rattle.regmodel.specs.Limits.{target_fits, operand_fits, expr_fits}
 use Rattle.reglang.specs.Arguments.{are_of, clause_parts, clause_with, line_parts, line_with, use_parts}
 use Rattle.reglang.specs.Contents.{clause_fits}
-use Rattle.reglang.specs.Forms.{and_more, arguments, clause_of, expr_of, form_of, is_known, is_no_number, keyword_line, line_of, operand_of, or_fault, target_of, use_of}
+use Rattle.reglang.specs.Forms.{and_more, arguments, clause_of, expr_of, form_of, is_known, is_no_number, keyword_line, line_of, or_fault, target_of, use_of}
 use Rattle.reglang.specs.Sorts.{property_sorts, sorts_after}
-use Rattle.reglang.specs.Writing.{argument_words, arguments_words, clause_words, expr_words, later_words, line_words, operand_word, target_word, use_words}
+use Rattle.reglang.specs.Writing.{argument_words, arguments_words, clause_words, expr_words, later_words, line_words, target_word, use_words}
 use Rattle.uses.specs.declared.kinds.Use.{Use}
 use Rattle.uses.specs.declared.kinds.Use.TheVariants as use_line
 use Rattle.reglang.specs.declared.arguments.Argument.{Argument}
@@ -65,22 +63,16 @@ target_fit (target.Var i) h = h
 target_fit (target.Cell i) h = h
 target_fit (target.CellOf i) h = h
 
-operand_fit : (a : Operand) → operand_fits a ≡ true → word_fits (operand_word a) ≡ true
-operand_fit (operand.Number n) h = h
-operand_fit (operand.Var i) h = h
-operand_fit (operand.Cell i) h = h
-operand_fit (operand.CellOf i) h = h
-
 expr_fit : (e : Expr) → expr_fits e ≡ true → list_all word_fits (expr_words e) ≡ true
-expr_fit (expr.One a) h = and_from (word_fits (operand_word a)) true (operand_fit a h) refl
+expr_fit (expr.One a) h = and_from (operand_fits a) true h refl
 expr_fit (expr.Two a op b) h =
     let parts = and_parts (operand_fits a) (operand_fits b) h in
-    and_from (word_fits (operand_word a)) (word_fits (operand_word b) && true) (operand_fit a parts.0) (and_from (word_fits (operand_word b)) true (operand_fit b parts.1) refl)
+    and_from (operand_fits a) (operand_fits b && true) parts.0 (and_from (operand_fits b) true parts.1 refl)
 
 argument_fit : (a : Argument) → argument_fits a ≡ true → list_all word_fits (argument_words a) ≡ true
 argument_fit (argument.Number n) h = and_from (leb n 1000000000) true h refl
 argument_fit (argument.Target to) h = and_from (word_fits (target_word to)) true (target_fit to h) refl
-argument_fit (argument.Operand a) h = and_from (word_fits (operand_word a)) true (operand_fit a h) refl
+argument_fit (argument.Operand a) h = and_from (operand_fits a) true h refl
 argument_fit (argument.Expression value) h = expr_fit value h
 
 arguments_fit : (list : List Argument) → all_fit list ≡ true → list_all word_fits (arguments_words list) ≡ true
@@ -145,19 +137,12 @@ target_follows (target.Var i) = refl
 target_follows (target.Cell i) = refl
 target_follows (target.CellOf i) = refl
 
-operand_follows : (a : Operand) → may_follow (operand_word a) ≡ true
-operand_follows (operand.Number n) = refl
-operand_follows (operand.Var i) = refl
-operand_follows (operand.Cell i) = refl
-operand_follows (operand.CellOf i) = refl
-
 argument_follows : (a : Argument) → list_all may_follow (argument_words a) ≡ true
 argument_follows (argument.Number n) = refl
 argument_follows (argument.Target to) = and_from (may_follow (target_word to)) true (target_follows to) refl
-argument_follows (argument.Operand a) = and_from (may_follow (operand_word a)) true (operand_follows a) refl
-argument_follows (argument.Expression (expr.One a)) = and_from (may_follow (operand_word a)) true (operand_follows a) refl
-argument_follows (argument.Expression (expr.Two a op b)) =
-    and_from (may_follow (operand_word a)) (may_follow (operand_word b) && true) (operand_follows a) (and_from (may_follow (operand_word b)) true (operand_follows b) refl)
+argument_follows (argument.Operand a) = refl
+argument_follows (argument.Expression (expr.One a)) = refl
+argument_follows (argument.Expression (expr.Two a op b)) = refl
 
 arguments_follow : (list : List Argument) → list_all may_follow (arguments_words list) ≡ true
 arguments_follow [] = refl
@@ -175,15 +160,9 @@ target_again (target.Var i) = refl
 target_again (target.Cell i) = refl
 target_again (target.CellOf i) = refl
 
-operand_again : (a : Operand) → operand_of (operand_word a) ≡ Some a
-operand_again (operand.Number n) = refl
-operand_again (operand.Var i) = refl
-operand_again (operand.Cell i) = refl
-operand_again (operand.CellOf i) = refl
-
 expr_again : (e : Expr) → expr_of (expr_words e) ≡ Some e
-expr_again (expr.One a) = rw (operand_again a) refl
-expr_again (expr.Two a op b) = rw (operand_again a, operand_again b) refl
+expr_again (expr.One a) = refl
+expr_again (expr.Two a op b) = refl
 
 arguments_again : (sorts : List Sort) (list : List Argument) → are_of sorts list ≡ true → arguments sorts (arguments_words list) ≡ Some list
 arguments_again [] [] h = refl
@@ -195,9 +174,7 @@ arguments_again (sort.NumberTo limit ∷ sorts) (argument.Number n ∷ more) h =
 arguments_again (sort.Target ∷ sorts) (argument.Target to ∷ more) h =
     ap (λ o. and_more (option_map argument.Target o) (arguments sorts (arguments_words more))) (target_again to)
     ∙ ap (and_more (Some (argument.Target to))) (arguments_again sorts more h)
-arguments_again (sort.Operand ∷ sorts) (argument.Operand a ∷ more) h =
-    ap (λ o. and_more (option_map argument.Operand o) (arguments sorts (arguments_words more))) (operand_again a)
-    ∙ ap (and_more (Some (argument.Operand a))) (arguments_again sorts more h)
+arguments_again (sort.Operand ∷ sorts) (argument.Operand a ∷ more) h = ap (and_more (Some (argument.Operand a))) (arguments_again sorts more h)
 arguments_again (sort.Expression ∷ sorts) (argument.Expression value ∷ []) h =
     ap (λ ws. option_map (λ e. argument.Expression e ∷ []) (expr_of ws)) (append-nil (expr_words value))
     ∙ ap (option_map (λ e. argument.Expression e ∷ [])) (expr_again value)

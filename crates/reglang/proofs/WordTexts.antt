@@ -1,5 +1,5 @@
 -- A word that is written is read again.
-use Rattle.std.proofs.Common.{◌≡◌, ℕ, zero, suc, ◌<◌, ◌≤◌, Bool, true, false, not, ◌&&◌, cond, eqb, leb, ltb, List, [], ◌∷◌, ◌++◌, length, get_or, drop, reverse, Some, None, decimal, bytes_eq, refl, ap, sym, ◌∙◌, arith}
+use Rattle.std.proofs.Common.{◌≡◌, ℕ, zero, suc, ◌<◌, ◌≤◌, Bool, true, false, not, ◌&&◌, cond, eqb, leb, List, [], ◌∷◌, ◌++◌, length, get_or, drop, reverse, Some, None, decimal, bytes_eq, refl, ap, sym, ◌∙◌, arith}
 use Rattle.std.specs.List.{list_all}
 use Rattle.std.specs.Str.Parse.{AllDigits}
 use Rattle.std.proofs.lemmas.Bool.{and_from, and_left, and_parts, cond-true, eqb-true, le-leb, leb-true, lt-ltb, ltb-true}
@@ -9,6 +9,8 @@ use Rattle.std.proofs.lemmas.List.Folds.{list_all-append}
 use Rattle.std.proofs.lemmas.Str.Parse.{digit_from_value}
 use Rattle.regmodel.specs.declared.programs.Op.{Op}
 use Rattle.regmodel.specs.declared.programs.Op.TheVariants as op
+use Rattle.regmodel.specs.declared.programs.Operand.TheVariants as operand
+use Rattle.regmodel.specs.Limits.{operand_fits}
 use Rattle.reglang.specs.Lines.{is_empty}
 use Rattle.reglang.specs.Words.{is_digit, is_number, up_to_limit, number_of, only_below, variable_of, before_last, in_brackets, cell_or, cell_or_other, cell_word, variable_or, number_word, value_word, keywords, operators, kinds, properties, spelled_in, word_of}
 use Rattle.reglang.specs.Spelling.{keyword_text, operator_text, kind_text, property_text}
@@ -25,11 +27,8 @@ use Rattle.reglang.specs.declared.words.Word.TheVariants as word
 -- a word that stands in a line within its limits
 abbrev pub word_fits : Word → Bool
 word_fits (word.Keyword key) = true
-word_fits (word.Number n) = leb n 1000000000
+word_fits (word.Operand a) = operand_fits a
 word_fits word.NoNumber = false
-word_fits (word.Var i) = ltb i 16
-word_fits (word.Cell i) = ltb i 32
-word_fits (word.CellOf i) = ltb i 16
 word_fits (word.Operator op) = true
 word_fits (word.Kind kind) = true
 word_fits (word.Property property) = true
@@ -97,7 +96,7 @@ no_digit_spelled ((c ∷ cs, a) ∷ rows) b bs digit others =
     let other = other_byte b c digit (not_true (is_digit c) parts.0) (eqb b c) refl in
     ap (λ t. cond t (Some a) (spelled_in rows (b ∷ bs))) (and_left (eqb b c) (bytes_eq bs cs) other) ∙ no_digit_spelled rows b bs digit parts.1
 
-number_at : (n : ℕ) (text : List ℕ) → n ≤ 1000000000 → decimal n ≡ text → word_of text ≡ word.Number n
+number_at : (n : ℕ) (text : List ℕ) → n ≤ 1000000000 → decimal n ≡ text → word_of text ≡ word.Operand (operand.Number n)
 number_at n [] h e =
     let some : 0 < length (decimal n) = decimal_nonempty n (small n h) in
     let none : length (decimal n) ≡ 0 = ap length e in
@@ -109,7 +108,7 @@ number_at n (b ∷ bs) h e =
     let no_operator = no_digit_spelled operators b bs digit refl in
     let no_kind = no_digit_spelled kinds b bs digit refl in
     let no_property = no_digit_spelled properties b bs digit refl in
-    let value : value_word (b ∷ bs) ≡ word.Number n = cond-true _ _ _ digit ∙ ap number_word (ap number_of (sym e) ∙ number_again n h) in
+    let value : value_word (b ∷ bs) ≡ word.Operand (operand.Number n) = cond-true _ _ _ digit ∙ ap number_word (ap number_of (sym e) ∙ number_again n h) in
     rw (no_key, no_operator, no_kind, no_property) value
 
 -- ---- variables and cells
@@ -129,10 +128,10 @@ begins_bracket ds = refl
 in_brackets_again : (index : List ℕ) → before_last 93 (reverse (index ++ 93 ∷ [])) ≡ Some index
 in_brackets_again index = ap (before_last 93) (reverse-append index (93 ∷ [])) ∙ ap Some (reverse-reverse index)
 
-cell_again : (i : ℕ) → i < 32 → cell_word (Some (decimal i)) ≡ word.Cell i
+cell_again : (i : ℕ) → i < 32 → cell_word (Some (decimal i)) ≡ word.Operand (operand.Cell i)
 cell_again i h = ap (λ o. cell_or o (cell_or_other (variable_of (decimal i)))) (index_below 32 i h (omega arith))
 
-cell_of_again : (i : ℕ) → i < 16 → cell_word (Some (118 ∷ decimal i)) ≡ word.CellOf i
+cell_of_again : (i : ℕ) → i < 16 → cell_word (Some (118 ∷ decimal i)) ≡ word.Operand (operand.CellOf i)
 cell_of_again i h = ap cell_or_other (variable_again i h)
 
 -- ---- words
@@ -140,11 +139,11 @@ cell_of_again i h = ap cell_or_other (variable_again i h)
 pub word_again : (w : Word) → word_fits w ≡ true → word_of (word_text w) ≡ w
 word_again (word.Keyword keyword.Registers) h = refl
 word_again (word.Keyword _) h = refl
-word_again (word.Number n) h = number_at n (decimal n) (leb-true n 1000000000 h) refl
+word_again (word.Operand (operand.Number n)) h = number_at n (decimal n) (leb-true n 1000000000 h) refl
 word_again word.NoNumber h = cc
-word_again (word.Var i) h = begins_v (decimal i) ∙ ap (λ o. variable_or o (cell_word (in_brackets (118 ∷ decimal i)))) (variable_again i (ltb-true i 16 h))
-word_again (word.Cell i) h = begins_bracket (decimal i ++ 93 ∷ []) ∙ ap cell_word (in_brackets_again (decimal i)) ∙ cell_again i (ltb-true i 32 h)
-word_again (word.CellOf i) h = begins_bracket (118 ∷ (decimal i ++ 93 ∷ [])) ∙ ap cell_word (in_brackets_again (118 ∷ decimal i)) ∙ cell_of_again i (ltb-true i 16 h)
+word_again (word.Operand (operand.Var i)) h = begins_v (decimal i) ∙ ap (λ o. variable_or o (cell_word (in_brackets (118 ∷ decimal i)))) (variable_again i (ltb-true i 16 h))
+word_again (word.Operand (operand.Cell i)) h = begins_bracket (decimal i ++ 93 ∷ []) ∙ ap cell_word (in_brackets_again (decimal i)) ∙ cell_again i (ltb-true i 32 h)
+word_again (word.Operand (operand.CellOf i)) h = begins_bracket (118 ∷ (decimal i ++ 93 ∷ [])) ∙ ap cell_word (in_brackets_again (118 ∷ decimal i)) ∙ cell_of_again i (ltb-true i 16 h)
 word_again (word.Operator op.Add) h = refl
 word_again (word.Operator _) h = refl
 word_again (word.Kind kind.Split) h = refl
@@ -190,11 +189,11 @@ some_number n (b ∷ bs) h e = refl
 pub plain_word : (w : Word) → word_fits w ≡ true → (list_all is_plain (word_text w) ≡ true) × (is_empty (word_text w) ≡ false)
 plain_word (word.Keyword keyword.Registers) h = (refl, refl)
 plain_word (word.Keyword _) h = (refl, refl)
-plain_word (word.Number n) h = let fits = leb-true n 1000000000 h in (plain_number n fits, some_number n (decimal n) fits refl)
+plain_word (word.Operand (operand.Number n)) h = let fits = leb-true n 1000000000 h in (plain_number n fits, some_number n (decimal n) fits refl)
 plain_word word.NoNumber h = cc
-plain_word (word.Var i) h = let low = ltb-true i 16 h in (plain_number i (omega arith), refl)
-plain_word (word.Cell i) h = let low = ltb-true i 32 h in (plain_before (decimal i) (93 ∷ []) (plain_number i (omega arith)) refl, refl)
-plain_word (word.CellOf i) h = let low = ltb-true i 16 h in (plain_before (decimal i) (93 ∷ []) (plain_number i (omega arith)) refl, refl)
+plain_word (word.Operand (operand.Var i)) h = let low = ltb-true i 16 h in (plain_number i (omega arith), refl)
+plain_word (word.Operand (operand.Cell i)) h = let low = ltb-true i 32 h in (plain_before (decimal i) (93 ∷ []) (plain_number i (omega arith)) refl, refl)
+plain_word (word.Operand (operand.CellOf i)) h = let low = ltb-true i 16 h in (plain_before (decimal i) (93 ∷ []) (plain_number i (omega arith)) refl, refl)
 plain_word (word.Operator op.Add) h = (refl, refl)
 plain_word (word.Operator _) h = (refl, refl)
 plain_word (word.Kind kind.Split) h = (refl, refl)

@@ -31,22 +31,19 @@ use Rattle.reglang.specs.declared.forms.Line.TheVariants as line
 
 -- the number that a word is
 abbrev pub number_in : Word → Option ℕ
-number_in (word.Number n) = Some n
+number_in (word.Operand (operand.Number n)) = Some n
 number_in _ = None
 
 -- the target that a word is
 abbrev pub target_of : Word → Option Target
-target_of (word.Var i) = Some (target.Var i)
-target_of (word.Cell i) = Some (target.Cell i)
-target_of (word.CellOf i) = Some (target.CellOf i)
+target_of (word.Operand (operand.Var i)) = Some (target.Var i)
+target_of (word.Operand (operand.Cell i)) = Some (target.Cell i)
+target_of (word.Operand (operand.CellOf i)) = Some (target.CellOf i)
 target_of _ = None
 
 -- the operand that a word is
 abbrev pub operand_of : Word → Option Operand
-operand_of (word.Number n) = Some (operand.Number n)
-operand_of (word.Var i) = Some (operand.Var i)
-operand_of (word.Cell i) = Some (operand.Cell i)
-operand_of (word.CellOf i) = Some (operand.CellOf i)
+operand_of (word.Operand a) = Some a
 operand_of _ = None
 
 -- the operator that a word is
@@ -78,7 +75,7 @@ property_of _ = None
 
 -- a number up to its limit
 abbrev pub number_to : ℕ → Word → Option ℕ
-number_to limit (word.Number n) = if nat_le n limit then Some n else None
+number_to limit (word.Operand (operand.Number n)) = if nat_le n limit then Some n else None
 number_to limit _ = None
 
 -- the argument of a sort that one word is
@@ -126,11 +123,8 @@ form_of key more = option_and_then (line_with key) (arguments (sorts_after key) 
 
 -- a word that may stand after the first one, but for its form
 abbrev pub is_known : Word → Bool
-is_known (word.Number n) = true
+is_known (word.Operand a) = true
 is_known word.NoNumber = true
-is_known (word.Var i) = true
-is_known (word.Cell i) = true
-is_known (word.CellOf i) = true
 is_known (word.Operator op) = true
 is_known (word.Kind kind) = true
 is_known _ = false

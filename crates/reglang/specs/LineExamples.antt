@@ -15,15 +15,15 @@ use Rattle.reglang.specs.declared.words.Word.TheVariants as word
 -- ---- arguments
 
 -- a target, and an expression of three words
-pub target_and_sum : arguments (sort.Target ∷ sort.Expression ∷ []) (word.Var 2 ∷ word.Cell 0 ∷ word.Operator op.Add ∷ word.Number 1 ∷ []) ≡ Some (argument.Target (target.Var 2) ∷ argument.Expression (expr.Two (operand.Cell 0) op.Add (operand.Number 1)) ∷ [])
+pub target_and_sum : arguments (sort.Target ∷ sort.Expression ∷ []) (word.Operand (operand.Var 2) ∷ word.Operand (operand.Cell 0) ∷ word.Operator op.Add ∷ word.Operand (operand.Number 1) ∷ []) ≡ Some (argument.Target (target.Var 2) ∷ argument.Expression (expr.Two (operand.Cell 0) op.Add (operand.Number 1)) ∷ [])
 target_and_sum = refl
 
 -- a number past its limit
-pub past_its_limit : arguments (sort.Number ∷ sort.NumberTo 8 ∷ []) (word.Number 9 ∷ word.Number 9 ∷ []) ≡ None
+pub past_its_limit : arguments (sort.Number ∷ sort.NumberTo 8 ∷ []) (replicate 2 (word.Operand (operand.Number 9))) ≡ None
 past_its_limit = refl
 
 -- an expression has one word or three
-pub two_words : arguments (sort.Expression ∷ []) (word.Var 2 ∷ word.Var 3 ∷ []) ≡ None
+pub two_words : arguments (sort.Expression ∷ []) (word.Operand (operand.Var 2) ∷ word.Operand (operand.Var 3) ∷ []) ≡ None
 two_words = refl
 
 -- ---- lines

@@ -4,6 +4,7 @@ use Rattle.std.specs.List.{list_all}
 use Rattle.std.specs.Str.{bytes_eq}
 use Rattle.std.specs.Str.Parse.{digits_value}
 use Rattle.regmodel.specs.declared.programs.Op.{Op}
+use Rattle.regmodel.specs.declared.programs.Operand.TheVariants as operand
 use Rattle.regmodel.specs.declared.limits.TheConstants.{CELLS, GREATEST_VALUE, VARIABLES}
 use Rattle.reglang.specs.Lines.{is_empty}
 use Rattle.reglang.specs.Spelling.{keyword_text, kind_text, operator_text, property_text}
@@ -12,7 +13,7 @@ use Rattle.reglang.specs.declared.words.Kind.{Kind}
 use Rattle.reglang.specs.declared.words.Property.{Property}
 use Rattle.reglang.specs.declared.words.TheConstants.{KEYWORDS, KINDS, OPERATORS, PROPERTIES}
 use Rattle.reglang.specs.declared.words.Word.{Word}
-use Rattle.reglang.specs.declared.words.Word.TheVariants.{Number, NoNumber, Var, Cell, CellOf, Comment, Other}
+use Rattle.reglang.specs.declared.words.Word.TheVariants.{NoNumber, Comment, Other}
 use Rattle.reglang.specs.declared.words.Word.TheVariants as word
 
 -- whether a byte is a digit
@@ -63,13 +64,13 @@ in_brackets word = enclosed 91 93 word
 
 -- the cell that a variable names, where there is one
 abbrev pub cell_or_other : Option ℕ → Word
-cell_or_other (Some i) = CellOf i
+cell_or_other (Some i) = word.Operand (operand.CellOf i)
 cell_or_other None = Other
 
 -- the cell with this number, where there is one
 abbrev pub cell_or : Option ℕ → Word → Word
-cell_or (Some i) word = Cell i
-cell_or None word = word
+cell_or (Some i) _ = word.Operand (operand.Cell i)
+cell_or None else_word = else_word
 
 -- the cell that is named between brackets: by a number word below 32, or by a variable
 abbrev pub cell_word : Option (List ℕ) → Word
@@ -78,12 +79,12 @@ cell_word (Some index) = cell_or (only_below CELLS (number_of index)) (cell_or_o
 
 -- the variable with this number, where there is one
 abbrev pub variable_or : Option ℕ → Word → Word
-variable_or (Some i) word = Var i
-variable_or None word = word
+variable_or (Some i) _ = word.Operand (operand.Var i)
+variable_or None else_word = else_word
 
 -- a number, or a word that begins with a digit and is none
 abbrev pub number_word : Option ℕ → Word
-number_word (Some n) = Number n
+number_word (Some n) = word.Operand (operand.Number n)
 number_word None = NoNumber
 
 -- a word that is none of those spelled out

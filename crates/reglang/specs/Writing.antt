@@ -29,13 +29,17 @@ use Rattle.reglang.specs.declared.forms.Line.TheVariants as line
 abbrev pub between : List ℕ → ℕ → List ℕ → List ℕ
 between before n after = before ++ (decimal n ++ after)
 
+-- an operand as it is written
+abbrev pub operand_text : Operand → List ℕ
+operand_text (operand.Number n) = decimal n
+operand_text (operand.Var i) = codes "v" ++ decimal i
+operand_text (operand.Cell i) = codes "[" ++ decimal i ++ codes "]"
+operand_text (operand.CellOf i) = codes "[v" ++ decimal i ++ codes "]"
+
 -- a word as it is written; one that no line has is not
 abbrev pub word_text : Word → List ℕ
 word_text (word.Keyword key) = keyword_text key
-word_text (word.Number n) = decimal n
-word_text (word.Var i) = codes "v" ++ decimal i
-word_text (word.Cell i) = codes "[" ++ decimal i ++ codes "]"
-word_text (word.CellOf i) = codes "[v" ++ decimal i ++ codes "]"
+word_text (word.Operand a) = operand_text a
 word_text (word.Operator op) = operator_text op
 word_text (word.Kind kind) = kind_text kind
 word_text (word.Property property) = property_text property
@@ -45,27 +49,20 @@ word_text word.Other = []
 
 -- where a value is stored
 abbrev pub target_word : Target → Word
-target_word (target.Var i) = word.Var i
-target_word (target.Cell i) = word.Cell i
-target_word (target.CellOf i) = word.CellOf i
-
--- a value to compute with
-abbrev pub operand_word : Operand → Word
-operand_word (operand.Number n) = word.Number n
-operand_word (operand.Var i) = word.Var i
-operand_word (operand.Cell i) = word.Cell i
-operand_word (operand.CellOf i) = word.CellOf i
+target_word (target.Var i) = word.Operand (operand.Var i)
+target_word (target.Cell i) = word.Operand (operand.Cell i)
+target_word (target.CellOf i) = word.Operand (operand.CellOf i)
 
 -- one operand, or two with the operator between them
 abbrev pub expr_words : Expr → List Word
-expr_words (expr.One a) = operand_word a ∷ []
-expr_words (expr.Two a op b) = operand_word a ∷ word.Operator op ∷ operand_word b ∷ []
+expr_words (expr.One a) = word.Operand a ∷ []
+expr_words (expr.Two a op b) = word.Operand a ∷ word.Operator op ∷ word.Operand b ∷ []
 
 -- the words of an argument
 abbrev pub argument_words : Argument → List Word
-argument_words (argument.Number n) = word.Number n ∷ []
+argument_words (argument.Number n) = word.Operand (operand.Number n) ∷ []
 argument_words (argument.Target to) = target_word to ∷ []
-argument_words (argument.Operand a) = operand_word a ∷ []
+argument_words (argument.Operand a) = word.Operand a ∷ []
 argument_words (argument.Expression value) = expr_words value
 
 -- the words of arguments

@@ -96,9 +96,7 @@ pub fn is_known(word: Word) -> bool
     ensures { result ≡ spec.is_known word }
 {
     match word {
-        Word::Number(_) | Word::NoNumber => true,
-        Word::Var(_) | Word::Cell(_) | Word::CellOf(_) => true,
-        Word::Operator(_) | Word::Kind(_) => true,
+        Word::Operand(_) | Word::NoNumber | Word::Operator(_) | Word::Kind(_) => true,
         Word::Keyword(_) | Word::Property(_) | Word::Comment | Word::Other => false,
     }
 }

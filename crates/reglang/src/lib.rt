@@ -21,7 +21,7 @@ mod writer;
 pub use arguments::Argument;
 pub use forms::{Line, is_known, read_line};
 pub use lines::{split_line, split_word};
-pub use operands::{argument_of, kind_of, operator_of, property_of};
+pub use operands::{argument_of, kind_of, number_in, operator_of, property_of, target_of};
 pub use reader::{ReadFault, Rejection, read_source, read_text};
 pub use refusals::{
     MISPLACED, NO_CLAUSE, NO_FORM, NO_NUMBER, NO_REGISTERS, NOT_PRINTABLE, PAST_LIMIT, UNKNOWN_WORD,

@@ -10,11 +10,11 @@ use arrayvec::ArrayVec;
 use regmodel::{Expr, Op, Operand, Target};
 
 /// The number that a word is.
-fn number_in(word: Word) -> Option<u32>
+pub fn number_in(word: Word) -> Option<u32>
     ensures { result ≡ spec.number_in word }
 {
     match word {
-        Word::Number(n) => Some(n),
+        Word::Operand(Operand::Number(n)) => Some(n),
         _ => None,
     }
 }
@@ -24,19 +24,19 @@ fn number_to(limit: u32, word: Word) -> Option<u32>
     ensures { result ≡ spec.number_to limit word }
 {
     match word {
-        Word::Number(n) if n <= limit => Some(n),
+        Word::Operand(Operand::Number(n)) if n <= limit => Some(n),
         _ => None,
     }
 }
 
 /// The target that a word is: a variable or a cell.
-fn target_of(word: Word) -> Option<Target>
+pub fn target_of(word: Word) -> Option<Target>
     ensures { result ≡ spec.target_of word }
 {
     match word {
-        Word::Var(i) => Some(Target::Var(i)),
-        Word::Cell(i) => Some(Target::Cell(i)),
-        Word::CellOf(i) => Some(Target::CellOf(i)),
+        Word::Operand(Operand::Var(i)) => Some(Target::Var(i)),
+        Word::Operand(Operand::Cell(i)) => Some(Target::Cell(i)),
+        Word::Operand(Operand::CellOf(i)) => Some(Target::CellOf(i)),
         _ => None,
     }
 }
@@ -46,10 +46,7 @@ fn operand_of(word: Word) -> Option<Operand>
     ensures { result ≡ spec.operand_of word }
 {
     match word {
-        Word::Number(n) => Some(Operand::Number(n)),
-        Word::Var(i) => Some(Operand::Var(i)),
-        Word::Cell(i) => Some(Operand::Cell(i)),
-        Word::CellOf(i) => Some(Operand::CellOf(i)),
+        Word::Operand(operand) => Some(operand),
         _ => None,
     }
 }

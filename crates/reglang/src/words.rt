@@ -6,8 +6,8 @@ ghost use Rattle.std.specs.Str.Parse.{digits_value};
 ghost use Rattle.reglang.specs.Words as spec;
 
 use crate::spellings::Spelled;
-use regmodel::Op;
 use regmodel::limits::{CELLS, GREATEST_VALUE, VARIABLES};
+use regmodel::{Op, Operand};
 
 /// The first words of lines.
 const KEYWORDS: [Keyword; 16] = [
@@ -95,16 +95,10 @@ pub enum Property {
 #[derive(Clone, Copy, Default)]
 pub enum Word {
     Keyword(Keyword),
-    /// A number, 0 to 1000000000; 1000000001 stands for each greater one.
-    Number(u32),
+    /// A number, a variable or a cell; the number 1000000001 stands for each past 1000000000.
+    Operand(Operand),
     /// It begins with a digit and is no number word.
     NoNumber,
-    /// The variable with this number, 0 to 15.
-    Var(u8),
-    /// The cell with this number, 0 to 31.
-    Cell(u8),
-    /// The cell whose number is the value of this variable.
-    CellOf(u8),
     Operator(Op),
     Kind(Kind),
     Property(Property),
@@ -216,10 +210,10 @@ fn cell_word(word: &[u8]) -> Word
         return Word::Other;
     };
     if let Some(i) = only_below(CELLS, number_of(index)) {
-        return Word::Cell(i);
+        return Word::Operand(Operand::Cell(i));
     }
     match variable_of(index) {
-        Some(i) => Word::CellOf(i),
+        Some(i) => Word::Operand(Operand::CellOf(i)),
         None => Word::Other,
     }
 }
@@ -230,12 +224,12 @@ fn value_word(word: &[u8]) -> Word
 {
     match word {
         [b'0'..=b'9', ..] => match number_of(word) {
-            Some(n) => Word::Number(n),
+            Some(n) => Word::Operand(Operand::Number(n)),
             None => Word::NoNumber,
         },
         [b'#', ..] => Word::Comment,
         _ => match variable_of(word) {
-            Some(i) => Word::Var(i),
+            Some(i) => Word::Operand(Operand::Var(i)),
             None => cell_word(word),
         },
     }

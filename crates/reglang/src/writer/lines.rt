@@ -15,21 +15,9 @@ fn target_word(target: Target) -> Word
     ensures { result ≡ spec.target_word target }
 {
     match target {
-        Target::Var(i) => Word::Var(i),
-        Target::Cell(i) => Word::Cell(i),
-        Target::CellOf(i) => Word::CellOf(i),
-    }
-}
-
-/// The word of an operand.
-fn operand_word(operand: Operand) -> Word
-    ensures { result ≡ spec.operand_word operand }
-{
-    match operand {
-        Operand::Number(n) => Word::Number(n),
-        Operand::Var(i) => Word::Var(i),
-        Operand::Cell(i) => Word::Cell(i),
-        Operand::CellOf(i) => Word::CellOf(i),
+        Target::Var(i) => Word::Operand(Operand::Var(i)),
+        Target::Cell(i) => Word::Operand(Operand::Cell(i)),
+        Target::CellOf(i) => Word::Operand(Operand::CellOf(i)),
     }
 }
 
@@ -49,13 +37,13 @@ fn push_argument(text: &mut Vec<u8>, argument: Argument) -> Result<(), OutOfMemo
     ensures { OnOk result (text.new.items ≡ text.old.items ++ spaced (argument_words argument)) }
 {
     match argument {
-        Argument::Number(n) => push_words(text, &[Word::Number(n)]),
+        Argument::Number(n) => push_words(text, &[Word::Operand(Operand::Number(n))]),
         Argument::Target(to) => push_words(text, &[target_word(to)]),
-        Argument::Operand(a) => push_words(text, &[operand_word(a)]),
-        Argument::Expression(Expr::One(a)) => push_words(text, &[operand_word(a)]),
+        Argument::Operand(a) => push_words(text, &[Word::Operand(a)]),
+        Argument::Expression(Expr::One(a)) => push_words(text, &[Word::Operand(a)]),
         Argument::Expression(Expr::Two(a, op, b)) => push_words(
             text,
-            &[operand_word(a), Word::Operator(op), operand_word(b)],
+            &[Word::Operand(a), Word::Operator(op), Word::Operand(b)],
         ),
     }
 }

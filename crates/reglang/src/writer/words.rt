@@ -7,7 +7,7 @@ ghost use Rattle.reglang.specs.Writing.{between};
 use crate::spellings::Spelled;
 use crate::words::Word;
 use itoa::Buffer;
-use regmodel::OutOfMemory;
+use regmodel::{Operand, OutOfMemory};
 
 /// Appends the digits of a number.
 fn push_number(text: &mut Vec<u8>, n: u32) -> Result<(), OutOfMemory>
@@ -28,6 +28,18 @@ fn push_between(text: &mut Vec<u8>, before: &[u8], n: u32, after: &[u8]) -> Resu
     Ok(())
 }
 
+/// Appends an operand.
+fn push_operand(text: &mut Vec<u8>, operand: Operand) -> Result<(), OutOfMemory>
+    ensures { OnOk result (text.new.items ≡ text.old.items ++ spec.operand_text operand) }
+{
+    match operand {
+        Operand::Number(n) => push_number(text, n),
+        Operand::Var(i) => push_between(text, b"v", u32::from(i), b""),
+        Operand::Cell(i) => push_between(text, b"[", u32::from(i), b"]"),
+        Operand::CellOf(i) => push_between(text, b"[v", u32::from(i), b"]"),
+    }
+}
+
 /// Appends a piece of text.
 fn push_piece(text: &mut Vec<u8>, piece: &[u8]) -> Result<(), OutOfMemory>
     ensures { OnOk result (text.new.items ≡ text.old.items ++ piece.now) }
@@ -42,10 +54,7 @@ pub fn push_word(text: &mut Vec<u8>, word: Word) -> Result<(), OutOfMemory>
 {
     match word {
         Word::Keyword(key) => push_piece(text, key.text()),
-        Word::Number(n) => push_number(text, n),
-        Word::Var(i) => push_between(text, b"v", u32::from(i), b""),
-        Word::Cell(i) => push_between(text, b"[", u32::from(i), b"]"),
-        Word::CellOf(i) => push_between(text, b"[v", u32::from(i), b"]"),
+        Word::Operand(operand) => push_operand(text, operand),
         Word::Operator(op) => push_piece(text, op.text()),
         Word::Kind(kind) => push_piece(text, kind.text()),
         Word::Property(property) => push_piece(text, property.text()),
