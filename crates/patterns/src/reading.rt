@@ -46,7 +46,7 @@ pub fn read_pattern(text: &[u8]) -> Result<Pattern, BadPattern>
             return Err(BadPattern { place });
         }
         if after.is_empty() {
-            return Ok(Pattern::new(standings));
+            return Ok(Pattern { standings });
         }
         let Some(further) = past_mark(after) else {
             return Err(BadPattern { place });

@@ -19,7 +19,7 @@ pub enum Standing {
 /// How each process may stand, processes from 0. A clause sees the list of their standings.
 #[derive(Clone, Debug, Drop)]
 pub struct Pattern {
-    standings: ArrayVec<Standing, 8>,
+    pub(crate) standings: ArrayVec<Standing, 8>,
 }
 
 impl Model for Pattern {
@@ -36,13 +36,6 @@ impl Model for Pattern {
 impl Pattern {
     ghost use Rattle.std.specs.Prelude.{◌≡◌, ◌≤◌, length};
     ghost use Rattle.regmodel.specs.declared.limits.TheConstants.{MOST_PROCESSES};
-
-    /// The pattern of these standings.
-    pub fn new(standings: ArrayVec<Standing, 8>) -> Pattern
-        ensures { result ≡ standings.items }
-    {
-        Pattern { standings }
-    }
 
     /// How each process may stand; at most 8.
     pub fn standings(&self) -> &[Standing]

@@ -24,7 +24,7 @@ returns-then-is_err-clause-place c =
 pub returns-then-is_empty-clause-ok : goal.returns-then-is_empty-clause-ok
 returns-then-is_empty-clause-ok c =
     let pushed : c.try_push.new.self.items ≡ c.loop-standing.standings.items ++ c.in-Some.standing ∷ [] = search rules in
-    rw (c.new.ensures, pushed) (all-read c.loop-standing.standings.items c.in-Some.standing c.loop-standing.rest.now c.cut_at.result.0.now c.cut_at.result.1.now c.args.text.now c.loop-standing.invariant
+    rw pushed (all-read c.loop-standing.standings.items c.in-Some.standing c.loop-standing.rest.now c.cut_at.result.0.now c.cut_at.result.1.now c.args.text.now c.loop-standing.invariant
     (record { parts = c.cut_at.ensures.parts; before = c.cut_at.ensures.before; after = c.cut_at.ensures.after })
     c.in-Some.ensures.some (search rules))
 
