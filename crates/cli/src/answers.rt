@@ -42,7 +42,11 @@ pub fn answer<H: Threads + Wait + Sync, R: Read + Drop, W: Write, E: Write + Sen
         ⊎ IsCutShort question.now.path.now question.now.task.now (option_and_then R.remaining file)
         (W.contents out.old) (W.contents out.new) }
 {
-    match written(rt, alloc, question, file, out, err) {
+    let written = match file {
+        Some(file) => written(rt, alloc, question, file, out, err),
+        None => Err(AnswerFault::Refused(Refusal::File)),
+    };
+    match written {
         Ok(fails) => u8::from(fails),
         Err(fault) if question.task.is_in_words() => refuse_in_words(question.path, &fault, err),
         Err(fault) => refuse(&fault, err),
@@ -55,23 +59,17 @@ fn written<H: Threads + Wait + Sync, R: Read + Drop, W: Write, E: Write + Send>(
     rt: &H,
     alloc: Global,
     question: &Question<'_>,
-    file: Option<R>,
+    file: R,
     out: &mut W,
     err: &mut E,
 ) -> Result<bool, AnswerFault>
-    ensures no_file { IsNone file → result ≡ Err (AnswerFault.Refused Refusal.File) }
     ensures answered { IfOk result
-        (λ fails. IsAnswered question.now.path.now question.now.task.now
-        (option_and_then R.remaining file)
+        (λ fails. IsAnswered question.now.path.now question.now.task.now (R.remaining file)
         (W.contents out.old) (W.contents out.new) (if fails then 1 else 0)) }
     ensures refused { IfErr result
-        (IsUnanswered W.contents question.now.path.now question.now.task.now
-        (option_and_then R.remaining file)
+        (IsUnanswered W.contents question.now.path.now question.now.task.now (R.remaining file)
         out.old out.new) }
 {
-    let Some(file) = file else {
-        return Err(AnswerFault::Refused(Refusal::File));
-    };
     let text = bytes_of(alloc, file)?;
     let progress = Progress::new(rt, err, question.progress);
     let found = found(rt, alloc, question.task, text.as_slice(), &progress);

@@ -11,10 +11,9 @@ use crate::runs::Run;
 use explorer::{Effort, Gate, Job, Part, exploration_of, least_failing};
 use findings::Finding;
 use machine::Machine;
-use orders::Refusal;
 use part_texts::PartHead;
 use reglang::write_source;
-use regmodel::Settings;
+use regmodel::{OutOfMemory, Settings};
 use std::sync::Wait;
 use std::thread::Threads;
 
@@ -24,10 +23,9 @@ fn head_for<H, G>(
     run: &Run<'_, H, G>,
     settings: Settings,
     part: Option<Part>,
-) -> Result<Option<PartHead>, Refusal>
-    ensures head { IfOk result
+) -> Result<Option<PartHead>, OutOfMemory>
+    ensures { IfOk result
         (λ head. head ≡ option_map (part_head settings run.now.source.now) part) }
-    ensures err { IfErr result (λ refusal. refusal ≡ Refusal.Memory) }
 {
     let Some(part) = part else {
         return Ok(None);
@@ -36,7 +34,7 @@ fn head_for<H, G>(
     write_source(run.source, &mut text)?;
     match PartHead::new(part, run.source.processes() as u32, settings, text) {
         Some(head) => Ok(Some(head)),
-        None => Err(Refusal::Memory),
+        None => Err(OutOfMemory),
     }
 }
 

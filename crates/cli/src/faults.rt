@@ -1,12 +1,15 @@
 //! Why there is no answer, and the status that tells it.
 
 ghost use Rattle.std.specs.Prelude.{◌≡◌, ◌⊎◌};
+ghost use Rattle.orders.specs.declared.refusals.Refusal.TheVariants.{Memory};
+ghost use Rattle.cli.specs.declared.faults.AnswerFault.TheVariants.{Refused};
 ghost use Rattle.cli.specs.Statuses.{status_of};
 
 use crate::standings::RefusedLetter;
 use merging::MergeFault;
 use orders::Refusal;
 use reglang::Rejection;
+use regmodel::OutOfMemory;
 use std::alloc::AllocFailed;
 use std::io::Write;
 use thiserror::Error;
@@ -55,9 +58,6 @@ impl AnswerFault {
 }
 
 impl From<Refusal> for AnswerFault {
-    ghost use Rattle.std.specs.Prelude.{◌≡◌};
-    ghost use Rattle.cli.specs.declared.faults.AnswerFault.TheVariants.{Refused};
-
     ghost from_gives = { λ refusal fault. fault ≡ Refused refusal };
 
     fn from(refusal: Refusal) -> AnswerFault {
@@ -65,11 +65,15 @@ impl From<Refusal> for AnswerFault {
     }
 }
 
-impl<T: Drop> From<AllocFailed<T>> for AnswerFault {
-    ghost use Rattle.std.specs.Prelude.{◌≡◌};
-    ghost use Rattle.orders.specs.declared.refusals.Refusal.TheVariants.{Memory};
-    ghost use Rattle.cli.specs.declared.faults.AnswerFault.TheVariants.{Refused};
+impl From<OutOfMemory> for AnswerFault {
+    ghost from_gives = { λ _ fault. fault ≡ Refused Memory };
 
+    fn from(_error: OutOfMemory) -> AnswerFault {
+        AnswerFault::Refused(Refusal::Memory)
+    }
+}
+
+impl<T: Drop> From<AllocFailed<T>> for AnswerFault {
     ghost from_gives = { λ _ fault. fault ≡ Refused Memory };
 
     fn from(_error: AllocFailed<T>) -> AnswerFault {

@@ -8,9 +8,8 @@ ghost use Rattle.cli.specs.declared.machines.ProcessMachine.TheVariants as proce
 
 use machine::{Interp, Machine, Told};
 use natives::{Grid, MakeFault, NameSlots, Names, Split, Tree};
-use orders::Refusal;
 use reglang::{Source, Use};
-use regmodel::{Pending, Reply};
+use regmodel::{OutOfMemory, Pending, Reply};
 use std::alloc::Global;
 
 /// What runs one process: an interpreter of its program, or the native machine of its kind.
@@ -105,26 +104,24 @@ pub fn machine_of(
     source: &Source,
     p: usize,
     native: bool,
-) -> Result<ProcessMachine, Refusal>
+) -> Result<ProcessMachine, OutOfMemory>
     requires { p < length (source_programs source.now) }
-    ensures program { IfOk result
+    ensures { IfOk result
         (λ m. slice_get (source_programs source.now) p
         ≡ Some (⟦<ProcessMachine as Machine>⟧.program m)) }
-    ensures err { IfErr result (λ refusal. refusal ≡ Refusal.Memory) }
 {
     match source.use_of(p) {
-        Some(kind) if native => native_of(kind, source.registers()).map_err(|_| Refusal::Memory),
+        Some(kind) if native => native_of(kind, source.registers()).map_err(|_| OutOfMemory),
         _ => interpreter_of(alloc, source, p),
     }
 }
 
 /// An interpreter of the program of process p.
-fn interpreter_of(alloc: Global, source: &Source, p: usize) -> Result<ProcessMachine, Refusal>
+fn interpreter_of(alloc: Global, source: &Source, p: usize) -> Result<ProcessMachine, OutOfMemory>
     requires { p < length (source_programs source.now) }
-    ensures program { IfOk result
+    ensures { IfOk result
         (λ m. slice_get (source_programs source.now) p
         ≡ Some (⟦<ProcessMachine as Machine>⟧.program m)) }
-    ensures err { IfErr result (λ refusal. refusal ≡ Refusal.Memory) }
 {
     let prog = source.prog(alloc, p)?;
     let interp = Interp::make(alloc, prog)?;

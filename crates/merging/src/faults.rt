@@ -1,5 +1,8 @@
 //! Why parts could not be merged.
 
+ghost use Rattle.std.specs.Prelude.{◌≡◌};
+ghost use Rattle.merging.specs.declared.faults.MergeFault.TheVariants.{Text};
+
 use crate::missing::Missing;
 use part_texts::BadPart;
 use thiserror::Error;
@@ -51,9 +54,6 @@ pub enum MergeFault {
 }
 
 impl From<BadPart> for MergeFault {
-    ghost use Rattle.std.specs.Prelude.{◌≡◌};
-    ghost use Rattle.merging.specs.declared.faults.MergeFault.TheVariants.{Text};
-
     ghost from_gives = { λ bad fault. fault ≡ Text bad };
 
     fn from(bad: BadPart) -> MergeFault {

@@ -18,10 +18,8 @@ name_of Cache = codes "cache"
 
 -- the least number of a bound
 abbrev pub least_of : Bound → ℕ
-least_of Length = 0
-least_of Crashes = 0
 least_of Workers = 1
-least_of Cache = 0
+least_of other = 0
 
 -- the greatest number of a bound
 abbrev pub most_of : Bound → ℕ

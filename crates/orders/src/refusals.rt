@@ -1,11 +1,11 @@
 //! What is refused of the words of the command line and of what they name, and the status that tells it.
 
 ghost use Rattle.std.specs.Prelude.{◌≡◌, ◌⊎◌};
+ghost use Rattle.orders.specs.declared.refusals.Refusal.TheVariants.{Memory};
 ghost use Rattle.orders.specs.Statuses.{status_of};
 
 use crate::bounds::Bound;
-use regmodel::OutOfMemory;
-use std::alloc::{AllocError, AllocFailed};
+use std::alloc::AllocFailed;
 use std::io::Write;
 use thiserror::Error;
 
@@ -69,32 +69,7 @@ impl Refusal {
     }
 }
 
-impl From<OutOfMemory> for Refusal {
-    ghost use Rattle.std.specs.Prelude.{◌≡◌};
-    ghost use Rattle.orders.specs.declared.refusals.Refusal.TheVariants.{Memory};
-
-    ghost from_gives = { λ _ refusal. refusal ≡ Memory };
-
-    fn from(_error: OutOfMemory) -> Refusal {
-        Refusal::Memory
-    }
-}
-
-impl From<AllocError> for Refusal {
-    ghost use Rattle.std.specs.Prelude.{◌≡◌};
-    ghost use Rattle.orders.specs.declared.refusals.Refusal.TheVariants.{Memory};
-
-    ghost from_gives = { λ _ refusal. refusal ≡ Memory };
-
-    fn from(_error: AllocError) -> Refusal {
-        Refusal::Memory
-    }
-}
-
 impl<T: Drop> From<AllocFailed<T>> for Refusal {
-    ghost use Rattle.std.specs.Prelude.{◌≡◌};
-    ghost use Rattle.orders.specs.declared.refusals.Refusal.TheVariants.{Memory};
-
     ghost from_gives = { λ _ refusal. refusal ≡ Memory };
 
     fn from(_error: AllocFailed<T>) -> Refusal {

@@ -85,10 +85,7 @@ impl Verdict {
     pub fn fails(&self) -> bool
         ensures { result ≡ is_failing self.now }
     {
-        match self {
-            Verdict::Fails(_) => true,
-            Verdict::Holds(_) => false,
-        }
+        matches!(self, Verdict::Fails(_))
     }
 }
 

@@ -14,4 +14,4 @@ loop-p-preserved g c =
     let same : (own-1.entry boxed.vtable).1.program boxed.value ≡ program =
     read_made own-1 (own-1.entry (inl tt)) (inl tt) refl Program (λ entry. entry.1.program) boxed.vtable boxed.value c.in_ok-new.field-0.value c.into_dyn_box.ensures.1
     ∙ ap (own-1.entry (inl tt)).1.program c.in_ok-new.ensures.ok in
-    map-take_push (λ b. (own-1.entry b.vtable).1.program b.value) c.loop-p.machines.items _ boxed programs c.loop-p.p program c.in_ok-push.ensures.items c.loop-p.invariant same c.in_ok-machine.ensures.program
+    map-take_push (λ b. (own-1.entry b.vtable).1.program b.value) c.loop-p.machines.items _ boxed programs c.loop-p.p program c.in_ok-push.ensures.items c.loop-p.invariant same c.in_ok-machine.ensures
