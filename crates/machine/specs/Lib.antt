@@ -7,6 +7,7 @@ pub mod Keeping
 pub mod Paths
 pub mod Rest
 pub mod Runs
+pub mod Same
 pub mod Sparse
 pub mod Standings
 pub mod Stores

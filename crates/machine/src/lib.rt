@@ -12,6 +12,7 @@ ghost use Rattle.regmodel.specs.Lawful.{IsReplyTo, IsAtStart};
 ghost use Rattle.regmodel.specs.Reply as spec;
 ghost use Rattle.regmodel.specs.Reply.{Replies};
 ghost use Rattle.machine.specs.Following.{Follows};
+ghost use Rattle.machine.specs.Same.{IsSameMachine};
 ghost use Rattle.machine.specs.Telling.{Tells};
 
 mod emitted;
@@ -43,14 +44,12 @@ pub trait Machine: Drop + Send {
 
     /// Goes to the program's start.
     fn reset(&mut self)
-        ensures same { program self.new ≡ program self.old }
-        ensures resumed { resumed self.new ≡ resumed self.old }
+        ensures same { IsSameMachine program resumed self.old self.new }
         ensures starts { IsAtStart (program self.new) (rest self.new) };
 
     /// Goes to the program's start, and on by the first of these replies, as many as it need not run again. It answers how many these are.
     fn recall(&mut self, replies: &[Reply]) -> usize
-        ensures same { program self.new ≡ program self.old }
-        ensures resumed { resumed self.new ≡ resumed self.old }
+        ensures same { IsSameMachine program resumed self.old self.new }
         ensures count { result ≤ length replies.now }
         ensures leads { Follows (act_of (program self.new))
             (map values_in (take result replies.now)) (rest self.new) }
@@ -67,14 +66,12 @@ pub trait Machine: Drop + Send {
     /// Goes on past one reply: the value of each register that was read, rising, each at most 1000000000; or one 0 to a write.
     fn feed(&mut self, reply: &[u32])
         requires { IsReplyTo (rest self.old []) reply.now }
-        ensures same { program self.new ≡ program self.old }
-        ensures resumed { resumed self.new ≡ resumed self.old }
+        ensures same { IsSameMachine program resumed self.old self.new }
         ensures goes_on { (s : Replies) → rest self.new s ≡ rest self.old (reply.now ∷ s) };
 
     /// Gives up what it holds; it is done with no numbers until it is reset.
     fn end(&mut self)
-        ensures same { program self.new ≡ program self.old }
-        ensures resumed { resumed self.new ≡ resumed self.old }
+        ensures same { IsSameMachine program resumed self.old self.new }
         ensures ended { (s : Replies) → rest self.new s ≡ Done (record { items = [] }) };
 
     /// Tells where it stands, in numbers behind those of the list. It answers false where it cannot tell, or the list has no room for that;
@@ -108,8 +105,7 @@ pub fn pending_of_box(machine: &Box<dyn Machine + Send>) -> Pending
 /// Feeds a boxed machine.
 pub fn feed_box(machine: &mut Box<dyn Machine + Send>, reply: &[u32])
     requires { IsReplyTo (rest machine.old []) reply.now }
-    ensures same { program machine.new ≡ program machine.old }
-    ensures resumed { resumed machine.new ≡ resumed machine.old }
+    ensures same { IsSameMachine program resumed machine.old machine.new }
     ensures goes_on { (s : Replies) → rest machine.new s ≡ rest machine.old (reply.now ∷ s) }
 {
     machine.feed(reply);
@@ -117,8 +113,7 @@ pub fn feed_box(machine: &mut Box<dyn Machine + Send>, reply: &[u32])
 
 /// Resets a boxed machine.
 pub fn reset_box(machine: &mut Box<dyn Machine + Send>)
-    ensures same { program machine.new ≡ program machine.old }
-    ensures resumed { resumed machine.new ≡ resumed machine.old }
+    ensures same { IsSameMachine program resumed machine.old machine.new }
     ensures starts { IsAtStart (program machine.new) (rest machine.new) }
 {
     machine.reset();
@@ -126,8 +121,7 @@ pub fn reset_box(machine: &mut Box<dyn Machine + Send>)
 
 /// Has a boxed machine recall replies.
 pub fn recall_box(machine: &mut Box<dyn Machine + Send>, replies: &[Reply]) -> usize
-    ensures same { program machine.new ≡ program machine.old }
-    ensures resumed { resumed machine.new ≡ resumed machine.old }
+    ensures same { IsSameMachine program resumed machine.old machine.new }
     ensures count { result ≤ length replies.now }
     ensures leads { Follows (act_of (program machine.new))
         (map values_in (take result replies.now)) (rest machine.new) }
@@ -137,8 +131,7 @@ pub fn recall_box(machine: &mut Box<dyn Machine + Send>, replies: &[Reply]) -> u
 
 /// Ends a boxed machine.
 pub fn end_box(machine: &mut Box<dyn Machine + Send>)
-    ensures same { program machine.new ≡ program machine.old }
-    ensures resumed { resumed machine.new ≡ resumed machine.old }
+    ensures same { IsSameMachine program resumed machine.old machine.new }
     ensures ended { (s : Replies) → rest machine.new s ≡ Done (record { items = [] }) }
 {
     machine.end();
