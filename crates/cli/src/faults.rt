@@ -1,9 +1,9 @@
 //! Why there is no answer, and the status that tells it.
 
-ghost use Rattle.std.specs.Prelude.{◌≡◌, ◌⊎◌};
+ghost use Rattle.std.specs.Prelude.{◌≡◌};
 ghost use Rattle.orders.specs.declared.refusals.Refusal.TheVariants.{Memory};
 ghost use Rattle.cli.specs.declared.faults.AnswerFault.TheVariants.{Refused};
-ghost use Rattle.cli.specs.Statuses.{status_of};
+ghost use Rattle.cli.specs.Statuses.{IsStatusOf};
 
 use crate::standings::RefusedLetter;
 use merging::MergeFault;
@@ -43,8 +43,7 @@ pub enum AnswerFault {
 impl AnswerFault {
     /// 2 where what was asked is refused, 3 where it could not be done.
     pub fn status(&self) -> u8
-        ensures value { result ≡ status_of self.now }
-        ensures known { (result ≡ 2) ⊎ (result ≡ 3) }
+        ensures { IsStatusOf self.now result }
     {
         match self {
             AnswerFault::Refused(refusal) => refusal.status(),
@@ -83,8 +82,7 @@ impl<T: Drop> From<AllocFailed<T>> for AnswerFault {
 
 /// Writes the line of a fault, and gives its status, also where the line could not be written.
 pub fn refuse<E: Write>(fault: &AnswerFault, err: &mut E) -> u8
-    ensures value { result ≡ status_of fault.now }
-    ensures known { (result ≡ 2) ⊎ (result ≡ 3) }
+    ensures { IsStatusOf fault.now result }
 {
     let _ = writeln!(err, "regtry: {fault}");
     fault.status()

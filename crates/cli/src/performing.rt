@@ -1,8 +1,7 @@
 //! The whole program, over what opens its files and what takes its texts.
 
-ghost use Rattle.std.specs.Prelude.{◌≡◌, Option, option_and_then};
 ghost use Rattle.std.specs.Fn.{FnReturnsAt};
-ghost use Rattle.cli.specs.Performing.{AreAnswered, IsPerformed, IsVersionTold};
+ghost use Rattle.cli.specs.Performing.{AreAnswered, IsOpened, IsPerformed, IsVersionTold};
 
 use crate::answers::answer;
 use crate::faults::{AnswerFault, refuse};
@@ -36,9 +35,7 @@ pub fn perform<
 ) -> u8
     requires { F.IsAlwaysCallable opener.now }
     ensures { IsPerformed W.contents
-        (λ path known. (file : Option R) × FnReturnsAt F.Fn opener.now path file
-        × (known ≡ option_and_then R.remaining file))
-        request.entry out.old out.new result }
+        (IsOpened (FnReturnsAt F.Fn opener.now) R.remaining) request.entry out.old out.new result }
 {
     match request {
         Ok(Request::Order(order)) => answer_each(rt, alloc, &order, opener, out, err),
@@ -70,9 +67,7 @@ fn answer_each<
     E: Write + Send,
 >(rt: &H, alloc: Global, order: &Order<'_>, opener: &F, out: &mut W, err: &mut E) -> u8
     requires { F.IsAlwaysCallable opener.now }
-    ensures { AreAnswered W.contents
-        (λ path known. (file : Option R) × FnReturnsAt F.Fn opener.now path file
-        × (known ≡ option_and_then R.remaining file))
+    ensures { AreAnswered W.contents (IsOpened (FnReturnsAt F.Fn opener.now) R.remaining)
         order.now out.old out.new result }
 {
     let mut worst = 0;

@@ -1,7 +1,6 @@
 //! Why there is no answer, told in words.
 
-ghost use Rattle.std.specs.Prelude.{◌≡◌, ◌⊎◌};
-ghost use Rattle.cli.specs.Statuses.{status_of};
+ghost use Rattle.cli.specs.Statuses.{IsStatusOf};
 
 use crate::faults::AnswerFault;
 use crate::standings::RefusedLetter;
@@ -20,8 +19,7 @@ pub fn explain<E: Write>(path: &str, text: &[u8], fault: &AnswerFault, err: &mut
 /// Writes in words why there is no answer, but for a source, which was explained, and gives the status, also where the words could not be
 /// written. They tell of the subject: the path of what is read.
 pub fn refuse_in_words<E: Write>(subject: &str, fault: &AnswerFault, err: &mut E) -> u8
-    ensures value { result ≡ status_of fault.now }
-    ensures known { (result ≡ 2) ⊎ (result ≡ 3) }
+    ensures { IsStatusOf fault.now result }
 {
     let _ = write_words(subject, fault, err);
     fault.status()

@@ -1,5 +1,5 @@
 -- The bounds of a check and of a search.
-use Rattle.std.specs.Prelude.{◌≡◌, ℕ, List, Option, Some, None, codes}
+use Rattle.std.specs.Prelude.{◌≡◌, ◌≤◌, ℕ, List, Option, Some, None, codes}
 use Rattle.std.specs.Str.Parse.{digits_value, without_leading_plus}
 use Rattle.regmodel.specs.declared.limits.TheConstants.{MOST_CRASHES, MOST_LETTERS, MOST_WORKERS}
 use Rattle.orders.specs.NumberTexts.{IsNumberText}
@@ -32,6 +32,10 @@ most_of Cache = MOST_CACHE
 abbrev pub IsBoundTold : Option (List ℕ) → ℕ → ℕ → Type 0
 IsBoundTold None other n = n ≡ other
 IsBoundTold (Some text) other n = IsNumberText text × (n ≡ digits_value 10 (without_leading_plus text))
+
+-- no number that the text tells, or the other one where there is no such option, is one that the bound takes
+abbrev pub IsNoBound : Option (List ℕ) → Bound → ℕ → Type 0
+IsNoBound told bound other = (number : ℕ) → IsBoundTold told other number → least_of bound ≤ number → number ≤ most_of bound → ⊥
 
 -- a refusal that tells of a bound
 abbrev pub IsBoundRefused : Refusal → Type 0

@@ -1,5 +1,5 @@
 -- What is read, and how standard input is named.
-use Rattle.std.specs.Prelude.{◌≡◌, ℕ, ◌<◌, ◌≤◌, Bool, List, length, Option, IfSome, codes}
+use Rattle.std.specs.Prelude.{◌≡◌, ℕ, ◌<◌, ◌≤◌, Bool, List, length, Option, IfSome, codes, option_and_then}
 use Rattle.std.specs.Str.{bytes_eq}
 use Rattle.orders.specs.declared.inputs.TheConstants.{MOST_BYTES}
 
@@ -11,6 +11,12 @@ is_standard path = bytes_eq path (codes "-")
 pub record IsTextOf (file : Option (List ℕ)) (text : List ℕ) : Type 0 where
   pub known : IfSome file (λ bytes. text ≡ bytes)
   pub short : length text ≤ MOST_BYTES
+
+-- what is read of standard input, by what is given for its path, and by what remains to be read of that
+pub record IsStandardText {R : Type 0} (gives : List ℕ → Option R → Type 0) (remaining : R → Option (List ℕ)) (text : List ℕ) : Type 0 where
+  pub file : Option R
+  pub given : gives (codes "-") file
+  pub read : IsTextOf (option_and_then remaining file) text
 
 -- more bytes than that, where they are known
 abbrev pub IsTooLong : Option (List ℕ) → Type 0

@@ -3,7 +3,7 @@ use Rattle.std.specs.Prelude.{◌≡◌, ℕ, ◌+◌, ◌++◌, ◌≤◌, Bool
 use Rattle.std.specs.Option.{option_map}
 use Rattle.std.specs.Str.Parse.{digits_value, without_leading_plus}
 use Rattle.clap.specs.Matches.{first_value}
-use Rattle.clap.specs.Words.{matched_of, raw_values}
+use Rattle.clap.specs.Words.{matched_of, one_text, raw_values}
 use Rattle.clap.specs.declared.parser.matches.Found.{Found}
 use Rattle.patterns.specs.PatternText.{pattern_text}
 use Rattle.regmodel.specs.Settings.{Bounds}
@@ -13,6 +13,7 @@ use Rattle.report.specs.declared.effort.Effort.{Effort}
 use Rattle.report.specs.declared.parts.Part.{Part}
 use Rattle.orders.specs.Bounds.{IsBoundTold}
 use Rattle.orders.specs.NumberTexts.{IsNumberText}
+use Rattle.orders.specs.PatternTexts.{AreTextsOf}
 use Rattle.orders.specs.declared.tasks.Task.{Task}
 use Rattle.orders.specs.declared.bounds.TheConstants.{CACHE, MOST_CACHE, ROOM, SHARED_CUT}
 use Rattle.orders.specs.declared.tasks.Task.TheVariants.{Check, Explore, Least, Find, Replay, Show}
@@ -140,6 +141,12 @@ IsFind told processors texts (Find effort native patterns) =
     IsEffortTold told processors effort × IsNativeTold told native × (map pattern_text patterns.items ≡ texts)
 IsFind told processors texts (Replay schedule) = ⊥
 IsFind told processors texts (Show schedule all) = ⊥
+
+-- so it is with the patterns that the words tell, by what is read of standard input and what clap found
+pub record IsFindTold (reads : List ℕ → Type 0) (found : Found) (processors : ℕ) (task : Task) : Type 0 where
+  pub texts : List (List ℕ)
+  pub read : AreTextsOf reads (texts_told found) texts
+  pub find : IsFind (one_text found) processors texts task
 
 -- how many lists of machines it takes: one for each worker, and one more where a schedule that is found is to be drawn
 abbrev pub lists_of : Task → ℕ

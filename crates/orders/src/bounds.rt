@@ -1,10 +1,10 @@
 //! How far the words of a check or a search ask to go.
 
-ghost use Rattle.std.specs.Prelude.{◌≡◌, ◌<◌, ◌≤◌, ℕ, IfErr, IfOk};
+ghost use Rattle.std.specs.Prelude.{◌≡◌, ◌<◌, ◌≤◌, IfErr, IfOk};
 ghost use Rattle.clap.specs.Words.{found_of, one_text};
 ghost use Rattle.regmodel.specs.declared.limits.TheConstants.{MOST_WORKERS};
 ghost use Rattle.orders.specs.Bounds as spec;
-ghost use Rattle.orders.specs.Bounds.{IsBoundTold};
+ghost use Rattle.orders.specs.Bounds.{IsBoundTold, IsNoBound};
 ghost use Rattle.orders.specs.Orders.{AreBoundsTold};
 
 use crate::refusals::Refusal;
@@ -83,26 +83,30 @@ impl Bound {
 }
 
 /// How many processors there are, as far as workers can be as many: so many workers has a check or a search whose words do not say.
-pub(crate) fn processors<H: Threads>(rt: &H) -> u32
-    ensures some { 0 < result }
-    ensures few { result ≤ MOST_WORKERS }
-{
-    match thread::available_parallelism(rt) {
+#[derive(Clone, Copy)]
+pub struct ProcessorCount {
+    number: u32,
+    ghost some: { 0 < number },
+    ghost few: { number ≤ MOST_WORKERS },
+}
+
+/// How many processors the system tells.
+pub(crate) fn processors<H: Threads>(rt: &H) -> ProcessorCount {
+    let number = match thread::available_parallelism(rt) {
         Ok(count) => count.get().min(MOST_WORKERS as usize) as u32,
         Err(_) => PROCESSORS,
-    }
+    };
+    ProcessorCount { number }
 }
 
 /// How far the words of a check or a search ask to go. The error tells the first bound whose text is no number, or not one that it takes.
-pub fn bounds_of(words: &ArgMatches<'_>, processors: u32) -> Result<Settings, Refusal>
-    requires some { 0 < processors }
-    requires few { processors ≤ MOST_WORKERS }
-    ensures ok { IfOk result (AreBoundsTold (one_text (found_of words.now)) processors) }
+pub fn bounds_of(words: &ArgMatches<'_>, processors: ProcessorCount) -> Result<Settings, Refusal>
+    ensures ok { IfOk result (AreBoundsTold (one_text (found_of words.now)) processors.number) }
     ensures err { IfErr result spec.IsBoundRefused }
 {
     let length = bound_of(words, Bound::Length, MOST_LETTERS)?;
     let crashes = bound_of(words, Bound::Crashes, 0)?;
-    let workers = bound_of(words, Bound::Workers, processors)?;
+    let workers = bound_of(words, Bound::Workers, processors.number)?;
     let cut = if workers > 1 { SHARED_CUT } else { 0 };
     match Settings::new(length, crashes, workers, cut, ROOM) {
         Ok(settings) => Ok(settings),
@@ -118,9 +122,7 @@ pub(crate) fn bound_of(words: &ArgMatches<'_>, bound: Bound, other: u32) -> Resu
     ensures within { IfOk result
         (λ number. (spec.least_of bound ≤ number) × (number ≤ spec.most_of bound)) }
     ensures refused { IfErr result
-        (λ refusal. (number : ℕ)
-        → IsBoundTold (one_text (found_of words.now) (spec.name_of bound)) other number
-        → spec.least_of bound ≤ number → number ≤ spec.most_of bound → ⊥) }
+        (λ refusal. IsNoBound (one_text (found_of words.now) (spec.name_of bound)) bound other) }
     ensures err { IfErr result (λ refusal. refusal ≡ Refusal.Bound bound) }
 {
     match words.try_get_one::<u32>(bound.name()) {

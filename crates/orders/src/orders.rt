@@ -1,19 +1,15 @@
 //! What the words of the command line ask for.
 
-ghost use Rattle.std.specs.Prelude.{◌≡◌, ◌≢◌, ◌<◌, ◌≤◌, ◌⊎◌, ℕ, Err, IfErr, IfOk, List, Option, codes, map, not, option_and_then};
+ghost use Rattle.std.specs.Prelude.{◌≡◌, ◌⊎◌, Err, IfErr, IfOk, map};
 ghost use Rattle.std.specs.Fn.{FnReturnsAt};
 ghost use Rattle.clap.specs.Words.{found_of, one_text};
-ghost use Rattle.regmodel.specs.declared.letters.Letter.{Letter};
-ghost use Rattle.regmodel.specs.declared.limits.TheConstants.{MOST_WORKERS};
-ghost use Rattle.regmodel.specs.Prefixes.{FitsPrefix};
 ghost use Rattle.regmodel.specs.ScheduleText.{schedule_text};
 ghost use Rattle.orders.specs.Bounds.{IsBoundRefused};
-ghost use Rattle.orders.specs.Orders.{IsCheck, IsEffortTold, IsExploration, IsFind, IsReplayOf, IsShowOf, texts_told, word_told};
-ghost use Rattle.orders.specs.Inputs.{IsTextOf};
-ghost use Rattle.orders.specs.PatternTexts.{AreTextsOf};
-ghost use Rattle.orders.specs.Statuses.{status_of};
+ghost use Rattle.orders.specs.Orders.{IsCheck, IsEffortTold, IsExploration, IsFindTold, IsReplayOf, IsShowOf, texts_told, word_told};
+ghost use Rattle.orders.specs.Inputs.{IsStandardText};
+ghost use Rattle.orders.specs.Statuses.{IsNoSchedule, status_of};
 
-use crate::bounds::{Bound, CACHE, MOST_CACHE, bound_of, bounds_of, processors};
+use crate::bounds::{Bound, CACHE, MOST_CACHE, ProcessorCount, bound_of, bounds_of, processors};
 use crate::inputs::{STANDARD_INPUT, is_standard};
 use crate::options::{has_flag, is_native, number_of};
 use crate::parts_told::part_told;
@@ -152,10 +148,8 @@ fn subject_of<'a>(words: &ArgMatches<'a>, refusal: &Refusal) -> &'a str {
 }
 
 /// How far the words of `check` ask to check, whether they allow faults, and whether they ask for the shortest failing schedule.
-fn check_of(words: &ArgMatches<'_>, processors: u32) -> Result<Task, Refusal>
-    requires some { 0 < processors }
-    requires few { processors ≤ MOST_WORKERS }
-    ensures ok { IfOk result (IsCheck (one_text (found_of words.now)) processors) }
+fn check_of(words: &ArgMatches<'_>, processors: ProcessorCount) -> Result<Task, Refusal>
+    ensures ok { IfOk result (IsCheck (one_text (found_of words.now)) processors.number) }
     ensures err { IfErr result (λ refusal. status_of refusal ≡ 2) }
 {
     let effort = effort_of(words, processors)?;
@@ -171,10 +165,8 @@ fn check_of(words: &ArgMatches<'_>, processors: u32) -> Result<Task, Refusal>
 }
 
 /// How far the words of a check or a search ask to go, and in how many megabytes states are remembered.
-fn effort_of(words: &ArgMatches<'_>, processors: u32) -> Result<Effort, Refusal>
-    requires some { 0 < processors }
-    requires few { processors ≤ MOST_WORKERS }
-    ensures ok { IfOk result (IsEffortTold (one_text (found_of words.now)) processors) }
+fn effort_of(words: &ArgMatches<'_>, processors: ProcessorCount) -> Result<Effort, Refusal>
+    ensures ok { IfOk result (IsEffortTold (one_text (found_of words.now)) processors.number) }
     ensures err { IfErr result IsBoundRefused }
 {
     let settings = bounds_of(words, processors)?;
@@ -186,21 +178,13 @@ fn effort_of(words: &ArgMatches<'_>, processors: u32) -> Result<Effort, Refusal>
 fn find_of<R: Read + Drop, F: Fn(&str) -> Option<R>>(
     alloc: Global,
     words: &ArgMatches<'_>,
-    processors: u32,
+    processors: ProcessorCount,
     opener: &F,
 ) -> Result<Task, Refusal>
-    requires callable { F.IsAlwaysCallable opener.now }
-    requires some { 0 < processors }
-    requires few { processors ≤ MOST_WORKERS }
-    ensures ok { IfOk result
-        (λ task. (texts : List (List ℕ))
-        × AreTextsOf
-        (λ text. (file : Option R) × FnReturnsAt F.Fn opener.now (codes "-") file
-        × IsTextOf (option_and_then R.remaining file) text)
-        (texts_told (found_of words.now)) texts
-        × IsFind (one_text (found_of words.now)) processors texts task) }
-    ensures err { IfErr result
-        (λ refusal. (status_of refusal ≡ 2) ⊎ (refusal ≡ Refusal.Memory)) }
+    requires { F.IsAlwaysCallable opener.now }
+    ensures { IfOk result
+        (IsFindTold (IsStandardText (FnReturnsAt F.Fn opener.now) R.remaining) (found_of words.now)
+        processors.number) }
 {
     let effort = effort_of(words, processors)?;
     let native = is_native(words);
@@ -265,9 +249,7 @@ fn exploration_of(words: &ArgMatches<'_>) -> Result<Task, Refusal>
 /// To replay the schedule of this text.
 fn replay_of(text: &str) -> Result<Task, Refusal>
     ensures ok { IfOk result (λ task. IsReplayOf text.now task) }
-    ensures none { IfErr result
-        (λ refusal. (w : List Letter) → FitsPrefix w → schedule_text w ≢ text.now) }
-    ensures err { IfErr result (λ refusal. refusal ≡ Refusal.Schedule) }
+    ensures refused { IfErr result (IsNoSchedule text.now) }
 {
     match schedule_of(text) {
         Ok(schedule) => Ok(Task::Replay { schedule }),
@@ -278,9 +260,7 @@ fn replay_of(text: &str) -> Result<Task, Refusal>
 /// To draw the schedule of this text.
 fn show_of(text: &str, all: bool) -> Result<Task, Refusal>
     ensures ok { IfOk result (λ task. IsShowOf text.now all task) }
-    ensures none { IfErr result
-        (λ refusal. (w : List Letter) → FitsPrefix w → schedule_text w ≢ text.now) }
-    ensures err { IfErr result (λ refusal. refusal ≡ Refusal.Schedule) }
+    ensures refused { IfErr result (IsNoSchedule text.now) }
 {
     match schedule_of(text) {
         Ok(schedule) => Ok(Task::Show { schedule, all }),
@@ -291,9 +271,7 @@ fn show_of(text: &str, all: bool) -> Result<Task, Refusal>
 /// The schedule of this text.
 fn schedule_of(text: &str) -> Result<Prefix, Refusal>
     ensures ok { IfOk result (λ schedule. schedule_text schedule ≡ text.now) }
-    ensures none { IfErr result
-        (λ refusal. (w : List Letter) → FitsPrefix w → schedule_text w ≢ text.now) }
-    ensures err { IfErr result (λ refusal. refusal ≡ Refusal.Schedule) }
+    ensures refused { IfErr result (IsNoSchedule text.now) }
 {
     match read_schedule(text.as_bytes()) {
         Some(schedule) => Ok(schedule),

@@ -1,12 +1,11 @@
 //! The patterns that the words of the command line tell.
 
-ghost use Rattle.std.specs.Prelude.{◌≡◌, ◌⊎◌, List, IfErr, IfOk, Option, codes, map, option_and_then};
+ghost use Rattle.std.specs.Prelude.{◌≡◌, IfOk, map};
 ghost use Rattle.std.specs.Fn.{FnReturnsAt};
 ghost use Rattle.patterns.specs.PatternText.{pattern_text};
-ghost use Rattle.orders.specs.Inputs.{IsTextOf};
+ghost use Rattle.orders.specs.Inputs.{IsStandardText};
 ghost use Rattle.orders.specs.PatternTexts as spec;
 ghost use Rattle.orders.specs.PatternTexts.{AreTextsOf};
-ghost use Rattle.orders.specs.Statuses.{status_of};
 
 use crate::inputs::{STANDARD_INPUT, bytes_of, is_standard};
 use crate::refusals::Refusal;
@@ -26,13 +25,9 @@ pub fn patterns_told<R: Read + Drop, F: Fn(&str) -> Option<R>>(
     opener: &F,
 ) -> Result<Vec<Pattern>, Refusal>
     requires { F.IsAlwaysCallable opener.now }
-    ensures ok { IfOk result
-        (λ patterns. AreTextsOf
-        (λ text. (file : Option R) × FnReturnsAt F.Fn opener.now (codes "-") file
-        × IsTextOf (option_and_then R.remaining file) text)
+    ensures { IfOk result
+        (λ patterns. AreTextsOf (IsStandardText (FnReturnsAt F.Fn opener.now) R.remaining)
         (map (λ word. word.now) words.now) (map pattern_text patterns.items)) }
-    ensures err { IfErr result
-        (λ refusal. (status_of refusal ≡ 2) ⊎ (refusal ≡ Refusal.Memory)) }
 {
     if !are_standard(words) {
         return patterns_of(alloc, words);
@@ -58,10 +53,8 @@ pub fn are_standard(words: &[&str]) -> bool
 
 /// The patterns of these texts.
 fn patterns_of(alloc: Global, texts: &[&str]) -> Result<Vec<Pattern>, Refusal>
-    ensures ok { IfOk result
+    ensures { IfOk result
         (λ patterns. map pattern_text patterns.items ≡ map (λ text. text.now) texts.now) }
-    ensures err { IfErr result
-        (λ refusal. (status_of refusal ≡ 2) ⊎ (refusal ≡ Refusal.Memory)) }
 {
     let mut patterns = Vec::new(alloc);
     for text in texts {
@@ -76,10 +69,8 @@ fn patterns_of(alloc: Global, texts: &[&str]) -> Result<Vec<Pattern>, Refusal>
 
 /// The patterns of the lines of a text, of which there has to be one.
 fn patterns_in(alloc: Global, text: &[u8]) -> Result<Vec<Pattern>, Refusal>
-    ensures ok { IfOk result
+    ensures { IfOk result
         (λ patterns. map pattern_text patterns.items ≡ spec.texts_in text.now) }
-    ensures err { IfErr result
-        (λ refusal. (status_of refusal ≡ 2) ⊎ (refusal ≡ Refusal.Memory)) }
 {
     let mut patterns = Vec::new(alloc);
     let mut rest = text;

@@ -1,8 +1,8 @@
 //! What is refused of the words of the command line and of what they name, and the status that tells it.
 
-ghost use Rattle.std.specs.Prelude.{◌≡◌, ◌⊎◌};
+ghost use Rattle.std.specs.Prelude.{◌≡◌};
 ghost use Rattle.orders.specs.declared.refusals.Refusal.TheVariants.{Memory};
-ghost use Rattle.orders.specs.Statuses.{status_of};
+ghost use Rattle.orders.specs.Statuses.{IsStatusOf};
 
 use crate::bounds::Bound;
 use std::alloc::AllocFailed;
@@ -50,8 +50,7 @@ pub enum Refusal {
 impl Refusal {
     /// 2 where what was asked is refused, 3 where it could not be done.
     pub fn status(&self) -> u8
-        ensures value { result ≡ status_of self.now }
-        ensures known { (result ≡ 2) ⊎ (result ≡ 3) }
+        ensures { IsStatusOf self.now result }
     {
         match self {
             Refusal::Words
@@ -79,8 +78,7 @@ impl<T: Drop> From<AllocFailed<T>> for Refusal {
 
 /// Writes the line of a refusal, and gives its status, also where the line could not be written.
 pub fn refuse<E: Write>(refusal: &Refusal, err: &mut E) -> u8
-    ensures value { result ≡ status_of refusal.now }
-    ensures known { (result ≡ 2) ⊎ (result ≡ 3) }
+    ensures { IsStatusOf refusal.now result }
 {
     let _ = writeln!(err, "regtry: {refusal}");
     refusal.status()

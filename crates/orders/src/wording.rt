@@ -1,7 +1,6 @@
 //! Refusals of the words of the command line and of what they name, told in words.
 
-ghost use Rattle.std.specs.Prelude.{◌≡◌, ◌⊎◌};
-ghost use Rattle.orders.specs.Statuses.{status_of};
+ghost use Rattle.orders.specs.Statuses.{IsStatusOf};
 
 use crate::refusals::Refusal;
 use std::io;
@@ -14,8 +13,7 @@ const STANDINGS: &str =
 /// Writes in words what is refused, and gives the status, also where the words could not be written. They tell of the subject: the path of
 /// what is read, or the text that is given for a bound.
 pub fn refuse_in_words<E: Write>(subject: &str, refusal: &Refusal, err: &mut E) -> u8
-    ensures value { result ≡ status_of refusal.now }
-    ensures known { (result ≡ 2) ⊎ (result ≡ 3) }
+    ensures { IsStatusOf refusal.now result }
 {
     let _ = write_words(subject, refusal, err);
     refusal.status()

@@ -84,5 +84,5 @@ module _ (law : WantsWithin) (search : Search) (registers budget : ℕ) (fit : A
         let count : length findings.outcomes < 2 ^ 64 = omega (arith, few, length-map schedules (outcome_of ps), told.tried, tried) in
         record {
           head = fits;
-          found = subst (λ n. FitsFound n (explored_part head findings).found) (sym processes) (tried, count, outcomes-fit schedules findings.outcomes told.outcomes, told.outcomes.rising, least-fits pieces findings.least letters told.least);
+          found = subst (λ n. FitsFound n (explored_part head findings).found) (sym processes) (tried, record { count = count; fit = outcomes-fit schedules findings.outcomes told.outcomes; rising = told.outcomes.rising }, least-fits pieces findings.least letters told.least);
         }

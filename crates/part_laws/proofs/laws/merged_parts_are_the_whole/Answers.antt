@@ -1,9 +1,10 @@
-use Rattle.std.proofs.Common.{ℕ, ◌∷◌, List, map, ◌∙◌}
+use Rattle.std.proofs.Common.{ℕ, ◌∷◌, List, map, refl, ◌∙◌}
 use Rattle.std.proofs.lemmas.List.Elements.{All-head, All-tail}
 use Rattle.pool.specs.Balance.{AreInBalance}
 use Rattle.regmodel.specs.declared.letters.Letter.{Letter}
 use Rattle.part_texts.specs.PlainHead.{AreOfOne}
 use Rattle.part_texts.specs.declared.parts.PartReport.{PartReport}
+use Rattle.tallies.specs.Merging.{lower_of}
 use Rattle.explorer.specs.Parts.{members_of_part}
 use Rattle.explorer.specs.Searches.{Search, reduced_of, search_of}
 use Rattle.part_laws.specs.Wholes.{IsFoundIn, IsPartOfSource}
@@ -20,7 +21,7 @@ returns c source settings accepts first others merged h parts =
     let whole = c.the_whole_is_found.ensures in
     let own : IsPartOfSource source settings accepts first = All-head (IsPartOfSource source settings accepts) first others parts in
     let each = each_found source settings accepts first others (All-tail (λ (part : PartReport). AreOfOne first.head part.head) first others h.all.of_one) (All-tail (IsPartOfSource source settings accepts) first others parts) in
-    let told : IsFoundIn search (gathered members first others) h.whole = all_found search (laws.merged search) (laws.lower search) members first others h.whole own.found each h.joined in
+    let told : IsFoundIn search (gathered members first others) h.whole = all_found search (laws.merged search) (λ ws vs a b h k. laws.lower search ws vs a b (lower_of a b) h k refl) members first others h.whole own.found each h.joined in
     let balance : AreInBalance (gathered members first others) (reduced_of search) = λ weight.
     gathered-balanced members first others weight
     ∙ c.parts_are_the_whole.ensures.parts search settings.cut count (first.head.number ∷ numbers) (some_count first.head.number count numbers h.all.numbers) h.all.numbers weight in
