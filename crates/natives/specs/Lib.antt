@@ -8,3 +8,4 @@ pub mod ScannedNames
 pub mod Splits
 pub mod Splitters
 pub mod Trees
+pub mod Turns

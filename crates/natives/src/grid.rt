@@ -7,6 +7,7 @@ ghost use Rattle.natives.specs.Makes.{IsMadeFor};
 ghost use Rattle.natives.specs.Puts.{ArePut};
 ghost use Rattle.regmodel.specs.declared.limits.TheConstants.{MOST_REGISTERS, MOST_ROWS};
 ghost use Rattle.natives.specs.Grids.{grid_from, grid_numbers};
+ghost use Rattle.natives.specs.Turns.{GoesOnAs};
 
 use crate::MakeFault;
 use crate::limits::check_fits;
@@ -76,11 +77,9 @@ impl Grid {
     fn go_to(&mut self, vertex: u8)
         requires some { 1 ≤ vertex }
         requires named { vertex * 2 ≤ (self.old.level + 2) * (self.old.level + 3) }
-        ensures same { ⟦<Grid as Machine>⟧.program self.new ≡ ⟦<Grid as Machine>⟧.program self.old }
-        ensures goes_on { (s : Replies)
-            → ⟦<Grid as Machine>⟧.rest self.new s
-            ≡ grid_from self.old.base self.old.id self.old.registers
-            (self.old.side - (self.old.level + 1)) (self.old.level + 1) vertex s }
+        ensures { GoesOnAs ⟦<Grid as Machine>⟧ self.old self.new
+            (grid_from self.old.base self.old.id self.old.registers
+            (self.old.side - (self.old.level + 1)) (self.old.level + 1) vertex) }
     {
         if self.level + 1 == self.side {
             self.stage = Stage::Over;

@@ -8,6 +8,7 @@ ghost use Rattle.natives.specs.declared.rounds.Reading.{Reading};
 ghost use Rattle.natives.specs.declared.rounds.Stage.TheVariants.{Looks};
 ghost use Rattle.natives.specs.Puts.{ArePut};
 ghost use Rattle.natives.specs.Names.{IsRead, name_numbers, reading_rest};
+ghost use Rattle.natives.specs.Turns.{GoesOnAs};
 
 use crate::MakeFault;
 use crate::limits::check_fits;
@@ -44,11 +45,8 @@ impl NameSlots {
         requires inside { reading.at ≤ self.old.round.slots.count }
         requires some { 1 ≤ reading.rank }
         requires small { reading.rank ≤ reading.at + 1 }
-        ensures same { ⟦<NameSlots as Machine>⟧.program self.new
-            ≡ ⟦<NameSlots as Machine>⟧.program self.old }
-        ensures goes_on { (s : Replies)
-            → ⟦<NameSlots as Machine>⟧.rest self.new s
-            ≡ reading_rest self.old.round reading s }
+        ensures { GoesOnAs ⟦<NameSlots as Machine>⟧ self.old self.new
+            (reading_rest self.old.round reading) }
     {
         let next = if reading.at == self.round.slots.own {
             Reading {
@@ -68,11 +66,8 @@ impl NameSlots {
     /// Takes what a slot holds, and goes on to the next one.
     fn take(&mut self, reading: Reading, reply: &[u32])
         requires read { IsRead self.old.round.slots.count self.old.round.slots.own reading }
-        ensures same { ⟦<NameSlots as Machine>⟧.program self.new
-            ≡ ⟦<NameSlots as Machine>⟧.program self.old }
-        ensures goes_on { (s : Replies)
-            → ⟦<NameSlots as Machine>⟧.rest self.new s
-            ≡ reading_rest self.old.round reading (reply.now ∷ s) }
+        ensures { GoesOnAs ⟦<NameSlots as Machine>⟧ self.old self.new
+            (λ s. reading_rest self.old.round reading (reply.now ∷ s)) }
     {
         let held = value_of(reply);
         self.round.seen[usize::from(reading.at)] = held;

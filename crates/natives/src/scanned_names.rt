@@ -6,6 +6,7 @@ ghost use Rattle.uses.specs.declared.kinds.Use.TheVariants as kind;
 ghost use Rattle.natives.specs.Makes.{IsMadeFor};
 ghost use Rattle.natives.specs.Puts.{ArePut};
 ghost use Rattle.natives.specs.ScannedNames.{scan_round_rest, names_numbers};
+ghost use Rattle.natives.specs.Turns.{GoesOnAs};
 
 use crate::MakeFault;
 use crate::limits::check_fits;
@@ -41,11 +42,8 @@ impl Names {
     /// Takes what a scan gave, of which the own slot counts as empty, and ends the round.
     fn take(&mut self, reply: &[u32])
         requires { length reply.now ≡ self.old.round.slots.count }
-        ensures same { ⟦<Names as Machine>⟧.program self.new
-            ≡ ⟦<Names as Machine>⟧.program self.old }
-        ensures goes_on { (s : Replies) → ⟦<Names as Machine>⟧.rest self.new s
-            ≡ scan_round_rest self.old.round
-            (one 0 ∷ reply.now ∷ s) }
+        ensures { GoesOnAs ⟦<Names as Machine>⟧ self.old self.new
+            (λ s. scan_round_rest self.old.round (one 0 ∷ reply.now ∷ s)) }
     {
         let slots = usize::from(self.round.slots.count);
         let own = usize::from(self.round.slots.own);

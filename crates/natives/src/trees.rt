@@ -9,6 +9,7 @@ ghost use Rattle.natives.specs.Puts.{ArePut};
 ghost use Rattle.regmodel.specs.declared.limits.TheConstants.{MOST_LEVELS, MOST_REGISTERS};
 ghost use Rattle.natives.specs.declared.trees.Stage.TheVariants.{Sees, Takes};
 ghost use Rattle.natives.specs.Trees.{IsIn, collect_numbers, tree_numbers, below_reached, from_vertex, from_past, from_at, from_next};
+ghost use Rattle.natives.specs.Turns.{GoesOnAs};
 
 use crate::MakeFault;
 use crate::limits::check_fits;
@@ -119,11 +120,9 @@ impl Tree {
     fn go_to(&mut self, vertex: u8)
         requires some { 1 ≤ vertex }
         requires below { vertex ≤ self.old.vertex * 2 + 1 }
-        ensures same { ⟦<Tree as Machine>⟧.program self.new ≡ ⟦<Tree as Machine>⟧.program self.old }
-        ensures goes_on { (s : Replies)
-            → ⟦<Tree as Machine>⟧.rest self.new s
-            ≡ from_vertex self.old.base self.old.registers self.old.depth self.old.id
-            self.old.value self.old.levels vertex s }
+        ensures { GoesOnAs ⟦<Tree as Machine>⟧ self.old self.new
+            (from_vertex self.old.base self.old.registers self.old.depth self.old.id self.old.value
+            self.old.levels vertex) }
     {
         if self.levels == 0 {
             self.stage = Stage::Over;
@@ -136,11 +135,9 @@ impl Tree {
 
     /// Begins the collect, at the root.
     fn collect(&mut self)
-        ensures same { ⟦<Tree as Machine>⟧.program self.new ≡ ⟦<Tree as Machine>⟧.program self.old }
-        ensures goes_on { (s : Replies)
-            → ⟦<Tree as Machine>⟧.rest self.new s
-            ≡ from_past self.old.base self.old.registers self.old.last 0
-            (slice_set (replicate 32 false) 1 true) [] s }
+        ensures { GoesOnAs ⟦<Tree as Machine>⟧ self.old self.new
+            (from_past self.old.base self.old.registers self.old.last 0
+            (slice_set (replicate 32 false) 1 true) []) }
     {
         self.reached = [false; 32];
         self.reached[1] = true;
@@ -170,11 +167,9 @@ impl Tree {
     /// Goes on past a vertex to the next one that was reached, if any.
     fn go_past(&mut self, vertex: u8)
         requires { vertex ≤ self.old.last }
-        ensures same { ⟦<Tree as Machine>⟧.program self.new ≡ ⟦<Tree as Machine>⟧.program self.old }
-        ensures goes_on { (s : Replies)
-            → ⟦<Tree as Machine>⟧.rest self.new s
-            ≡ from_past self.old.base self.old.registers (self.old.last - vertex) vertex
-            self.old.reached self.old.numbers.items s }
+        ensures { GoesOnAs ⟦<Tree as Machine>⟧ self.old self.new
+            (from_past self.old.base self.old.registers (self.old.last - vertex) vertex
+            self.old.reached self.old.numbers.items) }
     {
         match self.next_reached(vertex) {
             Some(next) => self.stage = Stage::Sees(next),
@@ -185,11 +180,9 @@ impl Tree {
     /// Both children of a vertex are reached; goes on past it.
     fn reach(&mut self, vertex: u8)
         requires { IsIn self.old.last vertex }
-        ensures same { ⟦<Tree as Machine>⟧.program self.new ≡ ⟦<Tree as Machine>⟧.program self.old }
-        ensures goes_on { (s : Replies)
-            → ⟦<Tree as Machine>⟧.rest self.new s
-            ≡ from_past self.old.base self.old.registers (self.old.last - vertex) vertex
-            (below_reached vertex self.old.reached) self.old.numbers.items s }
+        ensures { GoesOnAs ⟦<Tree as Machine>⟧ self.old self.new
+            (from_past self.old.base self.old.registers (self.old.last - vertex) vertex
+            (below_reached vertex self.old.reached) self.old.numbers.items) }
     {
         self.reached[usize::from(vertex * 2)] = true;
         self.reached[usize::from(vertex * 2 + 1)] = true;
@@ -199,11 +192,9 @@ impl Tree {
     /// Takes the value of a marked vertex, 0 where none was left there yet.
     fn take(&mut self, vertex: u8, reply: &[u32])
         requires { IsIn self.old.last vertex }
-        ensures same { ⟦<Tree as Machine>⟧.program self.new ≡ ⟦<Tree as Machine>⟧.program self.old }
-        ensures goes_on { (s : Replies)
-            → ⟦<Tree as Machine>⟧.rest self.new s
-            ≡ from_at self.old.base self.old.registers self.old.last self.old.reached
-            self.old.numbers.items vertex (one 1 ∷ reply.now ∷ s) }
+        ensures { GoesOnAs ⟦<Tree as Machine>⟧ self.old self.new
+            (λ s. from_at self.old.base self.old.registers self.old.last self.old.reached
+            self.old.numbers.items vertex (one 1 ∷ reply.now ∷ s)) }
     {
         let value = value_of(reply);
         if value == 0 {

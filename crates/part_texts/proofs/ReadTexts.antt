@@ -8,12 +8,11 @@ use Rattle.std.specs.List.{flat_map}
 use Rattle.std.proofs.lemmas.Grind.{flat_map-append}
 use Rattle.regmodel.specs.Settings.{Bounds}
 use Rattle.regmodel.specs.declared.outcomes.ProcEnd.{ProcEnd}
-use Rattle.texts.specs.NumberText.{number_line}
 use Rattle.texts.specs.OutcomeText.{outcome_line}
 use Rattle.part_texts.specs.declared.faults.Cause.{Cause}
 use Rattle.part_texts.specs.declared.faults.Cause.TheVariants.{Unreadable}
 use Rattle.part_texts.specs.PlainHead.{PlainHead, head_of}
-use Rattle.part_texts.specs.PartText.{bounds_text, head_text, number_text}
+use Rattle.part_texts.specs.PartText.{bounds_text, head_text, number_text, source_text}
 use Rattle.part_texts.specs.Streams.{ReadsOn}
 use Rattle.std.proofs.KnownBytes.{Consumes-trans}
 use Rattle.std.proofs.lemmas.List.{append-nil, take-append-drop}
@@ -71,19 +70,17 @@ three_read a b c d x y z p q r = Consumes-trans a c d (x ++ y) z (Consumes-trans
 
 -- ---- the lines of a head
 
-pub head_read : (a b c : Option (List ℕ)) (line first bounds size source : List ℕ) → line ++ 10 ∷ [] ≡ first → Consumes a b bounds → Consumes b c (size ++ source) → ReadsOn a c line (first ++ bounds ++ size ++ source)
-head_read a b c line first bounds size source e p q = record {
-  rest = bounds ++ (size ++ source);
-  parts =
-      sym (append_assoc line (10 ∷ []) (bounds ++ (size ++ source))) ∙ ap (λ s. s ++ (bounds ++ (size ++ source))) e
-      ∙ sym (append_assoc first bounds (size ++ source)) ∙ sym (append_assoc (first ++ bounds) size source);
-  taken = Consumes-trans a b c bounds (size ++ source) p q;
+pub head_read : (a b c : Option (List ℕ)) (line first bounds source : List ℕ) → line ++ 10 ∷ [] ≡ first → Consumes a b bounds → Consumes b c source → ReadsOn a c line (first ++ bounds ++ source)
+head_read a b c line first bounds source e p q = record {
+  rest = bounds ++ source;
+  parts = sym (append_assoc line (10 ∷ []) (bounds ++ source)) ∙ ap (λ s. s ++ (bounds ++ source)) e ∙ sym (append_assoc first bounds source);
+  taken = Consumes-trans a b c bounds source p q;
 }
 
-pub whole_head : (a b c : Option (List ℕ)) (line : List ℕ) (number count p q processes : ℕ) (bounds : Bounds) (source : List ℕ) (head : PlainHead) → codes "part " ++ decimal number ++ codes " of " ++ decimal count ≡ line → p ≡ number → q ≡ count → Consumes a b (bounds_text processes bounds.length bounds.crashes bounds.cut) → Consumes b c (number_line (codes "source") (length source) ++ source) → head ≡ head_of p q processes bounds source → ReadsOn a c line (head_text head)
+pub whole_head : (a b c : Option (List ℕ)) (line : List ℕ) (number count p q processes : ℕ) (bounds : Bounds) (source : List ℕ) (head : PlainHead) → codes "part " ++ decimal number ++ codes " of " ++ decimal count ≡ line → p ≡ number → q ≡ count → Consumes a b (bounds_text processes bounds.length bounds.crashes bounds.cut) → Consumes b c (source_text source) → head ≡ head_of p q processes bounds source → ReadsOn a c line (head_text head)
 whole_head a b c line number count p q processes bounds source head e hp hq r s same =
     let first : line ++ 10 ∷ [] ≡ number_text p q = ap (λ l. l ++ 10 ∷ []) (sym e) ∙ ap (λ n. number_text n count) (sym hp) ∙ ap (λ n. number_text p n) (sym hq) in
-    subst (λ h. ReadsOn a c line (head_text h)) (sym same) (head_read a b c line (number_text p q) (bounds_text processes bounds.length bounds.crashes bounds.cut) (number_line (codes "source") (length source)) source first r s)
+    subst (λ h. ReadsOn a c line (head_text h)) (sym same) (head_read a b c line (number_text p q) (bounds_text processes bounds.length bounds.crashes bounds.cut) (source_text source) first r s)
 
 -- ---- the lines of outcomes
 

@@ -1,25 +1,23 @@
 -- A text begins with one line, and the line says one thing.
-use Rattle.std.proofs.Common.{◌≡◌, ℕ, suc, ◌+◌, ◌^◌, ◌<◌, ◌≤◌, Bool, true, false, leb, eqb, not, List, [], ◌∷◌, ◌++◌, length, codes, decimal, All, refl, ap, sym, ◌∙◌, arith, append_assoc}
+use Rattle.std.proofs.Common.{◌≡◌, ℕ, suc, ◌+◌, ◌^◌, ◌<◌, ◌≤◌, true, false, eqb, not, List, [], ◌∷◌, ◌++◌, length, codes, decimal, All, refl, ap, sym, ◌∙◌, arith, append_assoc}
 use Rattle.std.specs.List.{flat_map, list_all}
 use Rattle.std.specs.Int.{IsInRange}
-use Rattle.std.proofs.lemmas.Bool.{and_parts, and_from, leb-true}
+use Rattle.std.proofs.lemmas.Bool.{and_parts, and_from}
 use Rattle.std.proofs.lemmas.Bool.Decides.{nat_tests}
 use Rattle.std.proofs.lemmas.Fmt.{decimal_injective, decimal_is_IsNumeral}
 use Rattle.std.proofs.lemmas.List.Elements.{All-head, All-tail}
 use Rattle.regmodel.specs.declared.letters.Letter.{Letter}
 use Rattle.regmodel.specs.declared.letters.Letter.TheVariants.{Run, Crash}
-use Rattle.regmodel.specs.declared.outcomes.End.{End}
-use Rattle.regmodel.specs.declared.outcomes.End.TheVariants.{Done, Fault, Crashed, Running}
 use Rattle.regmodel.specs.declared.outcomes.ProcEnd.{ProcEnd}
 use Rattle.regmodel.specs.Letters.{process_of}
 use Rattle.regmodel.specs.ScheduleText.{letter_text, schedule_text}
-use Rattle.texts.specs.NumberText.{number_line, numbers_text}
-use Rattle.texts.specs.OutcomeText.{end_text, fate_text, outcome_text}
+use Rattle.texts.specs.NumberText.{number_line}
+use Rattle.texts.specs.OutcomeText.{end_text, outcome_text}
 use Rattle.patterns.specs.declared.standings.Standing.{Standing}
 use Rattle.patterns.specs.declared.standings.Standing.TheVariants.{Just}
 use Rattle.patterns.specs.declared.standings.Standing.TheVariants as standing
 use Rattle.patterns.specs.Cuts.{has_no}
-use Rattle.patterns.specs.PatternText.{FitsPattern, end_fits, idle_text}
+use Rattle.patterns.specs.PatternText.{FitsPattern, end_fits}
 use Rattle.patterns.proofs.Bytes.{cut_same, has_no-append, no_digit}
 use Rattle.patterns.proofs.Ends.{IsOutside, none-end}
 use Rattle.patterns.proofs.Sames.{pattern_text-same}

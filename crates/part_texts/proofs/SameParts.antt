@@ -14,7 +14,7 @@ use Rattle.texts.specs.OutcomeText.{outcome_line, outcome_text}
 use Rattle.patterns.proofs.Bytes.{cut_same}
 use Rattle.part_texts.specs.FitsPart.{FitsFound, FitsLeast, FitsOutcome, FitsPart}
 use Rattle.part_texts.specs.PlainHead.{FitsHead, PlainHead}
-use Rattle.part_texts.specs.PartText.{bounds_text, end_text, found_text, head_text, number_text, part_text}
+use Rattle.part_texts.specs.PartText.{bounds_in, bounds_text, end_text, found_text, head_text, number_text, outcomes_text, part_text, source_text}
 use Rattle.part_texts.specs.declared.parts.Found.{Found}
 use Rattle.part_texts.specs.declared.parts.Found.TheVariants.{Explored, Least}
 use Rattle.part_texts.specs.declared.parts.PartReport.{PartReport}
@@ -57,9 +57,9 @@ least-same n (Some (v, o)) (Some (w, p)) s t some few ha hb e =
 
 pub explored_parts : (x : Summary) (s : List ℕ) → found_text (Explored x) ++ s ≡ number_line (codes "tried") x.tried ++ (number_line (codes "outcomes") (length x.outcomes) ++ (flat_map outcome_line x.outcomes ++ (least_text x.least ++ s)))
 explored_parts x s =
-    append_assoc ((number_line (codes "tried") x.tried ++ number_line (codes "outcomes") (length x.outcomes)) ++ flat_map outcome_line x.outcomes) (least_text x.least) s
-    ∙ append_assoc (number_line (codes "tried") x.tried ++ number_line (codes "outcomes") (length x.outcomes)) (flat_map outcome_line x.outcomes) (least_text x.least ++ s)
-    ∙ append_assoc (number_line (codes "tried") x.tried) (number_line (codes "outcomes") (length x.outcomes)) (flat_map outcome_line x.outcomes ++ (least_text x.least ++ s))
+    append_assoc (number_line (codes "tried") x.tried ++ outcomes_text x.outcomes) (least_text x.least) s
+    ∙ append_assoc (number_line (codes "tried") x.tried) (outcomes_text x.outcomes) (least_text x.least ++ s)
+    ∙ ap (λ t. number_line (codes "tried") x.tried ++ t) (append_assoc (number_line (codes "outcomes") (length x.outcomes)) (flat_map outcome_line x.outcomes) (least_text x.least ++ s))
 
 abbrev summary_of : ℕ → List (List ProcEnd) → Option (List Letter × List ProcEnd) → Summary
 summary_of n o l = record { tried = n; outcomes = o; least = l }
@@ -80,9 +80,9 @@ found-same n (Explored x) (Least b) s t some few hf hg e = absurd (no_tried b _ 
 found-same n (Least a) (Explored y) s t some few hf hg e = absurd (no_tried a _ s (sym e))
 found-same n (Explored x) (Explored y) s t some few hf hg e =
     let tried = number-same (codes "tried") x.tried y.tried _ _ refl hf.0 hg.0 (sym (explored_parts x s) ∙ e ∙ explored_parts y t) in
-    let count = number-same (codes "outcomes") (length x.outcomes) (length y.outcomes) _ _ refl hf.1 hg.1 tried.1 in
-    let rows = outcomes-same n x.outcomes y.outcomes _ _ some few count.0 hf.2 hg.2 count.1 in
-    let least = least-same n x.least y.least s t some few hf.4 hg.4 rows.1 in
+    let count = number-same (codes "outcomes") (length x.outcomes) (length y.outcomes) _ _ refl hf.1.count hg.1.count tried.1 in
+    let rows = outcomes-same n x.outcomes y.outcomes _ _ some few count.0 hf.1.fit hg.1.fit count.1 in
+    let least = least-same n x.least y.least s t some few hf.2 hg.2 rows.1 in
     (ap Explored (summary-same x y tried.0 rows.0 least.0), least.1)
 
 -- ---- heads
@@ -104,9 +104,9 @@ bounds-parts p l c k s =
 
 pub head-parts : (h : PlainHead) (s : List ℕ) → head_text h ++ s ≡ number_text h.number h.count ++ (bounds_text h.processes h.length h.crashes h.cut ++ (number_line (codes "source") (length h.source) ++ (h.source ++ s)))
 head-parts h s =
-    append_assoc ((number_text h.number h.count ++ bounds_text h.processes h.length h.crashes h.cut) ++ number_line (codes "source") (length h.source)) h.source s
-    ∙ append_assoc (number_text h.number h.count ++ bounds_text h.processes h.length h.crashes h.cut) (number_line (codes "source") (length h.source)) (h.source ++ s)
-    ∙ append_assoc (number_text h.number h.count) (bounds_text h.processes h.length h.crashes h.cut) (number_line (codes "source") (length h.source) ++ (h.source ++ s))
+    append_assoc (number_text h.number h.count ++ bounds_in h) (source_text h.source) s
+    ∙ append_assoc (number_text h.number h.count) (bounds_in h) (source_text h.source ++ s)
+    ∙ ap (λ t. number_text h.number h.count ++ (bounds_in h ++ t)) (append_assoc (number_line (codes "source") (length h.source)) h.source s)
 
 abbrev plain : ℕ → ℕ → ℕ → ℕ → ℕ → ℕ → List ℕ → PlainHead
 plain number count processes limit crashes cut source = record { number = number; count = count; processes = processes; length = limit; crashes = crashes; cut = cut; source = source }

@@ -185,7 +185,7 @@ explored_wanted n b line now tried (Least least) rest Q fits l same here k =
 pub behind_outcomes : (n : ℕ) (a b : Option (List ℕ)) (line now : List ℕ) (tried : ℕ) (found : Found) (rest : List ℕ) (v : List (List ProcEnd)) (Q : Type 0) → 1 ≤ n → n ≤ 8 → FitsFound n found → IsLineOf a line (found_text found ++ rest) → now ≡ line → (codes "tried" ++ codes " ") ++ decimal tried ≡ now
     → length v < 2 ^ 64 → All (FitsOutcome n) v → Consumes a b (number_line (codes "outcomes") (length v) ++ flat_map outcome_line v) → ((least : Option (Schedule × List ProcEnd)) → FitsLeast n least → b ≡ Some (least_text least ++ rest) → Q) → Q
 behind_outcomes n a b line now tried found rest v Q some few fits l same here low each read k =
-    explored_wanted n a line now tried found rest Q fits l same here (λ s fs known. k s.least fs.4 (outcomes_are n v s.outcomes a b (least_text s.least ++ rest) some few low fs.1 each fs.2 read known).1)
+    explored_wanted n a line now tried found rest Q fits l same here (λ s fs known. k s.least fs.2 (outcomes_are n v s.outcomes a b (least_text s.least ++ rest) some few low fs.1.count each fs.1.fit read known).1)
 
 -- ---- heads
 

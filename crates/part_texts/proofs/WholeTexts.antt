@@ -8,9 +8,10 @@ use Rattle.regmodel.specs.declared.outcomes.ProcEnd.{ProcEnd}
 use Rattle.texts.specs.NumberText.{number_line}
 use Rattle.texts.specs.OutcomeText.{outcome_line, outcome_text}
 use Rattle.patterns.specs.Cuts.{has_no}
-use Rattle.part_texts.specs.Causes.{IsOutward}
-use Rattle.part_texts.specs.FitsPart.{FitsOutcome}
-use Rattle.part_texts.specs.Streams.{FitsLine, IsLineOf, ReadsOn}
+use Rattle.part_texts.specs.Causes.{IsOutwardAt}
+use Rattle.part_texts.specs.FitsPart.{FitsNumber, FitsOutcome, FitsOutcomeBehind, IsProcessCount}
+use Rattle.part_texts.specs.PartText.{outcome_behind}
+use Rattle.part_texts.specs.Streams.{IsLineOf, ReadsOn}
 use Rattle.part_texts.specs.declared.faults.Cause.{Cause}
 use Rattle.part_texts.specs.declared.faults.Cause.TheVariants.{Other}
 use Rattle.part_texts.proofs.SameLines.{first-same, line-same, number-same, tail-same, told-same}
@@ -119,12 +120,12 @@ pub refused : {X : Type 0} (P : Cause → Type 0) (cause : Cause) (o : Option X)
 refused P cause None r e h = subst (λ s. IfErr s P) (sym e) h
 refused P cause (Some x) r e h = subst (λ s. IfErr s P) (sym e) tt
 
-pub number_refused : (a b : Option (List ℕ)) (read line word : List ℕ) (o : Option ℕ) → Consumes a b (read ++ 10 ∷ []) → has_no 10 read ≡ true → line ≡ read → IfNone o ((n : ℕ) → n < 2 ^ 64 → (word ++ codes " ") ++ decimal n ≢ line) → IfNone o ((n : ℕ) (rest : List ℕ) → n < 2 ^ 64 → FitsLine ((word ++ codes " ") ++ decimal n) → a ≡ Some (number_line word n ++ rest) → IsOutward Other)
+pub number_refused : (a b : Option (List ℕ)) (read line word : List ℕ) (o : Option ℕ) → Consumes a b (read ++ 10 ∷ []) → has_no 10 read ≡ true → line ≡ read → IfNone o ((n : ℕ) → n < 2 ^ 64 → (word ++ codes " ") ++ decimal n ≢ line) → IfNone o (IsOutwardAt (FitsNumber word) (number_line word) a Other)
 number_refused a b read line word (Some x) p clean same none = tt
-number_refused a b read line word None p clean same none = λ n rest low fits e.
-    absurd (none n low (sym (line_is a b read ((word ++ codes " ") ++ decimal n) rest p clean fits.one e).0 ∙ sym same))
+number_refused a b read line word None p clean same none = λ n rest fits e.
+    absurd (none n fits.low (sym (line_is a b read ((word ++ codes " ") ++ decimal n) rest p clean fits.line.one e).0 ∙ sym same))
 
-pub outcome_refused : (a b : Option (List ℕ)) (read line word : List ℕ) (count : ℕ) (o : Option (List ProcEnd)) → Consumes a b (read ++ 10 ∷ []) → has_no 10 read ≡ true → line ≡ read → IfNone o ((ends : List ProcEnd) → 1 ≤ count → count ≤ 8 → FitsOutcome count ends → word ++ outcome_text ends ≢ line) → IfNone o ((ends : List ProcEnd) (rest : List ℕ) → 1 ≤ count → count ≤ 8 → FitsOutcome count ends → FitsLine (word ++ outcome_text ends) → a ≡ Some (((word ++ outcome_text ends) ++ codes "\n") ++ rest) → IsOutward Other)
-outcome_refused a b read line word count (Some x) p clean same none = tt
-outcome_refused a b read line word count None p clean same none = λ ends rest some few fits told e.
-    absurd (none ends some few fits (sym (line_is a b read (word ++ outcome_text ends) rest p clean told.one e).0 ∙ sym same))
+pub outcome_refused : (a b : Option (List ℕ)) (read line word : List ℕ) (count : ℕ) (o : Option (List ProcEnd)) → IsProcessCount count → Consumes a b (read ++ 10 ∷ []) → has_no 10 read ≡ true → line ≡ read → IfNone o ((ends : List ProcEnd) → 1 ≤ count → count ≤ 8 → FitsOutcome count ends → word ++ outcome_text ends ≢ line) → IfNone o (IsOutwardAt (FitsOutcomeBehind word count) (outcome_behind word) a Other)
+outcome_refused a b read line word count (Some x) process p clean same none = tt
+outcome_refused a b read line word count None process p clean same none = λ ends rest fits e.
+    absurd (none ends process.some process.few fits.outcome (sym (line_is a b read (word ++ outcome_text ends) rest p clean fits.line.one e).0 ∙ sym same))

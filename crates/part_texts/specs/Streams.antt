@@ -1,5 +1,5 @@
 -- What a stream of parts has left.
-use Rattle.std.specs.Prelude.{◌≡◌, ◌≤◌, ℕ, true, List, length, ◌∷◌, ◌++◌, Option, Some}
+use Rattle.std.specs.Prelude.{◌≡◌, ◌≤◌, ℕ, true, List, length, ◌∷◌, ◌++◌, Option, Some, codes}
 use Rattle.std.specs.Io.KnownBytes.{Consumes}
 use Rattle.patterns.specs.Cuts.{has_no}
 use Rattle.part_texts.specs.declared.streams.PartStream.{PartStream}
@@ -8,6 +8,14 @@ use Rattle.part_texts.specs.declared.streams.TheConstants.{MOST_LINE_BYTES}
 -- the bytes that its reader has left, where they are known
 abbrev pub left_of : {R : Type 0} → (R → Option (List ℕ)) → PartStream R → Option (List ℕ)
 left_of remaining stream = remaining stream.reader
+
+-- a text of this kind was read
+abbrev pub Reads : {R X : Type 0} → (R → Option (List ℕ)) → (X → List ℕ) → PartStream R → PartStream R → X → Type 0
+Reads remaining text old new x = Consumes (left_of remaining old) (left_of remaining new) (text x)
+
+-- a line with its line feed
+abbrev pub line_text : List ℕ → List ℕ
+line_text line = line ++ codes "\n"
 
 -- a line that a stream can hold, without its line feed
 pub record FitsLine (line : List ℕ) : Type 0 where

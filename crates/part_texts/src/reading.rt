@@ -13,27 +13,18 @@ use std::io::BufRead;
 use tallies::Partial;
 
 impl<R: BufRead> PartStream<R> {
-    ghost use Rattle.std.specs.Prelude.{◌≡◌, ◌++◌, ◌^◌, ◌<◌, ◌≤◌, ℕ, [], All, AllPairs, IfErr, IfOk, List, OnOk, Option, Some, codes, decimal, length};
-    ghost use Rattle.std.specs.List.{flat_map};
+    ghost use Rattle.std.specs.Prelude.{◌≡◌, ◌++◌, ◌^◌, ◌<◌, ◌≤◌, ℕ, [], IfErr, IfOk, List, OnOk, Some, length};
     ghost use Rattle.std.specs.Io.KnownBytes.{Consumes};
-    ghost use Rattle.std.specs.declared.cmp.Ordering.TheVariants.{Less};
-    ghost use Rattle.regmodel.specs.Letters.{Schedule};
-    ghost use Rattle.regmodel.specs.Outcomes.{outcome_cmp};
-    ghost use Rattle.regmodel.specs.declared.limits.TheConstants.{MOST_PROCESSES};
-    ghost use Rattle.regmodel.specs.declared.outcomes.ProcEnd.{ProcEnd};
     ghost use Rattle.report.specs.ReportText.{least_text};
     ghost use Rattle.texts.specs.NumberText.{number_line};
-    ghost use Rattle.texts.specs.OutcomeText.{outcome_line, outcome_text};
     ghost use Rattle.part_texts.specs.declared.faults.Cause.TheVariants.{Unreadable};
-    ghost use Rattle.part_texts.specs.Causes.{IsOutward};
-    ghost use Rattle.part_texts.specs.FitsPart.{FitsFound, FitsLeast, FitsOutcome, FitsPart};
+    ghost use Rattle.part_texts.specs.Causes.{IsOutward, IsOutwardAt, IsOutwardBehind};
+    ghost use Rattle.part_texts.specs.FitsPart.{FitsFound, FitsLeast, FitsNumber, FitsOutcome, FitsOutcomeBehind, FitsOutcomes, FitsPart, IsProcessCount};
     ghost use Rattle.part_texts.specs.NextParts.{IsNextPart};
-    ghost use Rattle.part_texts.specs.PlainHead.{FitsHead, PlainHead};
-    ghost use Rattle.part_texts.specs.PartText.{bounds_text, end_text, found_text, head_text, part_text};
-    ghost use Rattle.part_texts.specs.Streams.{FitsLine, IsLineOf, ReadsOn, left_of};
+    ghost use Rattle.part_texts.specs.PlainHead.{FitsHead};
+    ghost use Rattle.part_texts.specs.PartText.{bounds_in, bounds_text, end_text, found_text, head_text, outcome_behind, outcomes_text, part_text, source_text};
+    ghost use Rattle.part_texts.specs.Streams.{Reads, ReadsOn, left_of};
     ghost use Rattle.part_texts.specs.declared.heads.TheConstants.{MOST_SOURCE_BYTES};
-    ghost use Rattle.part_texts.specs.declared.parts.Found.{Found};
-    ghost use Rattle.part_texts.specs.declared.parts.PartReport.{PartReport};
 
     /// The next part; None where nothing is left. An error names the line at fault, and says what is wrong with it, that a request for memory
     /// was refused, or that the reader answered an error. Where what is left begins with the text of a part, it is one of the last two; where
@@ -43,10 +34,8 @@ impl<R: BufRead> PartStream<R> {
             (IsNextPart (left_of R.remaining self.old) (left_of R.remaining self.new)) }
         ensures err { IfErr result
             (λ bad. left_of R.remaining self.old ≡ Some [] → bad.cause ≡ Unreadable) }
-        ensures whole { IfErr result (λ bad. (report : PartReport) (rest : List ℕ)
-            → FitsPart report
-            → left_of R.remaining self.old ≡ Some (part_text report ++ rest)
-            → IsOutward bad.cause) }
+        ensures whole { IfErr result
+            (λ bad. IsOutwardAt FitsPart part_text (left_of R.remaining self.old) bad.cause) }
         ensures line { IfErr result (λ bad. bad.line ≡ self.new.number) }
     {
         match self.part(alloc) {
@@ -64,10 +53,8 @@ impl<R: BufRead> PartStream<R> {
             (IsNextPart (left_of R.remaining self.old) (left_of R.remaining self.new)) }
         ensures err { IfErr result
             (λ cause. left_of R.remaining self.old ≡ Some [] → cause ≡ Unreadable) }
-        ensures whole { IfErr result (λ cause. (report : PartReport) (rest : List ℕ)
-            → FitsPart report
-            → left_of R.remaining self.old ≡ Some (part_text report ++ rest)
-            → IsOutward cause) }
+        ensures whole { IfErr result
+            (IsOutwardAt FitsPart part_text (left_of R.remaining self.old)) }
     {
         if !self.next_line()? {
             return Ok(None);
@@ -99,10 +86,9 @@ impl<R: BufRead> PartStream<R> {
             (λ head. ReadsOn (left_of R.remaining self.old) (left_of R.remaining self.new)
             self.old.line.items (head_text head)) }
         ensures fits { IfOk result FitsHead }
-        ensures whole { IfErr result (λ cause. (head : PlainHead) (rest : List ℕ)
-            → FitsHead head
-            → IsLineOf (left_of R.remaining self.old) self.old.line.items (head_text head ++ rest)
-            → IsOutward cause) }
+        ensures whole { IfErr result
+            (IsOutwardBehind FitsHead head_text (left_of R.remaining self.old)
+            self.old.line.items) }
     {
         let (number, count) = part_in(self.line.as_slice()).ok_or(Cause::Other)?;
         let part = part_of(number, count)?;
@@ -123,11 +109,8 @@ impl<R: BufRead> PartStream<R> {
         ensures small { IfOk result
             (λ (processes, settings). (processes < 2 ^ 64) × (settings.length < 2 ^ 64)
             × (settings.crashes < 2 ^ 64) × (settings.cut < 2 ^ 64)) }
-        ensures whole { IfErr result (λ cause. (head : PlainHead) (rest : List ℕ)
-            → FitsHead head
-            → left_of R.remaining self.old
-            ≡ Some (bounds_text head.processes head.length head.crashes head.cut ++ rest)
-            → IsOutward cause) }
+        ensures whole { IfErr result
+            (IsOutwardAt FitsHead bounds_in (left_of R.remaining self.old)) }
     {
         let processes = self.number_behind(b"processes")?;
         let length = self.number_behind(b"length")?;
@@ -139,12 +122,10 @@ impl<R: BufRead> PartStream<R> {
     /// The number behind a word on the next line.
     fn number_behind(&mut self, word: &[u8]) -> Result<u64, Cause>
         ensures text { IfOk result
-            (λ n. Consumes (left_of R.remaining self.old) (left_of R.remaining self.new)
-            (number_line word.now n)) }
-        ensures whole { IfErr result (λ cause. (n : ℕ) (rest : List ℕ) → n < 2 ^ 64
-            → FitsLine (word.now ++ codes " " ++ decimal n)
-            → left_of R.remaining self.old ≡ Some (number_line word.now n ++ rest)
-            → IsOutward cause) }
+            (Reads R.remaining (number_line word.now) self.old self.new) }
+        ensures whole { IfErr result
+            (IsOutwardAt (FitsNumber word.now) (number_line word.now)
+            (left_of R.remaining self.old)) }
     {
         self.wanted_line()?;
         number_after(self.line.as_slice(), word).ok_or(Cause::Other)
@@ -153,14 +134,11 @@ impl<R: BufRead> PartStream<R> {
     /// The source, behind a line with the number of its bytes.
     fn source(&mut self, alloc: Global) -> Result<Vec<u8>, Cause>
         ensures text { IfOk result
-            (λ source. Consumes (left_of R.remaining self.old) (left_of R.remaining self.new)
-            (number_line (codes "source") (length source.items) ++ source.items)) }
+            (λ source. Reads R.remaining source_text self.old self.new source.items) }
         ensures few { IfOk result (λ source. length source.items ≤ MOST_SOURCE_BYTES) }
-        ensures whole { IfErr result (λ cause. (source rest : List ℕ)
-            → length source ≤ MOST_SOURCE_BYTES
-            → left_of R.remaining self.old
-            ≡ Some (number_line (codes "source") (length source) ++ source ++ rest)
-            → IsOutward cause) }
+        ensures whole { IfErr result
+            (IsOutwardAt (λ source. length source ≤ MOST_SOURCE_BYTES) source_text
+            (left_of R.remaining self.old)) }
     {
         let count = self.number_behind(b"source")?;
         if count > MOST_SOURCE_BYTES as u64 {
@@ -191,14 +169,10 @@ impl<R: BufRead> PartStream<R> {
 
     /// What was found: all, or the least failing schedule alone.
     fn found(&mut self, alloc: Global, processes: u32) -> Result<Found, Cause>
-        ensures text { IfOk result
-            (λ found. Consumes (left_of R.remaining self.old) (left_of R.remaining self.new)
-            (found_text found)) }
+        ensures text { IfOk result (Reads R.remaining found_text self.old self.new) }
         ensures fits { IfOk result (FitsFound processes) }
-        ensures whole { IfErr result (λ cause. (found : Found) (rest : List ℕ)
-            → 1 ≤ processes → processes ≤ MOST_PROCESSES → FitsFound processes found
-            → left_of R.remaining self.old ≡ Some (found_text found ++ rest)
-            → IsOutward cause) }
+        ensures whole { IsProcessCount processes → IfErr result
+            (IsOutwardAt (FitsFound processes) found_text (left_of R.remaining self.old)) }
     {
         self.wanted_line()?;
         let Some(tried) = number_after(self.line.as_slice(), b"tried") else {
@@ -213,20 +187,10 @@ impl<R: BufRead> PartStream<R> {
     /// The outcomes, rising, behind a line with their number.
     fn outcomes(&mut self, alloc: Global, processes: u32) -> Result<Vec<Outcome>, Cause>
         ensures text { IfOk result
-            (λ outcomes. Consumes (left_of R.remaining self.old) (left_of R.remaining self.new)
-            (number_line (codes "outcomes") (length outcomes.items)
-            ++ flat_map outcome_line outcomes.items)) }
-        ensures rising { IfOk result
-            (λ outcomes. AllPairs (λ a b. outcome_cmp a b ≡ Less) outcomes.items) }
-        ensures fit { IfOk result (λ outcomes. All (FitsOutcome processes) outcomes.items) }
-        ensures count { IfOk result (λ outcomes. length outcomes.items < 2 ^ 64) }
-        ensures whole { IfErr result (λ cause. (outcomes : List (List ProcEnd)) (rest : List ℕ)
-            → 1 ≤ processes → processes ≤ MOST_PROCESSES → All (FitsOutcome processes) outcomes
-            → AllPairs (λ a b. outcome_cmp a b ≡ Less) outcomes → length outcomes < 2 ^ 64
-            → left_of R.remaining self.old
-            ≡ Some (number_line (codes "outcomes") (length outcomes)
-            ++ flat_map outcome_line outcomes ++ rest)
-            → IsOutward cause) }
+            (λ outcomes. Reads R.remaining outcomes_text self.old self.new outcomes.items) }
+        ensures fits { IfOk result (λ outcomes. FitsOutcomes processes outcomes.items) }
+        ensures whole { IsProcessCount processes → IfErr result
+            (IsOutwardAt (FitsOutcomes processes) outcomes_text (left_of R.remaining self.old)) }
     {
         let count = self.number_behind(b"outcomes")?;
         let mut outcomes = Vec::new(alloc);
@@ -243,15 +207,11 @@ impl<R: BufRead> PartStream<R> {
     /// The outcome of so many processes behind a word on the next line.
     fn outcome_behind(&mut self, word: &[u8], processes: u32) -> Result<Outcome, Cause>
         ensures text { IfOk result
-            (λ outcome. Consumes (left_of R.remaining self.old) (left_of R.remaining self.new)
-            (word.now ++ outcome_text outcome ++ codes "\n")) }
+            (Reads R.remaining (outcome_behind word.now) self.old self.new) }
         ensures fits { IfOk result (FitsOutcome processes) }
-        ensures whole { IfErr result (λ cause. (ends : List ProcEnd) (rest : List ℕ)
-            → 1 ≤ processes → processes ≤ MOST_PROCESSES → FitsOutcome processes ends
-            → FitsLine (word.now ++ outcome_text ends)
-            → left_of R.remaining self.old
-            ≡ Some (word.now ++ outcome_text ends ++ codes "\n" ++ rest)
-            → IsOutward cause) }
+        ensures whole { IsProcessCount processes → IfErr result
+            (IsOutwardAt (FitsOutcomeBehind word.now processes) (outcome_behind word.now)
+            (left_of R.remaining self.old)) }
     {
         self.wanted_line()?;
         outcome_after(self.line.as_slice(), word, processes).ok_or(Cause::Other)
@@ -263,12 +223,9 @@ impl<R: BufRead> PartStream<R> {
             (λ least. ReadsOn (left_of R.remaining self.old) (left_of R.remaining self.new)
             self.old.line.items (least_text least)) }
         ensures fits { IfOk result (FitsLeast processes) }
-        ensures whole { IfErr result
-            (λ cause. (least : Option (Schedule × List ProcEnd)) (rest : List ℕ)
-            → 1 ≤ processes → processes ≤ MOST_PROCESSES → FitsLeast processes least
-            → IsLineOf (left_of R.remaining self.old) self.old.line.items
-            (least_text least ++ rest)
-            → IsOutward cause) }
+        ensures whole { IsProcessCount processes → IfErr result
+            (IsOutwardBehind (FitsLeast processes) least_text (left_of R.remaining self.old)
+            self.old.line.items) }
     {
         let word = after(self.line.as_slice(), b"least ").ok_or(Cause::Other)?;
         if word == b"none".as_slice() {

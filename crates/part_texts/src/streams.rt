@@ -23,12 +23,12 @@ pub struct PartStream<R> {
 }
 
 impl<R: BufRead> PartStream<R> {
-    ghost use Rattle.std.specs.Prelude.{◌≡◌, ◌∷◌, [], ◌++◌, ℕ, IfErr, IfOk, List, OnOk, Some, codes, true, false};
+    ghost use Rattle.std.specs.Prelude.{◌≡◌, ◌∷◌, [], ◌++◌, IfErr, IfOk, OnOk, Some, true, false};
     ghost use Rattle.part_texts.specs.declared.faults.Cause.TheVariants.{Unreadable};
     ghost use Rattle.std.specs.Io.KnownBytes.{Consumes, IsAtEnd};
     ghost use Rattle.patterns.specs.Cuts.{has_no};
-    ghost use Rattle.part_texts.specs.Causes.{IsOutward};
-    ghost use Rattle.part_texts.specs.Streams.{FitsLine, left_of};
+    ghost use Rattle.part_texts.specs.Causes.{IsOutwardAt};
+    ghost use Rattle.part_texts.specs.Streams.{FitsLine, left_of, line_text};
 
     /// The parts that this reader tells.
     pub fn new(reader: R) -> PartStream<R>
@@ -53,8 +53,8 @@ impl<R: BufRead> PartStream<R> {
             (λ there. there ≡ false → IsAtEnd (left_of R.remaining self.new)) }
         ensures err { IfErr result
             (λ cause. left_of R.remaining self.old ≡ Some [] → cause ≡ Unreadable) }
-        ensures whole { IfErr result (λ cause. (line rest : List ℕ) → FitsLine line
-            → left_of R.remaining self.old ≡ Some (line ++ codes "\n" ++ rest) → IsOutward cause) }
+        ensures whole { IfErr result
+            (IsOutwardAt FitsLine line_text (left_of R.remaining self.old)) }
     {
         self.number = self.number.saturating_add(1);
         self.line.clear();
@@ -74,8 +74,8 @@ impl<R: BufRead> PartStream<R> {
             (Consumes (left_of R.remaining self.old) (left_of R.remaining self.new)
             (self.new.line.items ++ 10 ∷ [])) }
         ensures one { OnOk result (has_no 10 self.new.line.items ≡ true) }
-        ensures whole { IfErr result (λ cause. (line rest : List ℕ) → FitsLine line
-            → left_of R.remaining self.old ≡ Some (line ++ codes "\n" ++ rest) → IsOutward cause) }
+        ensures whole { IfErr result
+            (IsOutwardAt FitsLine line_text (left_of R.remaining self.old)) }
     {
         if self.next_line()? {
             Ok(())

@@ -1,5 +1,5 @@
 -- Inside the crate: reading by whole values: what was read so far, and what one line more makes of it.
-use Rattle.std.specs.Prelude.{◌≡◌, ℕ, suc, ◌+◌, ◌<◌, ◌≤◌, Bool, true, false, ◌&&◌, if◌then◌else◌, List, [], ◌∷◌, ◌++◌, length, map, reverse, max, All, Option, Some, None, Result, Ok, Err, IfOk, IsOk, MatchResult, nat_lt}
+use Rattle.std.specs.Prelude.{◌≡◌, ℕ, suc, ◌+◌, ◌<◌, ◌≤◌, Bool, true, false, ◌&&◌, if◌then◌else◌, List, [], ◌∷◌, ◌++◌, length, map, reverse, max, All, Option, Some, None, Result, Ok, Err, IfErr, IfOk, IsOk, MatchResult, nat_lt}
 use Rattle.regmodel.specs.declared.clauses.Clause.{Clause}
 use Rattle.regmodel.specs.declared.programs.Expr.{Expr}
 use Rattle.regmodel.specs.declared.limits.TheConstants.{MOST_CHECKS, MOST_OPEN_BLOCKS, MOST_OPEN_REPEATS, MOST_PROCESSES, MOST_REGISTERS, MOST_STATEMENTS}
@@ -308,6 +308,11 @@ IsFaultOf number refusal.Memory fault = fault ≡ record { line = number; code =
 -- the answer is what is expected, unless memory was refused
 abbrev pub Answers : Result Reading ℕ → Result Draft LineRefusal → Type 0
 Answers expected result = MatchResult result (λ draft. expected ≡ Ok (reading_of draft)) (IsRefusalOf expected)
+
+-- a line is answered as is expected, and memory is refused only where it may ask for it
+pub record AnswersLine (may_ask : Bool) (expected : Result Reading ℕ) (result : Result Draft LineRefusal) : Type 0 where
+  pub answers : Answers expected result
+  pub memory : IfErr result (IsWantOf may_ask)
 
 -- where a line is taken, this is what was read then
 abbrev pub Reads : Result Draft LineRefusal → Reading → Type 0

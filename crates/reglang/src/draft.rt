@@ -2,7 +2,7 @@
 
 ghost use Rattle.std.specs.Prelude.{IfErr, false};
 ghost use Rattle.reglang.specs.Drafts as spec;
-ghost use Rattle.reglang.specs.Drafts.{Answers, AnswersAtEnd, IsWantOf, ReadingFits, reading_of, take_line};
+ghost use Rattle.reglang.specs.Drafts.{AnswersAtEnd, AnswersLine, ReadingFits, reading_of, take_line};
 ghost use Rattle.reglang.specs.Faults.{may_ask};
 
 use crate::forms::Line;
@@ -31,8 +31,7 @@ impl Draft {
     /// Takes the next line of the text.
     pub fn take(self, alloc: Global, line: Line) -> Result<Draft, LineRefusal>
         requires { ReadingFits (reading_of self) }
-        ensures answers { Answers (take_line (reading_of self) line) result }
-        ensures memory { IfErr result (IsWantOf (may_ask line)) }
+        ensures { AnswersLine (may_ask line) (take_line (reading_of self) line) result }
     {
         match self {
             Draft::Empty => begin(alloc, line),
@@ -57,8 +56,7 @@ impl Draft {
 
 /// Takes the first line of the text.
 fn begin(alloc: Global, line: Line) -> Result<Draft, LineRefusal>
-    ensures answers { Answers (spec.begin line) result }
-    ensures memory { IfErr result (IsWantOf false) }
+    ensures { AnswersLine false (spec.begin line) result }
 {
     match line {
         Line::Registers(n) => {

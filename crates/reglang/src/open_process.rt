@@ -2,7 +2,7 @@
 
 ghost use Rattle.std.specs.Prelude.{◌≡◌, ◌<◌, [], count_by, false, IfErr};
 ghost use Rattle.regmodel.specs.Program.{Stop};
-ghost use Rattle.reglang.specs.Drafts.{Answers, Inside, IsWantOf, Reads, ReadingFits, add_to, contents_before};
+ghost use Rattle.reglang.specs.Drafts.{Answers, AnswersLine, Inside, Reads, ReadingFits, add_to, contents_before};
 ghost use Rattle.reglang.specs.Drafts.{entered, inside_of, is_turn, may_enter, open_with, pushed, take_line};
 ghost use Rattle.reglang.specs.Faults.{may_ask};
 ghost use Rattle.reglang.specs.declared.forms.Line.TheVariants as line;
@@ -66,8 +66,7 @@ impl OpenProcess {
     /// Takes a line of the process.
     pub fn take(self, alloc: Global, line: Line) -> Result<Draft, LineRefusal>
         requires { ReadingFits (inside_of self) }
-        ensures answers { Answers (take_line (inside_of self) line) result }
-        ensures memory { IfErr result (IsWantOf (may_ask line)) }
+        ensures { AnswersLine (may_ask line) (take_line (inside_of self) line) result }
     {
         match line {
             Line::Set(to, value) => self.add(to.fits() && value.fits(), Stmt::Assign(to, value)),
@@ -220,8 +219,7 @@ impl OpenProcess {
 
     /// Lets the process be what a use line stands for.
     fn stand_for(self, kind: Use) -> Result<Draft, LineRefusal>
-        ensures answers { Answers (take_line (inside_of self) (line.Use kind)) result }
-        ensures memory { IfErr result (IsWantOf false) }
+        ensures { AnswersLine false (take_line (inside_of self) (line.Use kind)) result }
     {
         if self.statements > 0 {
             return Err(LineRefusal::Fault(MISPLACED));

@@ -27,7 +27,7 @@ impl Parts {
     ghost use Rattle.std.specs.Prelude.{IfErr, false};
     ghost use Rattle.reglang.specs.Contents.{body_of};
     ghost use Rattle.reglang.specs.Drafts as spec;
-    ghost use Rattle.reglang.specs.Drafts.{Answers, AnswersAtEnd, Between, IsWantOf, Reads, ReadingFits};
+    ghost use Rattle.reglang.specs.Drafts.{AnswersAtEnd, AnswersLine, Between, Reads, ReadingFits};
     ghost use Rattle.reglang.specs.Faults.{may_ask};
     ghost use Rattle.reglang.specs.Drafts.{begun, contents_before, with_body};
     ghost use Rattle.reglang.specs.declared.forms.Line.TheVariants as line;
@@ -53,8 +53,7 @@ impl Parts {
 
     /// Takes a line between processes.
     pub fn take(self, alloc: Global, line: Line) -> Result<Draft, LineRefusal>
-        ensures answers { Answers (spec.take_between (contents_before self) line) result }
-        ensures memory { IfErr result (IsWantOf false) }
+        ensures { AnswersLine false (spec.take_between (contents_before self) line) result }
     {
         match line {
             Line::Process => self.begin_process(alloc),
@@ -65,8 +64,7 @@ impl Parts {
 
     /// Begins a process.
     fn begin_process(self, alloc: Global) -> Result<Draft, LineRefusal>
-        ensures answers { Answers (spec.take_between (contents_before self) line.Process) result }
-        ensures memory { IfErr result (IsWantOf false) }
+        ensures { AnswersLine false (spec.take_between (contents_before self) line.Process) result }
     {
         if self.processes.len() >= MOST_PROCESSES {
             return Err(LineRefusal::Fault(PAST_LIMIT));
@@ -76,8 +74,7 @@ impl Parts {
 
     /// Adds the clause of a check line.
     fn add_clause(mut self, clause: Option<Clause>) -> Result<Draft, LineRefusal>
-        ensures answers { Answers (spec.add_clause (contents_before self) clause) result }
-        ensures memory { IfErr result (IsWantOf false) }
+        ensures { AnswersLine false (spec.add_clause (contents_before self) clause) result }
     {
         if self.clauses.is_full() {
             return Err(LineRefusal::Fault(PAST_LIMIT));
@@ -118,8 +115,8 @@ impl Parts {
     /// Takes a line after a use line.
     pub fn take_used(self, kind: Use, line: Line) -> Result<Draft, LineRefusal>
         requires { is_over self.registers (process.Use kind) ≡ true }
-        ensures answers { Answers (spec.take_used (contents_before self) kind line) result }
-        ensures memory { IfErr result (IsWantOf (may_ask line)) }
+        ensures { AnswersLine (may_ask line)
+            (spec.take_used (contents_before self) kind line) result }
     {
         match line {
             Line::End => self.add_process(Process::Use(kind)),

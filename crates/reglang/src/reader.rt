@@ -1,7 +1,7 @@
 //! The reader of texts.
 
 ghost use Rattle.std.specs.Prelude.{◌<◌, ◌≤◌, IfErr, IfOk};
-ghost use Rattle.reglang.specs.Drafts.{Answers, IsFaultOf, IsWantOf, ReadingFits, reading_of, take_if_said};
+ghost use Rattle.reglang.specs.Drafts.{AnswersLine, IsFaultOf, ReadingFits, reading_of, take_if_said};
 ghost use Rattle.reglang.specs.Faults.{HasNoneBefore, IsFirst, IsUnspelled, TellsEnd, TellsMemory, WantsMemory, asks, last_line};
 ghost use Rattle.reglang.specs.Forms as forms;
 ghost use Rattle.reglang.specs.Grammar.{Spells};
@@ -98,8 +98,8 @@ pub fn read_text(alloc: Global, text: &[u8]) -> Result<Source, Rejection>
 /// Takes the next line of the text.
 fn next(alloc: Global, draft: Draft, line: &[u8]) -> Result<Draft, LineRefusal>
     requires { ReadingFits (reading_of draft) }
-    ensures answers { Answers (take_if_said (reading_of draft) (forms.read_line line.now)) result }
-    ensures memory { IfErr result (IsWantOf (asks (forms.read_line line.now))) }
+    ensures { AnswersLine (asks (forms.read_line line.now))
+        (take_if_said (reading_of draft) (forms.read_line line.now)) result }
 {
     match read_line(line) {
         Ok(Some(line)) => draft.take(alloc, line),

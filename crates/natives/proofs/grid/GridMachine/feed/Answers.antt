@@ -1,4 +1,4 @@
-use Rattle.std.proofs.Common.{◌≡◌, suc, ◌+◌, ◌-◌, [], ◌∷◌, ap, sym, ◌∙◌, arith}
+use Rattle.std.proofs.Common.{◌≡◌, suc, ◌+◌, ◌-◌, [], ◌∷◌, ap, sym, ◌∙◌, arith, rules}
 use Rattle.regmodel.specs.declared.accesses.Pending.{Pending}
 use Rattle.regmodel.specs.Reply.{Replies, one}
 use Rattle.natives.specs.declared.grid.Grid.{Grid}
@@ -67,3 +67,13 @@ returns-in-Looks-2-clause-goes_on c = λ s.
     c.go_to-in-Looks-2.ensures.goes_on s
     ∙ sym (from-down m.base m.id m.registers _ _ m.level m.vertex (one 0) (one 0) c.args.reply.now s (left m) (here m) (λ some. vertex_there m.base m.side m.registers (m.level + 1) (m.vertex + m.level + 1) m.few m.room m.sides (omega arith) (omega arith) (omega (arith, m.named))) (λ same. c.if-value-self.false (c.value_of-value.ensures ∙ same)))
     ∙ sym (at_step m Looks (c.args.reply.now ∷ s) c.in-At.is c.in-Looks-2.is)
+
+pub returns-in-Tries-clause-same : goal.returns-in-Tries-clause-same
+returns-in-Tries-clause-same c =
+    let same = c.go_to.ensures.same in
+    search rules
+
+pub returns-in-Looks-2-clause-same : goal.returns-in-Looks-2-clause-same
+returns-in-Looks-2-clause-same c =
+    let same = c.go_to-in-Looks-2.ensures.same in
+    search rules

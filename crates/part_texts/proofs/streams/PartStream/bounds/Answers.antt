@@ -11,28 +11,28 @@ pub returns-in_err-processes-clause-whole : goal.returns-in_err-processes-clause
 returns-in_err-processes-clause-whole g c =
     let p = err_from_is_err_and c.from_residual.result c.from_residual.ensures.1 in
     rw (p.1, p.2) (λ h rest fits e.
-    c.in_err-processes.ensures.whole h.processes _ (omega (arith, fits.processes)) (number-fits (codes "processes") h.processes refl (omega arith) (omega (arith, fits.processes))) (e ∙ ap Some (bounds-parts h.processes h.length h.crashes h.cut rest)))
+    c.in_err-processes.ensures.whole h.processes _ (record { low = omega (arith, fits.processes); line = number-fits (codes "processes") h.processes refl (omega arith) (omega (arith, fits.processes)) }) (e ∙ ap Some (bounds-parts h.processes h.length h.crashes h.cut rest)))
 
 pub returns-in_err-length-clause-whole : goal.returns-in_err-length-clause-whole
 returns-in_err-length-clause-whole g c =
     let p = err_from_is_err_and c.from_residual-in_err-length.result c.from_residual-in_err-length.ensures.1 in
     rw (p.1, p.2) (λ h rest fits e.
     let one = one_bound h rest fits _ _ c.in_ok-processes.processes (omega arith) c.in_ok-processes.ensures.text e in
-    c.in_err-length.ensures.whole h.length _ (omega (arith, fits.letters)) (number-fits (codes "length") h.length refl (omega arith) (omega (arith, fits.letters))) one.1)
+    c.in_err-length.ensures.whole h.length _ (record { low = omega (arith, fits.letters); line = number-fits (codes "length") h.length refl (omega arith) (omega (arith, fits.letters)) }) one.1)
 
 pub returns-in_err-crashes-clause-whole : goal.returns-in_err-crashes-clause-whole
 returns-in_err-crashes-clause-whole g c =
     let p = err_from_is_err_and c.from_residual-in_err-crashes.result c.from_residual-in_err-crashes.ensures.1 in
     rw (p.1, p.2) (λ h rest fits e.
     let two = two_bounds h rest fits _ _ c.in_ok-processes.processes (omega arith) c.in_ok-processes.ensures.text e _ c.in_ok-length.length (omega arith) c.in_ok-length.ensures.text in
-    c.in_err-crashes.ensures.whole h.crashes _ (omega (arith, fits.crashes)) (number-fits (codes "crashes") h.crashes refl (omega arith) (omega (arith, fits.crashes))) two.1)
+    c.in_err-crashes.ensures.whole h.crashes _ (record { low = omega (arith, fits.crashes); line = number-fits (codes "crashes") h.crashes refl (omega arith) (omega (arith, fits.crashes)) }) two.1)
 
 pub returns-in_err-cut-clause-whole : goal.returns-in_err-cut-clause-whole
 returns-in_err-cut-clause-whole g c =
     let p = err_from_is_err_and c.from_residual-in_err-cut.result c.from_residual-in_err-cut.ensures.1 in
     rw (p.1, p.2) (λ h rest fits e.
     let three = three_bounds h rest fits _ _ c.in_ok-processes.processes (omega arith) c.in_ok-processes.ensures.text e _ _ c.in_ok-length.length c.in_ok-crashes.crashes (omega arith) (omega arith) c.in_ok-length.ensures.text c.in_ok-crashes.ensures.text in
-    c.in_err-cut.ensures.whole h.cut _ (omega (arith, fits.cut)) (number-fits (codes "cut") h.cut refl (omega arith) (omega (arith, fits.cut))) three.2)
+    c.in_err-cut.ensures.whole h.cut _ (record { low = omega (arith, fits.cut); line = number-fits (codes "cut") h.cut refl (omega arith) (omega (arith, fits.cut)) }) three.2)
 
 pub returns-in_err-narrow-clause-whole : goal.returns-in_err-narrow-clause-whole
 returns-in_err-narrow-clause-whole g c =

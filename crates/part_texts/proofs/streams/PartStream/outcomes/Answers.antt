@@ -32,25 +32,25 @@ loop-preserved g c =
 pub returns-in_err-count-clause-whole : goal.returns-in_err-count-clause-whole
 returns-in_err-count-clause-whole g c =
     let p = err_from_is_err_and c.from_residual.result c.from_residual.ensures.1 in
-    rw (p.1, p.2) (λ outcomes rest some few fit rising low e.
-    c.in_err-count.ensures.whole (length outcomes) (flat_map outcome_line outcomes ++ rest) low (number-fits (codes "outcomes") (length outcomes) refl (omega arith) low) (e ∙ ap Some (append_assoc (number_line (codes "outcomes") (length outcomes)) (flat_map outcome_line outcomes) rest)))
+    rw (p.1, p.2) (λ process outcomes rest fits e.
+    c.in_err-count.ensures.whole (length outcomes) (flat_map outcome_line outcomes ++ rest) (record { low = fits.count; line = number-fits (codes "outcomes") (length outcomes) refl (omega arith) fits.count }) (e ∙ ap Some (append_assoc (number_line (codes "outcomes") (length outcomes)) (flat_map outcome_line outcomes) rest)))
 
 pub returns-in_err-outcome-clause-whole : goal.returns-in_err-outcome-clause-whole
 returns-in_err-outcome-clause-whole g c =
     let kept = c.loop.invariant in
     let p = err_from_is_err_and c.from_residual-in_err-outcome.result c.from_residual-in_err-outcome.ensures.1 in
-    rw (p.1, p.2) (λ outcomes rest some few fit rising low e.
-    let count = number_is _ _ (codes "outcomes") c.in_ok-count.count (length outcomes) (flat_map outcome_line outcomes ++ rest) refl (omega arith) low c.in_ok-count.ensures.text (e ∙ ap Some (append_assoc (number_line (codes "outcomes") (length outcomes)) (flat_map outcome_line outcomes) rest)) in
-    let next = next_of c.args.processes c.loop.outcomes.items outcomes _ _ rest some few (omega (arith, kept.count, count.0)) kept.fit fit kept.taken count.1 in
-    c.in_err-outcome.ensures.whole next.ends (flat_map outcome_line next.tail ++ rest) some few next.fits (outcome-fits-line (codes "outcome ") c.args.processes next.ends refl (omega arith) few next.fits) next.known)
+    rw (p.1, p.2) (λ process outcomes rest fits e.
+    let count = number_is _ _ (codes "outcomes") c.in_ok-count.count (length outcomes) (flat_map outcome_line outcomes ++ rest) refl (omega arith) fits.count c.in_ok-count.ensures.text (e ∙ ap Some (append_assoc (number_line (codes "outcomes") (length outcomes)) (flat_map outcome_line outcomes) rest)) in
+    let next = next_of c.args.processes c.loop.outcomes.items outcomes _ _ rest process.some process.few (omega (arith, kept.count, count.0)) kept.fit fits.fit kept.taken count.1 in
+    c.in_err-outcome.ensures.whole process next.ends (flat_map outcome_line next.tail ++ rest) (record { outcome = next.fits; line = outcome-fits-line (codes "outcome ") c.args.processes next.ends refl (omega arith) process.few next.fits }) next.known)
 
 pub returns-then-not-comes_last-clause-whole : goal.returns-then-not-comes_last-clause-whole
-returns-then-not-comes_last-clause-whole g c = λ outcomes rest some few fit rising low e.
+returns-then-not-comes_last-clause-whole g c = λ process outcomes rest fits e.
     let kept = c.loop.invariant in
-    let count = number_is _ _ (codes "outcomes") c.in_ok-count.count (length outcomes) (flat_map outcome_line outcomes ++ rest) refl (omega arith) low c.in_ok-count.ensures.text (e ∙ ap Some (append_assoc (number_line (codes "outcomes") (length outcomes)) (flat_map outcome_line outcomes) rest)) in
-    let next = next_of c.args.processes c.loop.outcomes.items outcomes _ _ rest some few (omega (arith, kept.count, count.0)) kept.fit fit kept.taken count.1 in
-    let told = outcome_is _ _ c.args.processes c.in_ok-outcome.outcome next.ends (flat_map outcome_line next.tail ++ rest) some few c.in_ok-outcome.ensures.fits next.fits c.in_ok-outcome.ensures.text next.known in
-    let order = rising-next c.loop.outcomes.items c.in_ok-outcome.outcome next.ends next.tail outcomes told.0 next.parts rising in
+    let count = number_is _ _ (codes "outcomes") c.in_ok-count.count (length outcomes) (flat_map outcome_line outcomes ++ rest) refl (omega arith) fits.count c.in_ok-count.ensures.text (e ∙ ap Some (append_assoc (number_line (codes "outcomes") (length outcomes)) (flat_map outcome_line outcomes) rest)) in
+    let next = next_of c.args.processes c.loop.outcomes.items outcomes _ _ rest process.some process.few (omega (arith, kept.count, count.0)) kept.fit fits.fit kept.taken count.1 in
+    let told = outcome_is _ _ c.args.processes c.in_ok-outcome.outcome next.ends (flat_map outcome_line next.tail ++ rest) process.some process.few c.in_ok-outcome.ensures.fits next.fits c.in_ok-outcome.ensures.text next.known in
+    let order = rising-next c.loop.outcomes.items c.in_ok-outcome.outcome next.ends next.tail outcomes told.0 next.parts fits.rising in
     let last : IsTrue c.comes_last.result = subst (λ xs. AllPairs (λ a b. outcome_cmp a b ≡ Less) (xs ++ c.in_ok-outcome.outcome ∷ []) → IsTrue c.comes_last.result) c.as_slice.ensures.value c.comes_last.ensures.there order in
     let other : c.comes_last.result ≡ false = search rules in
     absurd (clash c.comes_last.result last other)

@@ -36,7 +36,7 @@ returns-in_err-found-clause-whole g c =
     let p = err_from_is_err_and c.from_residual-in_err-found.result c.from_residual-in_err-found.ensures.1 in
     rw (p.1, p.2) (λ report rest fits e.
     let left = behind_head _ _ _ _ c.in_ok-head.head c.processes.result report rest c.processes.ensures c.in_ok-head.ensures.fits fits (c.in_ok-next_line.ensures.line (search rules)) (c.in_ok-next_line.ensures.one (search rules)) c.in_ok-head.ensures.text e in
-    c.in_err-found.ensures.whole report.found _ (rw left.0 fits.head.some_process) (rw left.0 fits.head.processes) (rw left.0 fits.found) left.1)
+    c.in_err-found.ensures.whole (record { some = rw left.0 fits.head.some_process; few = rw left.0 fits.head.processes }) report.found _ (rw left.0 fits.found) left.1)
 
 pub returns-in_err-end-clause-whole : goal.returns-in_err-end-clause-whole
 returns-in_err-end-clause-whole g c =

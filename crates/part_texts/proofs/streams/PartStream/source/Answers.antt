@@ -9,7 +9,7 @@ pub returns-in_err-count-clause-whole : goal.returns-in_err-count-clause-whole
 returns-in_err-count-clause-whole g c =
     let p = err_from_is_err_and c.from_residual.result c.from_residual.ensures.1 in
     rw (p.1, p.2) (λ source rest few e.
-    c.in_err-count.ensures.whole (length source) (source ++ rest) (omega (arith, few)) (number-fits (codes "source") (length source) refl (omega arith) (omega (arith, few))) (e ∙ ap Some (append_assoc (number_line (codes "source") (length source)) source rest)))
+    c.in_err-count.ensures.whole (length source) (source ++ rest) (record { low = omega (arith, few); line = number-fits (codes "source") (length source) refl (omega arith) (omega (arith, few)) }) (e ∙ ap Some (append_assoc (number_line (codes "source") (length source)) source rest)))
 
 pub returns-then-count-clause-whole : goal.returns-then-count-clause-whole
 returns-then-count-clause-whole g c = λ source rest few e.
