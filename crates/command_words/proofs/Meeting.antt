@@ -2,7 +2,7 @@
 use Rattle.std.proofs.Common.{◌≡◌, ◌∙◌, true≢false, true, sym, inl, inr, ap, subst, Option, Some, None, is_some, option_map}
 use Rattle.std.specs.Prelude.{IfOk, IfSome, IsSomeAnd, Result, Ok, Err}
 use Rattle.std.specs.List.{Any}
-use Rattle.clap.specs.Words.{App, IsParsedFrom, MeetsSubcommandOf, app_of}
+use Rattle.clap.specs.Words.{App, IsParsedFrom, MeetsSubcommandOf, Text, app_of}
 use Rattle.clap.specs.declared.builder.command.Command.{Command}
 use Rattle.clap.specs.declared.parser.matches.ArgMatches.{ArgMatches}
 use Rattle.clap.proofs.CallerLemmas.{subcommand_required}
@@ -15,9 +15,9 @@ some_meets : {X Y : Type 0} (o : Option X) (f : X → Y) (P Q : Y → Type 0) �
 some_meets (Some x) f P Q e p h = h (f x) p
 some_meets None f P Q e p h = cc
 
-pub meets_one : (c : Command) (m : ArgMatches) → app_of c ≡ command_line → IsParsedFrom c m → MeetsSubcommandOf c m
-    → MeetsOneOf command_line m
-meets_one c m is parsed meets =
+pub meets_one : (word : Text) (c : Command) (m : ArgMatches) → app_of c ≡ command_line word → IsParsedFrom c m → MeetsSubcommandOf c m
+    → MeetsOneOf (command_line word) m
+meets_one word c m is parsed meets =
     let plain = ap (λ (a : App). a.top.is_plain) is in
     let needs = ap (λ (a : App). a.top.subcommand_required) is in
     let known = second _ _ _ plain in
@@ -29,7 +29,7 @@ meets_one c m is parsed meets =
       ]
     ])
 
-pub meets_ok : {E : Type 0} (r : Result ArgMatches E) (c : Command) → app_of c ≡ command_line → IfOk r (λ m. IsParsedFrom c m)
-    → IfOk r (λ m. MeetsSubcommandOf c m) → IfOk r (MeetsOneOf command_line)
-meets_ok (Ok m) c is parsed meets = meets_one c m is parsed meets
-meets_ok (Err e) c is parsed meets = tt
+pub meets_ok : {E : Type 0} (word : Text) (r : Result ArgMatches E) (c : Command) → app_of c ≡ command_line word → IfOk r (λ m. IsParsedFrom c m)
+    → IfOk r (λ m. MeetsSubcommandOf c m) → IfOk r (MeetsOneOf (command_line word))
+meets_ok word (Ok m) c is parsed meets = meets_one word c m is parsed meets
+meets_ok word (Err e) c is parsed meets = tt

@@ -1,12 +1,13 @@
 -- The words of the command line, subcommand by subcommand, and what clap makes of them.
-use Rattle.std.specs.Prelude.{◌≡◌, ◌⊎◌, ◌++◌, ◌∷◌, [], List, IsSomeAnd, codes, map, true, false}
-use Rattle.std.specs.List.{Any}
+use Rattle.std.specs.Prelude.{◌≡◌, ◌⊎◌, ◌++◌, ◌∷◌, [], List, IsSomeAnd, codes, get_or, map, true, false}
+use Rattle.std.specs.List.{Any, position}
+use Rattle.std.specs.Str.{bytes_eq}
 use Rattle.clap.specs.Words.{App, IsParsedFrom, Rule, Shape, Text, app_of}
 use Rattle.clap.specs.Words.{subcommand_name_of}
 use Rattle.clap.specs.Simple.{new_shape}
 use Rattle.clap.specs.declared.builder.command.Command.{Command}
 use Rattle.clap.specs.declared.parser.matches.ArgMatches.{ArgMatches}
-use Rattle.command_words.specs.Tables.{any_text, flag, needed, needed_number, number, several}
+use Rattle.command_words.specs.Tables.{alone_at, any_text, flag, needed, needed_number, number, several}
 
 -- a subcommand of these words
 abbrev pub subcommand : Text → List Rule → Shape
@@ -56,9 +57,17 @@ program = record (new_shape (codes "regtry")) {
   subcommand_required = true;
 }
 
--- the program and its subcommands
-abbrev pub command_line : App
-command_line = record { top = record program { is_leaf = false }; subs = subcommands }
+-- the word of the command line that stands where a subcommand is named: the first behind the program's name
+abbrev pub word_at_name : List Text → Text
+word_at_name words = get_or words 1 []
+
+-- the subcommand that this word names, alone; all where it names none
+abbrev pub subcommands_for : Text → List Shape
+subcommands_for word = alone_at subcommands (position (λ s. bytes_eq s.name word) subcommands)
+
+-- the program and its subcommands, where this word stands at the place of a subcommand's name
+abbrev pub command_line : Text → App
+command_line word = record { top = record program { is_leaf = false }; subs = subcommands_for word }
 
 -- m is a parse of a command of just these words
 abbrev pub IsParseOf : App → ArgMatches → Type 0

@@ -1,5 +1,7 @@
 -- What clap reads of the tables of words.
-use Rattle.std.specs.Prelude.{◌≡◌, List, true, false, fold, map, pos, Some}
+use Rattle.std.specs.Prelude.{◌≡◌, List, Option, Some, None, ℕ, drop, take, true, false, fold, map, pos}
+use Rattle.std.specs.List.{position}
+use Rattle.std.specs.Str.{bytes_eq}
 use Rattle.clap.specs.Lexer.{usize_max}
 use Rattle.clap.specs.Words.{App, Rule, Shape, Text, new_app, new_rule, with_rule}
 use Rattle.clap.specs.Words.{with_subcommand}
@@ -59,6 +61,15 @@ app_of_subcommand s = fold with_rule (new_app s.name.now) (map rule_of_word s.wo
 -- the same, as one of several subcommands
 abbrev pub shape_of_subcommand : Subcommand → Shape
 shape_of_subcommand s = (app_of_subcommand s).top
+
+-- the one at this place alone, or where there is no place, all
+abbrev pub alone_at : {X : Type 0} → List X → Option ℕ → List X
+alone_at all (Some place) = take 1 (drop place all)
+alone_at all None = all
+
+-- of a table the subcommand that this word names, alone; all where it names none
+pub record AreAsked (all : List Subcommand) (word : Text) (asked : List Subcommand) : Type 0 where
+  pub alone : asked ≡ alone_at all (position (λ one. bytes_eq one.name.now word) all)
 
 -- a command to which all of these subcommands are added, one after another
 pub record AddsAll (old : App) (all : List Subcommand) (new : App) : Type 0 where

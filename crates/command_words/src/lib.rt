@@ -1,10 +1,12 @@
 //! The words of the command line, as clap takes them, and what the help says of them.
 #![tactic(auto)]
 
-ghost use Rattle.std.specs.Prelude.{◌≡◌, IfOk, false, fold, map, true};
+ghost use Rattle.std.specs.Prelude.{◌≡◌, ◌<◌, IfOk, IfSome, false, fold, length, map, true};
+ghost use Rattle.std.specs.List.{position};
+ghost use Rattle.std.specs.Str.{bytes_eq};
 ghost use Rattle.clap.specs.Words.{app_of, rule_of, with_rule};
-ghost use Rattle.command_words.specs.Tables.{AddsAll, app_of_subcommand, rule_of_word};
-ghost use Rattle.command_words.specs.CommandLine.{IsParseOf, MeetsOneOf, command_line};
+ghost use Rattle.command_words.specs.Tables.{AddsAll, AreAsked, app_of_subcommand, rule_of_word};
+ghost use Rattle.command_words.specs.CommandLine.{IsParseOf, MeetsOneOf, command_line, word_at_name};
 
 mod tables;
 mod texts;
@@ -16,22 +18,53 @@ use tables::{Kind, SUBCOMMANDS, Subcommand, Word};
 use texts::STATUSES;
 
 /// The program's version, and the toolchain that it is proved with.
-pub const VERSION: &str = "0.1.0, proved with rattle-kit-13f logic dac8208d650f15bf";
+pub const VERSION: &str = "0.1.0, proved with rattle-kit-13b logic dac8208d650f15bf";
 
 /// What clap makes of the words of the command line, the program's name first. Where it is Ok, it is clap's parse by a
-/// command of just the words of `command_line`, and names one of its subcommands, or `help`. Which words clap refuses
-/// is not promised.
+/// command of just the words of `command_line`, and names one of its subcommands, or `help`. Clap is told of one subcommand alone where
+/// the first word names it. Which words clap refuses is not promised.
 pub fn matches_of<'a, S: AsStr>(alloc: Global, words: &'a [S]) -> Result<ArgMatches<'a>, Error>
-    ensures parse { IfOk result (IsParseOf command_line) }
-    ensures subcommand { IfOk result (MeetsOneOf command_line) }
+    ensures parse { IfOk result
+        (IsParseOf (command_line (word_at_name (map S.text words.entry.now)))) }
+    ensures subcommand { IfOk result
+        (MeetsOneOf (command_line (word_at_name (map S.text words.entry.now)))) }
 {
-    let command = program(alloc)?;
+    let command = program(alloc, word_at_name(words))?;
     command.try_get_matches_from(words)
 }
 
-/// The command of the whole program.
-fn program<'a>(alloc: Global) -> Result<Command<'a>, AllocError>
-    ensures { IfOk result (λ r. app_of r ≡ command_line) }
+/// The word that stands where a subcommand is named, the first behind the program's name; none is an empty one.
+fn word_at_name<'a, S: AsStr>(words: &'a [S]) -> &'a str
+    ensures { result.now ≡ word_at_name (map S.text words.entry.now) }
+{
+    match words.get(1) {
+        Some(word) => word.as_str(),
+        None => "",
+    }
+}
+
+/// The place of the subcommand that this word names.
+fn place_of(all: &[Subcommand], word: &str) -> Option<usize>
+    ensures place { result ≡ position (λ one. bytes_eq one.name.now word.now) all.now }
+    ensures low { IfSome result (λ place. place < length all.now) }
+{
+    all.iter().position(|one| one.name == word)
+}
+
+/// The subcommand that this word names, alone; all where it names none.
+fn asked_of<'t>(all: &'t [Subcommand], word: &str) -> &'t [Subcommand]
+    ensures { AreAsked all.entry.now word.now result.now }
+{
+    match place_of(all, word) {
+        Some(place) => &all[place..=place],
+        None => all,
+    }
+}
+
+/// The command of the program, where this word stands at the place of a subcommand's name.
+// Only of the subcommand that is named: to tell clap of all takes it longer than many an exploration.
+fn program<'a>(alloc: Global, word: &str) -> Result<Command<'a>, AllocError>
+    ensures { IfOk result (λ r. app_of r ≡ command_line word.now) }
 {
     let command = Command::new(alloc, "regtry")
         .bin_name("regtry")?
@@ -42,7 +75,7 @@ fn program<'a>(alloc: Global) -> Result<Command<'a>, AllocError>
         .after_help(STATUSES)
         .subcommand_required(true)
         .disable_help_subcommand(true);
-    with_subcommands(alloc, command, &SUBCOMMANDS)
+    with_subcommands(alloc, command, asked_of(SUBCOMMANDS, word))
 }
 
 /// The command with these subcommands.

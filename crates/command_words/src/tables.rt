@@ -34,7 +34,7 @@ pub(crate) struct Subcommand {
 }
 
 /// The subcommands.
-pub(crate) const SUBCOMMANDS: [Subcommand; 6] = [
+pub(crate) const SUBCOMMANDS: &[Subcommand] = &[
     Subcommand {
         name: "check",
         about: "Checks all schedules of a source and says what fails, in words.",

@@ -2,10 +2,10 @@ use Rattle.std.proofs.Common.{◌≡◌, [], refl, rules}
 use Rattle.std.proofs.lemmas.Result.{IfOk-weaker}
 use Rattle.clap.specs.Words.{app_of}
 use Rattle.command_words.specs.CommandLine.{program}
-use Rattle.command_words.proofs.Adding.{all_added}
+use Rattle.command_words.proofs.Naming.{all_told}
 use Rattle.command_words.proofs.program.Goals as goal
 
 pub returns : goal.returns
 returns c =
     let top : app_of c.disable_help_subcommand-command.result ≡ record { top = program; subs = [] } = search rules in
-    IfOk-weaker c.with_subcommands.result _ _ (λ r h. all_added _ _ (app_of r) _ h top refl) c.with_subcommands.ensures
+    IfOk-weaker c.with_subcommands.result _ _ (λ r added. all_told _ _ _ (app_of r) c.args.word.now added top c.asked_of.ensures refl refl) c.with_subcommands.ensures
