@@ -17,6 +17,9 @@ pub(crate) const NARROW: usize = 80;
 /// How long a line may be where there are more.
 pub(crate) const WIDE: usize = 132;
 
+/// How wide columns are, at most all of them.
+pub(crate) type Widths = ArrayVec<u8, MOST_COLUMNS>;
+
 /// How wide the column is: as wide as its widest text.
 fn width_of(drawing: &Drawing, column: usize) -> u8
     requires { column < MOST_COLUMNS }
@@ -31,12 +34,11 @@ fn width_of(drawing: &Drawing, column: usize) -> u8
 }
 
 /// How wide each column is.
-pub(crate) fn widths_of(drawing: &Drawing) -> ArrayVec<u8, MOST_COLUMNS>
+pub(crate) fn widths_of(drawing: &Drawing) -> Widths
     ensures widths { result.items ≡ layout.widths drawing.now }
     ensures each { length result.items ≡ layout.column_count drawing.now }
-    ensures few { length result.items ≤ MOST_COLUMNS }
 {
-    let mut widths = ArrayVec::new();
+    let mut widths = Widths::new();
     for column in 0..drawing.columns() {
         widths.push(width_of(drawing, column));
     }
@@ -61,18 +63,16 @@ fn is_changed(drawing: &Drawing, register: usize) -> bool
 
 /// How many columns stand in any case: those of the letters' numbers and of the processes.
 fn fixed_columns(drawing: &Drawing) -> usize
-    ensures value { result ≡ layout.fixed_columns drawing.now }
-    ensures few { result ≤ MOST_COLUMNS }
+    ensures { result ≡ layout.fixed_columns drawing.now }
 {
     1 + drawing.ends().len()
 }
 
 /// How much of a line the first so many columns take, of those that are kept first or of the others, each with what parts it from the next.
-fn room_of(drawing: &Drawing, widths: &[u8], first: bool, columns: usize) -> usize
-    requires there { columns ≤ length widths.now }
-    requires few { length widths.now ≤ MOST_COLUMNS }
-    ensures value { result ≡ layout.room_of drawing.now widths.now first columns }
-    ensures few { result ≤ 257 * MOST_COLUMNS }
+fn room_of(drawing: &Drawing, widths: &Widths, first: bool, columns: usize) -> usize
+    requires { columns ≤ length widths.now.items }
+    ensures value { result ≡ layout.room_of drawing.now widths.now.items first columns }
+    ensures few { result ≤ 257 * columns }
 {
     let mut room = 0;
     for column in 0..columns {
@@ -84,22 +84,21 @@ fn room_of(drawing: &Drawing, widths: &[u8], first: bool, columns: usize) -> usi
 }
 
 /// Where the line would end with a column and all those that are kept before it.
-fn end_with(drawing: &Drawing, widths: &[u8], column: usize) -> usize
-    requires there { column < length widths.now }
-    requires few { length widths.now ≤ MOST_COLUMNS }
-    ensures { result ≡ layout.end_with drawing.now widths.now column }
+fn end_with(drawing: &Drawing, widths: &Widths, column: usize) -> usize
+    requires { column < length widths.now.items }
+    ensures { result ≡ layout.end_with drawing.now widths.now.items column }
 {
+    let columns = widths.len();
     if is_kept_first(drawing, column) {
         return room_of(drawing, widths, true, column + 1);
     }
-    room_of(drawing, widths, true, widths.len()) + room_of(drawing, widths, false, column + 1)
+    room_of(drawing, widths, true, columns) + room_of(drawing, widths, false, column + 1)
 }
 
 /// Whether a column is shown.
-fn is_shown(drawing: &Drawing, widths: &[u8], all: bool, column: usize) -> bool
-    requires there { column < length widths.now }
-    requires few { length widths.now ≤ MOST_COLUMNS }
-    ensures { result ≡ layout.is_shown drawing.now widths.now all column }
+fn is_shown(drawing: &Drawing, widths: &Widths, all: bool, column: usize) -> bool
+    requires { column < length widths.now.items }
+    ensures { result ≡ layout.is_shown drawing.now widths.now.items all column }
 {
     let processes = drawing.ends().len();
     let places = if processes <= 2 { NARROW } else { WIDE };
@@ -109,14 +108,12 @@ fn is_shown(drawing: &Drawing, widths: &[u8], all: bool, column: usize) -> bool
 /// The columns that are shown, rising: all of them, or without registers that do not fit, of which those that change are kept first.
 pub(crate) fn columns_shown(
     drawing: &Drawing,
-    widths: &[u8],
+    widths: &Widths,
     all: bool,
 ) -> ArrayVec<u8, MOST_COLUMNS>
-    requires each { length widths.now ≡ layout.column_count drawing.now }
-    requires few { length widths.now ≤ MOST_COLUMNS }
-    ensures value { result.items ≡ layout.columns_shown drawing.now widths.now all }
-    ensures there { All (λ column. column < length widths.now) result.items }
-    ensures few { length result.items ≤ MOST_COLUMNS }
+    requires { length widths.now.items ≡ layout.column_count drawing.now }
+    ensures value { result.items ≡ layout.columns_shown drawing.now widths.now.items all }
+    ensures there { All (λ column. column < length widths.now.items) result.items }
 {
     let mut shown = ArrayVec::new();
     for column in 0..widths.len() {

@@ -24,7 +24,7 @@ impl Text for Drawn<'_> {
 
     fn put<W: Write>(&self, out: &mut W, block: &mut Block) -> Result<(), WriteFault> {
         let widths = widths_of(self.drawing);
-        let columns = columns_shown(self.drawing, widths.as_slice(), self.all);
+        let columns = columns_shown(self.drawing, &widths, self.all);
         let table = Table {
             drawing: self.drawing,
             widths: widths.as_slice(),
