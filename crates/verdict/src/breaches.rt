@@ -1,12 +1,10 @@
 //! What a schedule that fails breaks.
 
-ghost use Rattle.std.specs.Prelude.{◌≡◌, ◌≤◌, Bool, IfSome, IsNone, false, is_some, map, true};
+ghost use Rattle.std.specs.Prelude.{◌≡◌, Bool, IfSome, IsNone, false, is_some, map, true};
 ghost use Rattle.regmodel.specs.Judging.{meets_all};
 ghost use Rattle.report.specs.PlainCheck.{IsPlainCheck};
 ghost use Rattle.report.specs.PlainReport.{IsPlainLeast};
 ghost use Rattle.regmodel.specs.Schedules.{IsSchedule};
-ghost use Rattle.regmodel.specs.Summary.{IsRefusedWith};
-ghost use Rattle.regmodel.specs.declared.limits.TheConstants.{MOST_CRASHES};
 ghost use Rattle.reglang.specs.Grammar.{Spells};
 ghost use Rattle.reglang.specs.Sources.{contents_of, registers_of, source_programs};
 ghost use Rattle.drawing.specs.Pictures.{IsPictureOf};
@@ -146,36 +144,7 @@ pub fn breach_for(
     let Some((schedule, outcome)) = least.least() else {
         unreachable!()
     };
-    breach_of(
-        text,
-        source,
-        machines,
-        settings.crashes(),
-        strictness,
-        (schedule, outcome),
-    )
-}
-
-/// What a schedule of a source with this outcome breaks that fails when judged so strictly. The machines, one a process, lead to the
-/// drawing. Takes no memory.
-fn breach_of(
-    text: &[u8],
-    source: &Source,
-    machines: Vec<Box<dyn Machine + Send>>,
-    crashes: u32,
-    strictness: Strictness,
-    failing: (&Prefix, &Outcome),
-) -> Breach
-    requires machines { map program machines.items ≡ source_programs source.now }
-    requires few { crashes ≤ MOST_CRASHES }
-    requires spelled { Spells text.now (contents_of source.now) }
-    requires refused { IsRefusedWith (source_programs source.now) crashes
-        (demands_of strictness (contents_of source.now).clauses) failing.0.now failing.1.now }
-    ensures { IsBreachOf text.now (contents_of source.now) strictness failing.entry.0.now
-        failing.entry.1.now result }
-{
-    let (schedule, outcome) = failing;
-    let mut world = World::new(machines, source.registers(), crashes);
+    let mut world = World::new(machines, source.registers(), settings.crashes());
     let drawing = drawing_of(&mut world, schedule);
     Breach {
         schedule: schedule.copy(),

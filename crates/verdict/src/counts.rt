@@ -5,37 +5,17 @@ ghost use Rattle.verdict.specs.VerdictText as spec;
 use std::io::Write;
 use texts::{Block, Text, WriteFault};
 
-/// A number of things: a noun, and its ending, which is left out for one thing.
+/// A number of things: so many of what the noun says, with its ending, which is left out for one thing.
 #[derive(Clone, Copy)]
-pub struct Counted<'a> {
-    number: u64,
-    noun: &'a str,
-    ending: &'a str,
-}
-
-impl<'a> Counted<'a> {
-    ghost use Rattle.std.specs.Prelude.{◌≡◌};
-
-    /// So many of what the noun says.
-    pub fn of(number: u64, noun: &'a str, ending: &'a str) -> Counted<'a>
-        ensures number { result.number ≡ number }
-        ensures noun { result.noun.now ≡ noun.now }
-        ensures ending { result.ending.now ≡ ending.now }
-    {
-        Counted {
-            number,
-            noun,
-            ending,
-        }
-    }
-}
+pub struct Counted<'a>(pub u64, pub &'a str, pub &'a str);
 
 impl Text for Counted<'_> {
-    ghost text = { λ c. spec.counted c.number c.noun.now c.ending.now };
+    ghost text = { λ c. spec.counted c.0 c.1.now c.2.now };
 
     fn put<W: Write>(&self, out: &mut W, block: &mut Block) -> Result<(), WriteFault> {
-        let ending = if self.number == 1 { "" } else { self.ending };
-        (self.number, " ", self.noun, ending).put(out, block)
+        let Counted(number, noun, ending) = *self;
+        let ending = if number == 1 { "" } else { ending };
+        (number, " ", noun, ending).put(out, block)
     }
 }
 
@@ -47,7 +27,7 @@ impl Text for Letters {
     ghost text = { λ l. spec.letters_text l.0 };
 
     fn put<W: Write>(&self, out: &mut W, block: &mut Block) -> Result<(), WriteFault> {
-        Counted::of(self.0, "letter", "s").put(out, block)
+        Counted(self.0, "letter", "s").put(out, block)
     }
 }
 
@@ -62,7 +42,7 @@ impl Text for Crashes {
         if self.0 == 0 {
             return "no crashes".put(out, block);
         }
-        Counted::of(self.0, "crash", "es").put(out, block)
+        Counted(self.0, "crash", "es").put(out, block)
     }
 }
 

@@ -238,8 +238,8 @@ impl Text for Holding<'_> {
 
     fn put<W: Write>(&self, out: &mut W, block: &mut Block) -> Result<(), WriteFault> {
         let reach = self.reach;
-        let tried = Counted::of(reach.tried, "schedule", "s");
-        let outcomes = Counted::of(reach.outcomes, "outcome", "s");
+        let tried = Counted(reach.tried, "schedule", "s");
+        let outcomes = Counted(reach.outcomes, "outcome", "s");
         let tried = (tried, " tried, ", outcomes);
         let bounds = Bounds {
             length: reach.length,

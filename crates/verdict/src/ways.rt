@@ -1,10 +1,7 @@
 //! A schedule that leads to outcomes that were looked for.
 
-ghost use Rattle.std.specs.Prelude.{◌≡◌, ◌≤◌, Bool, List, Some, map};
-ghost use Rattle.regmodel.specs.Letters.{Schedule};
-ghost use Rattle.regmodel.specs.Schedules.{IsSchedule};
+ghost use Rattle.std.specs.Prelude.{◌≡◌, Bool, List, map};
 ghost use Rattle.regmodel.specs.declared.outcomes.ProcEnd.{ProcEnd};
-ghost use Rattle.regmodel.specs.declared.limits.TheConstants.{MOST_CRASHES};
 ghost use Rattle.report.specs.PlainReport.{IsPlainLeast};
 ghost use Rattle.reglang.specs.Sources.{contents_of, source_programs};
 ghost use Rattle.verdict.specs.Ways.{IsWayFor};
@@ -53,30 +50,16 @@ pub fn discovery_on(
     ensures way { IsWayFor (contents_of source.now) least.least result.way }
 {
     the_first_refused_is_a_schedule();
-    let way = way_for(source, machines, settings.crashes(), &least);
-    Discovery { least, way }
-}
-
-/// The schedule that was found, drawn, where one was.
-fn way_for(
-    source: &Source,
-    machines: Vec<Box<dyn Machine + Send>>,
-    crashes: u32,
-    least: &Least,
-) -> Option<Way>
-    requires machines { map program machines.items ≡ source_programs source.now }
-    requires few { crashes ≤ MOST_CRASHES }
-    requires schedule { (w : Schedule) (ends : List ProcEnd) → least.now.least ≡ Some (w, ends)
-        → IsSchedule (source_programs source.now) crashes w }
-    ensures { IsWayFor (contents_of source.now) least.now.least result }
-{
-    let Some((schedule, outcome)) = least.least() else {
-        return None;
+    let way = match least.least() {
+        Some((schedule, outcome)) => {
+            let mut world = World::new(machines, source.registers(), settings.crashes());
+            Some(Way {
+                schedule: schedule.copy(),
+                outcome: outcome.copy(),
+                drawing: drawing_of(&mut world, schedule),
+            })
+        }
+        None => None,
     };
-    let mut world = World::new(machines, source.registers(), crashes);
-    Some(Way {
-        schedule: schedule.copy(),
-        outcome: outcome.copy(),
-        drawing: drawing_of(&mut world, schedule),
-    })
+    Discovery { least, way }
 }

@@ -1,6 +1,13 @@
 use Rattle.std.proofs.Common.{sym, ◌∙◌}
+use Rattle.reglang.specs.Sources.{contents_of, source_programs}
+use Rattle.verdict.specs.Demands.{demands_of}
 use Rattle.verdict.proofs.breaches.breach_for.Goals as goal
 
-pub breach_of-requires-clause-refused : goal.breach_of-requires-clause-refused
-breach_of-requires-clause-refused g c =
-    rw c.crashes.ensures.value (c.the_first_refused_is_a_schedule.ensures _ _ _ _ c.in-Some.schedule.now c.in-Some.outcome.now (sym c.requires.least.least ∙ sym c.in-Some.ensures))
+pub drawing_of-drawing-requires-clause-schedule : goal.drawing_of-drawing-requires-clause-schedule
+drawing_of-drawing-requires-clause-schedule g c =
+    let refused = c.the_first_refused_is_a_schedule.ensures (source_programs c.args.source.now) c.args.settings.crashes c.args.settings.length (demands_of c.args.strictness (contents_of c.args.source.now).clauses) c.in-Some.schedule.now c.in-Some.outcome.now (sym c.requires.least.least ∙ sym c.in-Some.ensures) in
+    rw (c.new-world.ensures.programs, c.requires.machines, c.new-world.ensures.budget, c.crashes.ensures.value) refused.schedule
+
+pub cause_of-requires-clause-refused : goal.cause_of-requires-clause-refused
+cause_of-requires-clause-refused g c =
+    (c.the_first_refused_is_a_schedule.ensures (source_programs c.args.source.now) c.args.settings.crashes c.args.settings.length (demands_of c.args.strictness (contents_of c.args.source.now).clauses) c.in-Some.schedule.now c.in-Some.outcome.now (sym c.requires.least.least ∙ sym c.in-Some.ensures)).refused
