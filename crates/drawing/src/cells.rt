@@ -245,7 +245,7 @@ impl Drawing {
         let registers = match line {
             Line::Head => return Cell::new().with(b"r").with_number(r as u32),
             Line::Start => self.start(),
-            Line::Row(row) => row.registers.as_slice(),
+            Line::Row(row) => &row.registers,
             Line::End => return Cell::new(),
         };
         match registers.get(r) {

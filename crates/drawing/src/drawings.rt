@@ -100,19 +100,17 @@ impl Drawing {
     }
 
     /// What each register holds before the first letter, registers from 0.
-    pub(crate) fn start(&self) -> &[Held]
-        ensures value { result.now ≡ self.now.start }
-        ensures few { length result.now ≤ 64 }
+    pub(crate) fn start(&self) -> &ArrayVec<Held, 64>
+        ensures { result.now.items ≡ self.now.start }
     {
-        self.start.as_slice()
+        &self.start
     }
 
     /// What is drawn of each letter.
-    pub(crate) fn rows(&self) -> &[Row]
-        ensures value { result.now ≡ self.now.rows }
-        ensures few { length result.now ≤ 64 }
+    pub(crate) fn rows(&self) -> &ArrayVec<Row, 64>
+        ensures { result.now.items ≡ self.now.rows }
     {
-        self.rows.as_slice()
+        &self.rows
     }
 
     /// How all processes stand at the end.
