@@ -6,6 +6,7 @@ use Rattle.std.proofs.lemmas.Bool.{cases_eq, cases_lt}
 use Rattle.regmodel.specs.Kept.{values_in}
 use Rattle.regmodel.specs.Program.{Program}
 use Rattle.regmodel.specs.Reply.{Replies}
+use Rattle.regmodel.specs.declared.accesses.Pending.{Pending}
 use Rattle.regmodel.specs.declared.reply.Reply.{Reply}
 use Rattle.machine.specs.declared.states.Kept.{Kept}
 use Rattle.machine.specs.Rest.{Asks, rest_in}
@@ -58,10 +59,10 @@ pub kept_at-index : (kept : List Kept) (place : ℕ) (x : Kept) → place < leng
 kept_at-index kept place x h e = e ∙ get_or_default kept place x blank h
 
 -- past one reply more, which leads from each place to the next
-pub led_on : (p : Program) (kept : List Kept) (from at known : ℕ) (replies : List Reply) (i : ℕ) (none : Reply) → IsKept p kept known → at + 1 < known → i < length replies → values_in (kept_at kept (at + 1)).reply ≡ values_in (get_or replies i none)
-    → ((s : Replies) → rest_in p (state_at kept at) s ≡ rest_in p (state_at kept from) (map values_in (take i replies) ++ s))
-    → (s : Replies) → rest_in p (state_at kept (at + 1)) s ≡ rest_in p (state_at kept from) (map values_in (take (i + 1) replies) ++ s)
-led_on p kept from at known replies i none h next there same led s =
+pub led_on : (p : Program) (kept : List Kept) (act : Replies → Pending) (at known : ℕ) (replies : List Reply) (i : ℕ) (none : Reply) → IsKept p kept known → at + 1 < known → i < length replies → values_in (kept_at kept (at + 1)).reply ≡ values_in (get_or replies i none)
+    → ((s : Replies) → rest_in p (state_at kept at) s ≡ act (map values_in (take i replies) ++ s))
+    → (s : Replies) → rest_in p (state_at kept (at + 1)) s ≡ act (map values_in (take (i + 1) replies) ++ s)
+led_on p kept act at known replies i none h next there same led s =
     let reply = values_in (get_or replies i none) in
     let more : map values_in (take (i + 1) replies) ++ s ≡ map values_in (take i replies) ++ reply ∷ s = ap (λ rs. rs ++ s) (map_more values_in replies i none there) ∙ append_assoc (map values_in (take i replies)) (reply ∷ []) s in
-    h.leads at next s ∙ (ap (λ r. rest_in p (state_at kept at) (r ∷ s)) same ∙ (led (reply ∷ s) ∙ ap (rest_in p (state_at kept from)) (sym more)))
+    h.leads at next s ∙ (ap (λ r. rest_in p (state_at kept at) (r ∷ s)) same ∙ (led (reply ∷ s) ∙ ap act (sym more)))

@@ -1,12 +1,11 @@
 //! The interpreter: a machine that runs a program's statements.
 
-ghost use Rattle.std.specs.Prelude.{◌≡◌, ℕ, ◌+◌, ◌++◌, ◌<◌, ◌≤◌, IfOk, length, map, take, true};
+ghost use Rattle.std.specs.Prelude.{◌≡◌, ℕ, ◌+◌, ◌<◌, ◌≤◌, IfOk, length, true};
 ghost use Rattle.regmodel.specs.OfProg.{program_of};
 ghost use Rattle.regmodel.specs.Lawful.{IsAtStart, IsReplyTo};
 ghost use Rattle.regmodel.specs.Kept.{values_in};
-ghost use Rattle.regmodel.specs.Reply.{Replies};
 ghost use Rattle.machine.specs.Keeping.{IsKept, IsStart, kept_at, state_at};
-ghost use Rattle.machine.specs.Rest.{Asks, pending_in, rest_in};
+ghost use Rattle.machine.specs.Rest.{Asks, pending_in};
 
 use crate::states::{Kept, State};
 use crate::{Machine, Told};
@@ -82,25 +81,13 @@ impl Interp {
         next < self.known && self.kept[next].reply.is(reply)
     }
 
-    /// Goes on by the first of these replies, as many as are known to lead to the next places, and answers how many these are.
-    fn go_on_by(&mut self, replies: &[Reply]) -> usize
-        requires { self.old.at < self.old.known }
-        ensures same { self.new.prog ≡ self.old.prog }
-        ensures count { result ≤ length replies.now }
-        ensures leads { (s : Replies)
-            → rest_in (program_of self.new.prog) (state_of self.new) s
-            ≡ rest_in (program_of self.old.prog) (state_of self.old)
-            (map values_in (take result replies.now) ++ s) }
+    /// Whether the present state is at its place, and there is a place behind that.
+    fn keeps_next(&self) -> bool
+        ensures { result ≡ true
+            → (self.now.at < self.now.known)
+            × (self.now.at + 1 < length self.now.kept.items) }
     {
-        let mut count = 0;
-        for reply in replies {
-            if !self.is_known(reply.values()) {
-                break;
-            }
-            self.at += 1;
-            count += 1;
-        }
-        count
+        self.at < self.known && self.at + 1 < self.kept.len()
     }
 
     /// Copies the present state to the next place, and runs past the reply there. What was known from there on is known no longer.
@@ -117,15 +104,6 @@ impl Interp {
         next.state.go_on(&self.prog, reply);
         self.at += 1;
         self.known = self.at + 1;
-    }
-
-    /// Runs past the reply at the present place, which is known no longer.
-    fn run_in_place(&mut self, reply: &[u32])
-        requires wanted { IsReplyTo (pending_in (state_of self.old)) reply.now }
-        ensures { WentPast reply.now self.old self.new }
-    {
-        self.known = self.known.min(self.at);
-        self.kept[self.at].state.go_on(&self.prog, reply);
     }
 }
 
@@ -147,7 +125,15 @@ impl Machine for Interp {
 
     fn recall(&mut self, replies: &[Reply]) -> usize {
         self.go_to_start();
-        self.go_on_by(replies)
+        let mut count = 0;
+        for reply in replies {
+            if !self.is_known(reply.values()) {
+                break;
+            }
+            self.at += 1;
+            count += 1;
+        }
+        count
     }
 
     fn pending(&self) -> Pending {
@@ -157,10 +143,11 @@ impl Machine for Interp {
     fn feed(&mut self, reply: &[u32]) {
         if self.is_known(reply) {
             self.at += 1;
-        } else if self.at < self.known && self.at + 1 < self.kept.len() {
+        } else if self.keeps_next() {
             self.run_on(reply);
         } else {
-            self.run_in_place(reply);
+            self.known = self.known.min(self.at);
+            self.kept[self.at].state.go_on(&self.prog, reply);
         }
     }
 

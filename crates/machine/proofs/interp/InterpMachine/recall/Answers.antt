@@ -1,6 +1,29 @@
-use Rattle.std.proofs.Common.{◌∙◌, ◌++◌, map, take}
-use Rattle.regmodel.specs.Kept.{values_in}
+use Rattle.std.proofs.Common.{◌∙◌, arith, refl, rules}
+use Rattle.regmodel.specs.Act.{act_of}
+use Rattle.regmodel.specs.OfProg.{program_of}
+use Rattle.machine.proofs.KeptStates.{led_on}
 use Rattle.machine.proofs.interp.InterpMachine.recall.Goals as goal
 
-pub returns-clause-leads : goal.returns-clause-leads
-returns-clause-leads c = λ s lawful. c.go_on_by.ensures.leads s ∙ (rw c.go_on_by.ensures.same (c.go_to_start.ensures.starts (map values_in (take c.go_on_by.result c.args.replies.now) ++ s)))
+pub loop-reply-init : goal.loop-reply-init
+loop-reply-init c = record { count = refl; prog = c.go_to_start.ensures.same; known = c.go_to_start.ensures.known; leads = c.go_to_start.ensures.starts }
+
+pub overflow_add-count : goal.overflow_add-count
+overflow_add-count c = search rules
+
+pub loop-reply-preserved : goal.loop-reply-preserved
+loop-reply-preserved c =
+    let told = c.loop-reply.invariant in
+    let m = c.loop-reply.self in
+    let known = c.is_known.ensures c.if-not-is_known.false in
+    record {
+      count = omega (arith, told.count);
+      prog = told.prog;
+      known = known.0;
+      leads = rw told.count (led_on (program_of m.prog) m.kept.items (act_of (program_of m.prog)) m.at m.known c.args.replies.now c.loop-reply.reply-index _ m.follows known.0 c.loop-reply-test.true (known.1 ∙ c.values.ensures) (rw told.count at told.leads));
+    }
+
+pub returns-after-loop-reply-clause-leads : goal.returns-after-loop-reply-clause-leads
+returns-after-loop-reply-clause-leads c = λ s lawful. c.loop-reply.invariant.leads s
+
+pub returns-then-not-is_known-clause-leads : goal.returns-then-not-is_known-clause-leads
+returns-then-not-is_known-clause-leads c = λ s lawful. c.loop-reply.invariant.leads s
