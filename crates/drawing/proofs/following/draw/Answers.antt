@@ -21,7 +21,7 @@ pub returns-clause-drawn : goal.returns-clause-drawn
 returns-clause-drawn g c =
     let kept = c.loop-place.invariant in
     let first = c.restart.ensures in
-    let zeros = values-same _ _ _ _ [] (letters_of c.restart.new.self) _ first.same.programs first.same.registers first.start c.registers-zeros.ensures.value in
+    let zeros = values-same _ _ _ _ [] (letters_of c.restart.new.self) _ first.same.programs first.same.registers first.back c.registers-zeros.ensures.value in
     let went = kept.went ∙ take_all c.loop-place.place c.args.schedule.now (omega (arith, c.loop-place-test.false, ap length c.letters-letter-items.ensures.value)) in
     picture-whole _ _ _ (letters_of c.loop-place.world) _ _ _ _ _ c.new.ensures kept.same.programs went
     (c.held_since-start.ensures (world_programs (λ b. (goal.Machine-dyn g b).program b.1) c.args.world.now) [] [] _ zeros zeros)
