@@ -2,7 +2,6 @@
 
 ghost use Rattle.std.specs.Prelude.{◌≡◌, ◌+◌, ◌≤◌, ◌∷◌, [], ◌++◌, IfSome, IsSome, length, take};
 ghost use Rattle.std.specs.List.{flat_map};
-ghost use Rattle.told.specs.declared.bytes.TheConstants.{PAIR};
 ghost use Rattle.told.specs.declared.limits.TheConstants.{MOST_BYTES};
 ghost use Rattle.told.specs.declared.numbers.TheConstants.{FEW};
 ghost use Rattle.told.specs.Bytes.{bytes_of, numbers_of, size_of};
@@ -71,7 +70,13 @@ impl Told {
         ensures room { size_of (numbers_in self.old ++ number ∷ []) ≤ MOST_BYTES → IsSome result }
     {
         if number >= PAIR {
-            return self.put_large(number);
+            if number < 0x1_0000 {
+                let [lower, upper] = pair(number);
+                return self.put_bytes(&[PAIR as u8, lower, upper], 1);
+            }
+            let [a, b] = pair(number & 0xffff);
+            let [c, d] = pair(number >> 16);
+            return self.put_bytes(&[FOUR as u8, a, b, c, d], 1);
         }
         let end = self.size as usize;
         if end >= MOST_BYTES {
@@ -81,22 +86,6 @@ impl Told {
         self.size += 1;
         self.count += 1;
         Some(())
-    }
-
-    /// The same for a number that takes more than one byte.
-    fn put_large(&mut self, number: u32) -> Option<()>
-        requires { PAIR ≤ number }
-        ensures behind { IfSome result
-            (λ _. numbers_in self.new ≡ numbers_in self.old ++ number ∷ []) }
-        ensures room { size_of (numbers_in self.old ++ number ∷ []) ≤ MOST_BYTES → IsSome result }
-    {
-        if number < 0x1_0000 {
-            let [lower, upper] = pair(number);
-            return self.put_bytes(&[PAIR as u8, lower, upper], 1);
-        }
-        let [a, b] = pair(number & 0xffff);
-        let [c, d] = pair(number >> 16);
-        self.put_bytes(&[FOUR as u8, a, b, c, d], 1)
     }
 
     /// Puts these numbers behind the others. None where their bytes have no room; some of them may be put then.

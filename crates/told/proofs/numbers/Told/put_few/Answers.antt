@@ -1,4 +1,4 @@
-use Rattle.std.proofs.Common.{◌≡◌, ◌≤◌, arith, length, rules, take}
+use Rattle.std.proofs.Common.{◌≤◌, arith, length, rules, take}
 use Rattle.told.proofs.NumberBytes.{counts_both, few_behind, numbers_few, still_whole, tells_both}
 use Rattle.told.proofs.numbers.Told.put_few.Goals as goal
 
