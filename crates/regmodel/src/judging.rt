@@ -99,25 +99,25 @@ fn see_themselves(p: usize, ends: &[ProcEnd]) -> bool
 }
 
 /// Whether each name m is at least 1, and m + 1 at most twice the number of processes that took a step.
-fn are_adaptive(ends: &[ProcEnd]) -> bool
-    requires { length ends.now ≤ MOST_PROCESSES }
+fn are_adaptive(outcome: &Outcome) -> bool
     ensures { result
-        ≡ list_all (λ m. nat_le 1 m && nat_le (m + 1) (2 * count_started ends.now))
-        (names ends.now) }
+        ≡ list_all (λ m. nat_le 1 m && nat_le (m + 1) (2 * count_started outcome.now))
+        (names outcome.now) }
 {
+    let ends = outcome.ends();
     let most = 2 * count_started(ends) as u32;
     are_within(ends, 1, most.saturating_sub(1))
 }
 
 /// Whether each name m is at least 1, and 2m at most k(k + 1), where k processes took a step.
-fn are_in_triangle(ends: &[ProcEnd]) -> bool
-    requires { length ends.now ≤ MOST_PROCESSES }
+fn are_in_triangle(outcome: &Outcome) -> bool
     ensures { result
         ≡ list_all
         (λ m. nat_le 1 m
-        && nat_le (2 * m) (count_started ends.now * (count_started ends.now + 1)))
-        (names ends.now) }
+        && nat_le (2 * m) (count_started outcome.now * (count_started outcome.now + 1)))
+        (names outcome.now) }
 {
+    let ends = outcome.ends();
     let k = count_started(ends) as u32;
     are_within(ends, 1, k * (k + 1) / 2)
 }
@@ -145,8 +145,8 @@ fn meets(clause: &Clause, outcome: &Outcome) -> bool
         Clause::Distinct => are_different(ends),
         Clause::AtMost(name, count) => count_of(ends, name) <= count as usize,
         Clause::Within(low, high) => are_within(ends, low, high),
-        Clause::Adaptive => are_adaptive(ends),
-        Clause::Triangle => are_in_triangle(ends),
+        Clause::Adaptive => are_adaptive(outcome),
+        Clause::Triangle => are_in_triangle(outcome),
         Clause::SelfSeen => see_themselves(0, ends),
         Clause::Ended => !some_running(ends),
         Clause::NoFault => !some_faulty(ends),

@@ -31,20 +31,9 @@ impl Reply {
     {
         match values {
             [value] => self.places[0] = *value,
-            _ => self.put_many(values),
+            _ => put_first(&mut self.places, values),
         }
         self.count = values.len();
-    }
-
-    /// Puts these numbers in the first places.
-    // Not a part of its caller: most replies are of one number, whose place is set without room for a call that copies memory.
-    #[inline(never)]
-    fn put_many(&mut self, values: &[u32])
-        requires { length values.now ≤ MOST_SCANNED }
-        ensures places { take (length values.now) self.new.places ≡ values.now }
-        ensures room { length self.new.places ≡ length self.old.places }
-    {
-        self.places[..values.len()].copy_from_slice(values);
     }
 
     /// Its numbers.
@@ -60,16 +49,27 @@ impl Reply {
     {
         match values {
             [value] => self.count == 1 && self.places[0] == *value,
-            _ => self.has_many(values),
+            _ => are_same(self.values(), values),
         }
     }
+}
 
-    /// Whether it has just these numbers.
-    // Not a part of its caller, as `put_many` is none.
-    #[inline(never)]
-    fn has_many(&self, values: &[u32]) -> bool
-        ensures { IsTrue result ↔ (values_in self.now ≡ values.now) }
-    {
-        self.values() == values
-    }
+/// Puts these numbers in the first places.
+// Not a part of `set`: most replies are of one number, whose place is set without room for a call that copies memory.
+#[inline(never)]
+fn put_first(places: &mut [u32], values: &[u32])
+    requires { length values.now ≤ length places.old }
+    ensures places { take (length values.now) places.new ≡ values.now }
+    ensures room { length places.new ≡ length places.old }
+{
+    places[..values.len()].copy_from_slice(values);
+}
+
+/// Whether the numbers are the same.
+// Not a part of `is`, as `put_first` is none of `set`.
+#[inline(never)]
+fn are_same(numbers: &[u32], others: &[u32]) -> bool
+    ensures { IsTrue result ↔ (numbers.now ≡ others.now) }
+{
+    numbers == others
 }

@@ -5,4 +5,4 @@ use Rattle.regmodel.proofs.Bounded.{all_same}
 use Rattle.regmodel.proofs.judging.are_adaptive.Goals as goal
 
 pub returns : goal.returns
-returns c = c.are_within.ensures ∙ all_same _ _ (λ m. grind (arith, leb_tells)) (names c.args.ends.now)
+returns c = rw (← c.ends-ends.ensures.value) (c.are_within.ensures ∙ all_same _ _ (λ m. grind (arith, leb_tells)) (names c.ends-ends.result.now))
