@@ -98,7 +98,7 @@ fn misfit_after(first: Word, rest: &[u8]) -> Option<&[u8]>
 {
     match first {
         Word::Keyword(key @ (Keyword::Use | Keyword::Check)) => named_misfit(key, rest),
-        Word::Keyword(key) => first_misfit(sorts_after(key), rest),
+        Word::Keyword(key) => first_misfit(sorts_after(key).list, rest),
         _ => None,
     }
 }
@@ -119,8 +119,8 @@ fn sorts_named(key: Keyword, word: Word) -> Option<&'static [Sort]>
     ensures { option_copied result ≡ spec.sorts_named key word }
 {
     match key {
-        Keyword::Use => Some(kind_sorts(kind_of(word)?)),
-        _ => Some(property_sorts(property_of(word)?)),
+        Keyword::Use => Some(kind_sorts(kind_of(word)?).list),
+        _ => Some(property_sorts(property_of(word)?).list),
     }
 }
 

@@ -1,9 +1,9 @@
 -- What one line more makes of what was read.
-use Rattle.std.proofs.Common.{◌≡◌, ℕ, suc, ◌+◌, ◌<◌, ◌≤◌, Bool, true, List, ◌∷◌, length, reverse, Result, Ok, Err, refl, ap, sym, ◌∙◌, arith}
+use Rattle.std.proofs.Common.{◌≡◌, ℕ, suc, ◌+◌, ◌<◌, ◌≤◌, Bool, true, List, ◌∷◌, length, reverse, Result, Ok, Err, refl, ap, subst, sym, ◌∙◌, arith}
 use Rattle.std.proofs.lemmas.Bool.{and_parts, lt-ltb, le-ltb}
 use Rattle.std.proofs.lemmas.List.{length-map, length-reverse}
 use Rattle.std.specs.List.{count_by}
-use Rattle.std.specs.Prelude.{nat_lt, ◌&&◌, IfOk, IfErr}
+use Rattle.std.specs.Prelude.{nat_lt, ◌&&◌}
 use Rattle.regmodel.specs.declared.programs.Expr.{Expr}
 use Rattle.regmodel.specs.Limits.{expr_fits}
 use Rattle.regmodel.specs.Program as program
@@ -14,16 +14,13 @@ use Rattle.reglang.proofs.Frames.{turns-held}
 use Rattle.reglang.specs.declared.draft.Draft.{Draft}
 use Rattle.reglang.specs.declared.open_process.Open.{Open}
 use Rattle.reglang.specs.declared.refusals.LineRefusal.{LineRefusal}
-use Rattle.reglang.specs.declared.refusals.LineRefusal.TheVariants as refusal
 
 pub added : (before : Contents) (frames : List Frame) (block : Block) (n : ℕ) (fits : Bool) (statement next : Block) → nat_lt n 200 ≡ true → fits ≡ true → next ≡ block ⊕ statement → add before frames block n fits statement ≡ Ok (Inside before frames next (n + 1))
 added before frames block n fits statement next room h told = rw (room, h, told) (ap (λ m. Ok (Inside before frames (block ⊕ statement) m)) (omega arith))
 
 -- an answer that only memory may refuse
-pub answered : (expected : Result Reading ℕ) (next : Reading) (result : Result Draft LineRefusal) → IfOk result (λ draft. reading_of draft ≡ next) → IfErr result (λ r. r ≡ refusal.Memory) → expected ≡ Ok next → Answers expected result
-answered expected next (Ok draft) ok err e = e ∙ ap Ok (sym ok)
-answered expected next (Err refusal.Memory) ok err e = rw e refl
-answered expected next (Err (refusal.Fault code)) ok err e = absurd cc
+pub answered : (expected : Result Reading ℕ) (next : Reading) (result : Result Draft LineRefusal) → Answers (Ok next) result → expected ≡ Ok next → Answers expected result
+answered expected next result answers e = subst (λ (x : Result Reading ℕ). Answers x result) (sym e) answers
 
 pub left_repeat : (before : Contents) (frames outside : List Frame) (block : Block) (n : ℕ) (count : Expr) (outer ended : Block) → frames ≡ Turn count outer ∷ outside → ended ≡ program.Repeat count block Stop → leave_repeat before frames block n ≡ Ok (Inside before outside (outer ⊕ ended) n)
 left_repeat before frames outside block n count outer ended e h = rw h (ap (λ fs. leave_repeat before fs block n) e)

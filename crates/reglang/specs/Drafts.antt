@@ -314,10 +314,6 @@ pub record AnswersLine (may_ask : Bool) (expected : Result Reading ℕ) (result 
   pub answers : Answers expected result
   pub memory : IfErr result (IsWantOf may_ask)
 
--- where a line is taken, this is what was read then
-abbrev pub Reads : Result Draft LineRefusal → Reading → Type 0
-Reads result reading = IfOk result (λ draft. reading_of draft ≡ reading)
-
 -- the answer at the end of a text
 abbrev pub AnswersAtEnd : Reading → Result Source ℕ → Type 0
 AnswersAtEnd reading result =

@@ -1,7 +1,7 @@
 -- How a text is cut into lines, and a line into words.
-use Rattle.std.specs.Prelude.{◌≡◌, ℕ, ◌<◌, ◌==◌, Bool, true, false, ◌&&◌, not, if◌then◌else◌, List, [], ◌∷◌, length, Option, MatchOption, nat_le}
+use Rattle.std.specs.Prelude.{◌≡◌, ℕ, ◌<◌, ◌==◌, Bool, true, false, ◌&&◌, not, if◌then◌else◌, List, [], ◌∷◌, drop, length, Option, MatchOption, nat_le}
 use Rattle.std.specs.Borrow.{Bor}
-use Rattle.std.specs.List.{slice_split, filter, list_all}
+use Rattle.std.specs.List.{slice_split, filter, list_all, prefix_len}
 
 -- whether there is no byte
 abbrev pub is_empty : List ℕ → Bool
@@ -21,6 +21,10 @@ lines text = without_empty_end (slice_split (λ b. b == 10) text)
 -- words are parted by one or more spaces
 abbrev pub words : List ℕ → List (List ℕ)
 words line = filter (λ word. not (is_empty word)) (slice_split (λ b. b == 32) line)
+
+-- a line from its first byte on that is no space
+abbrev pub without_indent : List ℕ → List ℕ
+without_indent line = drop (prefix_len (λ b. b == 32) line) line
 
 -- only bytes 32 to 126 stand in a line
 abbrev pub is_printable : List ℕ → Bool

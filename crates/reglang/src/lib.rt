@@ -20,13 +20,13 @@ mod writer;
 
 pub use arguments::Argument;
 pub use forms::{Line, is_known, read_line};
-pub use lines::{split_line, split_word};
+pub use lines::{split_line, split_word, without_indent};
 pub use operands::{argument_of, kind_of, number_in, operator_of, property_of, target_of};
 pub use reader::{ReadFault, Rejection, read_source, read_text};
 pub use refusals::{
     MISPLACED, NO_CLAUSE, NO_FORM, NO_NUMBER, NO_REGISTERS, NOT_PRINTABLE, PAST_LIMIT, UNKNOWN_WORD,
 };
-pub use sorts::{MOST_ARGUMENTS, Sort, kind_sorts, property_sorts, sorts_after};
+pub use sorts::{MOST_ARGUMENTS, Sort, Sorts, kind_sorts, property_sorts, sorts_after};
 pub use source::Source;
 pub use uses::{ExpandFault, Use, expand};
 pub use words::{Keyword, Kind, Property, Word, enclosed, word_of};

@@ -1,8 +1,8 @@
 //! Lines of a text, and words of a line.
 
-ghost use Rattle.std.specs.Prelude.{◌≡◌, ℕ, ◌==◌, ◌+◌, ◌≤◌, length, drop};
+ghost use Rattle.std.specs.Prelude.{◌≡◌, ℕ, ◌==◌, ◌+◌, ◌≤◌, length};
 ghost use Rattle.std.specs.List.{position, prefix_len, before_first, after_first};
-ghost use Rattle.reglang.specs.Lines.{SplitsOff, is_printable, lines, words};
+ghost use Rattle.reglang.specs.Lines.{SplitsOff, is_printable, lines, without_indent, words};
 
 /// The first line of a text without its byte 10, and what follows it. None at the end of the text.
 pub fn split_line(text: &[u8]) -> Option<(&[u8], &[u8])>
@@ -18,7 +18,7 @@ pub fn split_line(text: &[u8]) -> Option<(&[u8], &[u8])>
 pub fn split_word(line: &[u8]) -> Option<(&[u8], &[u8])>
     ensures { SplitsOff words line.now result }
 {
-    let line = after_spaces(line);
+    let line = without_indent(line);
     if line.is_empty() {
         return None;
     }
@@ -59,8 +59,8 @@ fn spaces(line: &[u8]) -> usize
 }
 
 /// A line from its first byte on that is no space.
-fn after_spaces(line: &[u8]) -> &[u8]
-    ensures { result.now ≡ drop (prefix_len (λ b. b == 32) line.now) line.now }
+pub fn without_indent(line: &[u8]) -> &[u8]
+    ensures { result.now ≡ without_indent line.now }
 {
     &line[spaces(line)..]
 }

@@ -1,8 +1,8 @@
 //! A process of a text, up to its end.
 
-ghost use Rattle.std.specs.Prelude.{◌≡◌, ◌<◌, [], count_by, false, IfErr};
+ghost use Rattle.std.specs.Prelude.{◌≡◌, ◌<◌, [], Ok, count_by, false};
 ghost use Rattle.regmodel.specs.Program.{Stop};
-ghost use Rattle.reglang.specs.Drafts.{Answers, AnswersLine, Inside, Reads, ReadingFits, add_to, contents_before};
+ghost use Rattle.reglang.specs.Drafts.{Answers, AnswersLine, Inside, ReadingFits, add_to, contents_before};
 ghost use Rattle.reglang.specs.Drafts.{entered, inside_of, is_turn, may_enter, open_with, pushed, take_line};
 ghost use Rattle.reglang.specs.Faults.{may_ask};
 ghost use Rattle.reglang.specs.declared.forms.Line.TheVariants as line;
@@ -144,8 +144,8 @@ impl OpenProcess {
     fn enter(mut self, opened: Open) -> Result<Draft, LineRefusal>
         requires room { self.statements < MOST_STATEMENTS }
         requires none { self.block.items ≡ [] }
-        ensures ok { Reads result (entered self.before opened self.blocks.items self.statements) }
-        ensures err { IfErr result (λ refusal. refusal ≡ LineRefusal.Memory) }
+        ensures { Answers
+            (Ok (entered self.before opened self.blocks.items self.statements)) result }
     {
         self.blocks.push(opened)?;
         self.statements += 1;
@@ -196,10 +196,9 @@ impl OpenProcess {
 
     /// Adds a block that has ended to the statements around it.
     fn leave(mut self, stmt: Stmt) -> Result<Draft, LineRefusal>
-        ensures ok { Reads result
-            (open_with self.before self.blocks.items (pushed self.block.items stmt)
-            self.statements) }
-        ensures err { IfErr result (λ refusal. refusal ≡ LineRefusal.Memory) }
+        ensures { Answers
+            (Ok (open_with self.before self.blocks.items (pushed self.block.items stmt)
+            self.statements)) result }
     {
         self.block.push(stmt)?;
         Ok(Draft::Inside(self))

@@ -1,10 +1,10 @@
 //! Arguments of lines: what words stand for at their places.
 
-ghost use Rattle.std.specs.Prelude.{◌≡◌, ◌≤◌, length, option_map};
+ghost use Rattle.std.specs.Prelude.{◌≡◌, option_map};
 ghost use Rattle.reglang.specs.Forms as spec;
 
 use crate::arguments::{Argument, Arguments};
-use crate::sorts::{MOST_ARGUMENTS, Sort};
+use crate::sorts::{Sort, Sorts};
 use crate::words::{Kind, Property, Word};
 use arrayvec::ArrayVec;
 use regmodel::{Expr, Op, Operand, Target};
@@ -107,13 +107,12 @@ pub fn argument_of(sort: Sort, word: Word) -> Option<Argument>
 
 /// The arguments of these sorts that words are: one word is one argument, but an expression is all the words that are left.
 /// None for any other words.
-pub fn arguments(sorts: &[Sort], words: &[Word]) -> Option<Arguments>
-    requires { length sorts.now ≤ MOST_ARGUMENTS }
-    ensures { option_map (λ list. list.items) result ≡ spec.arguments sorts.now words.now }
+pub fn arguments(sorts: Sorts, words: &[Word]) -> Option<Arguments>
+    ensures { option_map (λ list. list.items) result ≡ spec.arguments sorts.list.now words.now }
 {
     let mut list = ArrayVec::new();
     let mut rest = words;
-    for sort in sorts {
+    for sort in sorts.list {
         if matches!(sort, Sort::Expression) {
             list.push(Argument::Expression(expr_of(rest)?));
             return Some(list);

@@ -24,10 +24,10 @@ pub struct Parts {
 }
 
 impl Parts {
-    ghost use Rattle.std.specs.Prelude.{IfErr, false};
+    ghost use Rattle.std.specs.Prelude.{Ok, false};
     ghost use Rattle.reglang.specs.Contents.{body_of};
     ghost use Rattle.reglang.specs.Drafts as spec;
-    ghost use Rattle.reglang.specs.Drafts.{AnswersAtEnd, AnswersLine, Between, Reads, ReadingFits};
+    ghost use Rattle.reglang.specs.Drafts.{Answers, AnswersAtEnd, AnswersLine, Between, ReadingFits};
     ghost use Rattle.reglang.specs.Faults.{may_ask};
     ghost use Rattle.reglang.specs.Drafts.{begun, contents_before, with_body};
     ghost use Rattle.reglang.specs.declared.forms.Line.TheVariants as line;
@@ -89,8 +89,8 @@ impl Parts {
     /// Adds a process that is read to its end.
     pub fn add_process(mut self, process: Process) -> Result<Draft, LineRefusal>
         requires { is_over self.registers process ≡ true }
-        ensures ok { Reads result (Between (with_body (contents_before self) (body_of process))) }
-        ensures err { IfErr result (λ refusal. refusal ≡ LineRefusal.Memory) }
+        ensures { Answers
+            (Ok (Between (with_body (contents_before self) (body_of process)))) result }
     {
         self.processes.push(process)?;
         Ok(Draft::Between(self))

@@ -2,6 +2,7 @@
 
 ghost use Rattle.std.specs.Prelude.{◌≡◌, ◌≤◌, length};
 ghost use Rattle.reglang.specs.Sorts as spec;
+ghost use Rattle.reglang.specs.declared.sorts.TheConstants.{MOST_ARGUMENTS};
 
 use crate::words::{Keyword, Kind, Property};
 use regmodel::limits::{GREATEST_VALUE, MOST_PROCESSES};
@@ -24,52 +25,67 @@ pub enum Sort {
     Expression,
 }
 
+/// What follows a word: at most 4 sorts, in their order.
+#[derive(Clone, Copy)]
+pub struct Sorts {
+    /// The sorts.
+    pub list: &'static [Sort],
+    ghost few: { length list.now ≤ MOST_ARGUMENTS },
+}
+
+impl Sorts {
+    /// These sorts.
+    fn of(list: &'static [Sort]) -> Sorts
+        requires { length list.now ≤ MOST_ARGUMENTS }
+        ensures { result.list.now ≡ list.now }
+    {
+        Sorts { list }
+    }
+}
+
 /// What follows a first word. After `use` comes a kind and after `check` a property, and then what follows these.
-pub fn sorts_after(key: Keyword) -> &'static [Sort]
-    ensures sorts { result.now ≡ spec.sorts_after key }
-    ensures few { length result.now ≤ MOST_ARGUMENTS }
+pub fn sorts_after(key: Keyword) -> Sorts
+    ensures { result.list.now ≡ spec.sorts_after key }
 {
     match key {
-        Keyword::Registers => &[Sort::Number],
-        Keyword::Set => &[Sort::Target, Sort::Expression],
-        Keyword::Read => &[Sort::Target, Sort::Operand],
-        Keyword::Write => &[Sort::Operand, Sort::Expression],
-        Keyword::Scan => &[Sort::Number, Sort::Number, Sort::Number],
-        Keyword::If | Keyword::Repeat | Keyword::Emit => &[Sort::Expression],
-        _ => &[],
+        Keyword::Registers => Sorts::of(&[Sort::Number]),
+        Keyword::Set => Sorts::of(&[Sort::Target, Sort::Expression]),
+        Keyword::Read => Sorts::of(&[Sort::Target, Sort::Operand]),
+        Keyword::Write => Sorts::of(&[Sort::Operand, Sort::Expression]),
+        Keyword::Scan => Sorts::of(&[Sort::Number, Sort::Number, Sort::Number]),
+        Keyword::If | Keyword::Repeat | Keyword::Emit => Sorts::of(&[Sort::Expression]),
+        _ => Sorts::of(&[]),
     }
 }
 
 /// What follows a kind.
-pub fn kind_sorts(kind: Kind) -> &'static [Sort]
-    ensures sorts { result.now ≡ spec.kind_sorts kind }
-    ensures few { length result.now ≤ MOST_ARGUMENTS }
+pub fn kind_sorts(kind: Kind) -> Sorts
+    ensures { result.list.now ≡ spec.kind_sorts kind }
 {
     match kind {
-        Kind::Split => &[Sort::Number, Sort::Number],
-        Kind::Grid | Kind::Name | Kind::Names => &[Sort::Number, Sort::Number, Sort::Number],
-        Kind::Tree => &[Sort::Number, Sort::Number, Sort::Number, Sort::Number],
+        Kind::Split => Sorts::of(&[Sort::Number, Sort::Number]),
+        Kind::Grid | Kind::Name | Kind::Names => Sorts::of(&[
+            Sort::Number,
+            Sort::Number,
+            Sort::Number,
+        ]),
+        Kind::Tree => Sorts::of(&[Sort::Number, Sort::Number, Sort::Number, Sort::Number]),
     }
 }
 
 /// What follows a property.
-pub fn property_sorts(property: Property) -> &'static [Sort]
-    ensures sorts { result.now ≡ spec.property_sorts property }
-    ensures few { length result.now ≤ MOST_ARGUMENTS }
+pub fn property_sorts(property: Property) -> Sorts
+    ensures { result.list.now ≡ spec.property_sorts property }
 {
     match property {
-        Property::AtMost => {
-            &[
-                Sort::NumberTo(GREATEST_VALUE),
-                Sort::NumberTo(MOST_PROCESSES as u32),
-            ]
-        }
-        Property::Within => {
-            &[
-                Sort::NumberTo(GREATEST_VALUE),
-                Sort::NumberTo(GREATEST_VALUE),
-            ]
-        }
-        _ => &[],
+        Property::AtMost => Sorts::of(&[
+            Sort::NumberTo(GREATEST_VALUE),
+            Sort::NumberTo(MOST_PROCESSES as u32),
+        ]),
+        Property::Within => Sorts::of(&[
+            Sort::NumberTo(GREATEST_VALUE),
+            Sort::NumberTo(GREATEST_VALUE),
+        ]),
+        _ => Sorts::of(&[]),
     }
 }

@@ -12,6 +12,7 @@ mod reports;
 mod tallied;
 mod writing;
 
+pub use bounds::Bounds;
 pub use checked::Checked;
 pub use effort::Effort;
 pub use explorations::Exploration;

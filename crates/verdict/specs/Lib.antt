@@ -4,7 +4,6 @@ pub mod Examples
 pub mod FaultText
 pub mod Faults
 pub mod Gaps
-pub mod Indents
 pub mod Onsets
 pub mod ShellWords
 pub mod VerdictText

@@ -6,12 +6,12 @@ use Rattle.regmodel.specs.Judging.{is_running}
 use Rattle.regmodel.specs.Letters.{Schedule}
 use Rattle.report.specs.PlainReport.{Findings}
 use Rattle.regmodel.specs.ScheduleText.{schedule_text}
+use Rattle.reglang.specs.Lines.{without_indent}
 use Rattle.explanations.specs.Checks.{line_at}
 use Rattle.drawing.specs.DrawingText.{drawing_text}
 use Rattle.explanations.specs.Origins.{line_told, path_told}
 use Rattle.explanations.specs.Shown.{shown}
 use Rattle.verdict.specs.FaultText.{fault_line, fault_text}
-use Rattle.verdict.specs.Indents.{without_indent}
 use Rattle.verdict.specs.ShellWords.{operand_text}
 use Rattle.verdict.specs.declared.breaches.Breach.{Breach}
 use Rattle.verdict.specs.declared.breaches.Cause.{Cause}

@@ -6,7 +6,6 @@ mod counts;
 mod demands;
 mod faults;
 mod gaps;
-mod indents;
 mod leading;
 mod onsets;
 mod reaches;

@@ -17,7 +17,7 @@ pub returns : goal.returns
 returns c =
     let process = c.args.self in
     let count = c.open_repeats.ensures ∙ ap (count_by is_turn) c.as_slice.ensures.value in
-    answered _ _ _ c.enter.ensures.ok c.enter.ensures.err
+    answered _ _ _ c.enter.ensures
     (entered_repeat (contents_before process.before) process.blocks.items (block_of process.block.items) process.statements c.args.count
     (sym c.may_enter.ensures ∙ c.if-not-may_enter.false) (sym c.fits.ensures ∙ c.if-not-fits.false) (omega (arith, count, c.if-open_repeats.false))
     ∙ ap (λ block. Ok (entered process.before (Turn c.args.count block) process.blocks.items process.statements)) (sym c.replace-outer.ensures.value))

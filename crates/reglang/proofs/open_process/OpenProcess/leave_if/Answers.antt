@@ -15,7 +15,7 @@ returns-in-Some-First c =
     let opens = c.pop.new.self.items in
     let left = left_first _ _ _ _ _ _ _ _ (frames_pushed _ _ _ _ c.in-Some-First.ensures.items c.in-Some-First.field-0-is)
     (with_stmt-If test process.block c.new.result Stop ∙ ap (λ block. If test (block_of process.block.items) (block_of block) Stop) c.new.ensures.items) in
-    answered _ _ _ c.leave.ensures.ok c.leave.ensures.err
+    answered _ _ _ c.leave.ensures
     (left
     ∙ ap (λ first. Ok (open_with process.before opens (pushed outer.items (stmt.If test first c.new.result)) process.statements)) (sym c.replace-first.ensures.value)
     ∙ ap (λ block. Ok (open_with process.before opens (pushed block.items (stmt.If test c.replace-first.result c.new.result)) process.statements)) (sym c.replace-first.ensures.after))
@@ -28,7 +28,7 @@ returns-in-Some-Second c =
     let outer = c.in-Some-Second.outer in
     let opens = c.pop.new.self.items in
     let left = left_second _ _ _ _ _ _ _ _ _ (frames_pushed _ _ _ _ c.in-Some-Second.ensures.items c.in-Some-Second.field-0-is) (with_stmt-If test first process.block Stop) in
-    answered _ _ _ c.leave-in-Some-Second.ensures.ok c.leave-in-Some-Second.ensures.err
+    answered _ _ _ c.leave-in-Some-Second.ensures
     (left
     ∙ ap (λ second. Ok (open_with process.before opens (pushed outer.items (stmt.If test first second)) process.statements)) (sym c.replace-second.ensures.value)
     ∙ ap (λ block. Ok (open_with process.before opens (pushed block.items (stmt.If test first c.replace-second.result)) process.statements)) (sym c.replace-second.ensures.after))
