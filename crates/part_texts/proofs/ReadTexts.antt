@@ -1,5 +1,5 @@
 -- Beginnings of texts, and lines that are read one after another.
-use Rattle.std.proofs.Common.{◌≡◌, ◌≢◌, ℕ, ◌+◌, ◌<◌, Bool, true, false, List, [], ◌∷◌, ◌++◌, length, take, drop, Option, Some, None, Result, Ok, Err, IfErr, IfSome, IfNone, refl, ap, sym, subst, ◌∙◌, append_assoc, codes, decimal, arith, length-append}
+use Rattle.std.proofs.Common.{◌≡◌, ◌≢◌, ℕ, ◌+◌, ◌<◌, Bool, true, false, List, [], ◌∷◌, ◌++◌, length, take, drop, Option, Some, None, IfSome, IfNone, refl, ap, sym, subst, ◌∙◌, append_assoc, codes, decimal, arith, length-append}
 use Rattle.std.specs.Option.{MatchOption}
 use Rattle.std.specs.Str.{bytes_eq}
 use Rattle.std.specs.Cmp.Lexicographic.{bytes_decides}
@@ -9,8 +9,6 @@ use Rattle.std.proofs.lemmas.Grind.{flat_map-append}
 use Rattle.regmodel.specs.Settings.{Bounds}
 use Rattle.regmodel.specs.declared.outcomes.ProcEnd.{ProcEnd}
 use Rattle.texts.specs.OutcomeText.{outcome_line}
-use Rattle.part_texts.specs.declared.faults.Cause.{Cause}
-use Rattle.part_texts.specs.declared.faults.Cause.TheVariants.{Unreadable}
 use Rattle.part_texts.specs.PlainHead.{PlainHead, head_of}
 use Rattle.part_texts.specs.PartText.{bounds_text, head_text, number_text, source_text}
 use Rattle.part_texts.specs.Streams.{ReadsOn}
@@ -56,17 +54,17 @@ some_left (Some u) (Some v) x p some e =
 pub line_left : (a b : Option (List ℕ)) (line : List ℕ) → Consumes a b (line ++ 10 ∷ []) → a ≡ Some [] → ⊥
 line_left a b line p e = some_left a b (line ++ 10 ∷ []) p (omega (arith, length-append line (10 ∷ []))) e
 
--- where something was left, an error says nothing of an empty text
-pub not_at_end : {X : Type 0} (a : Option (List ℕ)) (r : Result X Cause) → (a ≡ Some [] → ⊥) → IfErr r (λ cause. a ≡ Some [] → cause ≡ Unreadable)
-not_at_end a (Ok x) h = tt
-not_at_end a (Err cause) h = λ e. absurd (h e)
-
 -- a line is read, and then what goes on after it
 pub line_then : (a b c : Option (List ℕ)) (line text : List ℕ) → Consumes a b (line ++ 10 ∷ []) → ReadsOn b c line text → Consumes a c text
 line_then a b c line text p q = subst (Consumes a c) (append_assoc line (10 ∷ []) q.rest ∙ q.parts) (Consumes-trans a b c (line ++ 10 ∷ []) q.rest p q.taken)
 
-pub three_read : (a b c d : Option (List ℕ)) (x y z : List ℕ) → Consumes a b x → Consumes b c y → Consumes c d z → Consumes a d (x ++ y ++ z)
-three_read a b c d x y z p q r = Consumes-trans a c d (x ++ y) z (Consumes-trans a b c x y p q) r
+-- what is found and the last line are read behind a head
+pub part_read : (a b c d : Option (List ℕ)) (line head found end : List ℕ) → ReadsOn a b line head → Consumes b c found → Consumes c d end → ReadsOn a d line (head ++ found ++ end)
+part_read a b c d line head found end q r s = record {
+  rest = q.rest ++ (found ++ end);
+  parts = sym (append_assoc line (10 ∷ q.rest) (found ++ end)) ∙ ap (λ text. text ++ (found ++ end)) q.parts ∙ sym (append_assoc head found end);
+  taken = Consumes-trans a b d q.rest (found ++ end) q.taken (Consumes-trans b c d found end r s);
+}
 
 -- ---- the lines of a head
 

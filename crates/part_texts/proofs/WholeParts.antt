@@ -19,7 +19,6 @@ use Rattle.regmodel.specs.declared.outcomes.ProcEnd.{ProcEnd}
 use Rattle.report.specs.ReportText.{least_text}
 use Rattle.texts.specs.NumberText.{number_line}
 use Rattle.texts.specs.OutcomeText.{outcome_line, outcome_text}
-use Rattle.patterns.specs.Cuts.{has_no}
 use Rattle.part_texts.specs.FitsPart.{FitsFound, FitsLeast, FitsOutcome, FitsPart}
 use Rattle.part_texts.specs.PartText.{bounds_text, end_text, found_text, head_text, part_text}
 use Rattle.part_texts.specs.PlainHead.{FitsHead, PlainHead, head_of}
@@ -31,7 +30,7 @@ use Rattle.part_texts.proofs.LineSizes.{number-fits, numbers-fit, schedule-fits}
 use Rattle.part_texts.proofs.ReadTexts.{clash}
 use Rattle.part_texts.proofs.SameLines.{first-same, front-same, number-same, numbers-same, numbers_of, parted, told-same}
 use Rattle.part_texts.proofs.SameParts.{bounds-parts, bytes-same, explored_parts, failing-parts, found-same, head-parts, head-same, outcomes-same, part-parts, plain-same}
-use Rattle.part_texts.proofs.WholeTexts.{first_is, leaves, line_of, number_is, reads_on}
+use Rattle.part_texts.proofs.WholeTexts.{first_is, leaves, number_is, reads_on}
 
 -- where nothing is there, what is said of that
 pub none_said : {X : Type 0} (Q : Type 0) (o : Option X) → false ≡ is_some o → IfNone o Q → Q
@@ -256,17 +255,17 @@ pub part-first : (report : PartReport) (rest : List ℕ) → part_text report ++
 part-first report rest = part-parts report rest ∙ head-parts report.head (found_text report.found ++ (end_text ++ rest))
 
 -- the head that was read behind its first line
-pub head_left : (a b c : Option (List ℕ)) (line : List ℕ) (h : PlainHead) (report : PartReport) (rest : List ℕ) → FitsHead h → FitsPart report → Consumes a b (line ++ 10 ∷ []) → has_no 10 line ≡ true → ReadsOn b c line (head_text h) → a ≡ Some (part_text report ++ rest) → (h ≡ report.head) × (c ≡ Some (found_text report.found ++ (end_text ++ rest)))
-head_left a b c line h report rest read fits p clean q e =
+pub head_left : (b c : Option (List ℕ)) (line : List ℕ) (h : PlainHead) (report : PartReport) (rest : List ℕ) → FitsHead h → FitsPart report → ReadsOn b c line (head_text h) → IsLineOf b line (part_text report ++ rest) → (h ≡ report.head) × (c ≡ Some (found_text report.found ++ (end_text ++ rest)))
+head_left b c line h report rest read fits q whole =
     let behind = found_text report.found ++ (end_text ++ rest) in
-    let l = reads_on b c line (head_text h) (head_text report.head ++ behind) q (line_of a b line (head_text report.head ++ behind) p clean (e ∙ ap Some (part-parts report rest))) in
+    let l = reads_on b c line (head_text h) (head_text report.head ++ behind) q (subst (IsLineOf b line) (part-parts report rest) whole) in
     let same = head-same h report.head l.rest behind read fits.head l.parts in
     (same.0, l.known ∙ ap Some same.1)
 
 -- and how many processes it tells of
-pub behind_head : (a b c : Option (List ℕ)) (line : List ℕ) (h : PlainHead) (n : ℕ) (report : PartReport) (rest : List ℕ) → n ≡ h.processes → FitsHead h → FitsPart report → Consumes a b (line ++ 10 ∷ []) → has_no 10 line ≡ true → ReadsOn b c line (head_text h) → a ≡ Some (part_text report ++ rest) → (n ≡ report.head.processes) × (c ≡ Some (found_text report.found ++ (end_text ++ rest)))
-behind_head a b c line h n report rest count read fits p clean q e =
-    let left = head_left a b c line h report rest read fits p clean q e in
+pub behind_head : (b c : Option (List ℕ)) (line : List ℕ) (h : PlainHead) (n : ℕ) (report : PartReport) (rest : List ℕ) → n ≡ h.processes → FitsHead h → FitsPart report → ReadsOn b c line (head_text h) → IsLineOf b line (part_text report ++ rest) → (n ≡ report.head.processes) × (c ≡ Some (found_text report.found ++ (end_text ++ rest)))
+behind_head b c line h n report rest count read fits q whole =
+    let left = head_left b c line h report rest read fits q whole in
     (count ∙ ap (λ h. h.processes) left.0, left.1)
 
 -- what stands behind what was found

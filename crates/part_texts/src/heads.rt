@@ -58,18 +58,12 @@ impl PartHead {
         })
     }
 
-    /// The number of the part, from 1 on.
-    pub fn number(&self) -> u32
-        ensures { result ≡ self.now.number }
+    /// Which part it is, and of how many.
+    pub fn part(&self) -> Part
+        ensures number { result.number ≡ self.now.number }
+        ensures count { result.count ≡ self.now.count }
     {
-        self.part.number()
-    }
-
-    /// How many parts there are, 1 to 65536.
-    pub fn count(&self) -> u32
-        ensures { result ≡ self.now.count }
-    {
-        self.part.count()
+        self.part
     }
 
     /// How many processes there are, 1 to 8.
@@ -79,28 +73,7 @@ impl PartHead {
         self.processes
     }
 
-    /// How many letters a schedule had at most, 0 to 64.
-    pub fn length(&self) -> u32
-        ensures { result ≡ self.now.length }
-    {
-        self.settings.length()
-    }
-
-    /// How many processes could crash, 0 to 8.
-    pub fn crashes(&self) -> u32
-        ensures { result ≡ self.now.crashes }
-    {
-        self.settings.crashes()
-    }
-
-    /// Below which length a piece was split, 0 to 16.
-    pub fn cut(&self) -> u32
-        ensures { result ≡ self.now.cut }
-    {
-        self.settings.cut()
-    }
-
-    /// The same three numbers as settings, which also say by how many workers it is explored.
+    /// The bounds and the cut as settings, which also say by how many workers it is explored.
     pub fn settings(&self) -> Settings
         ensures length { result.length ≡ self.now.length }
         ensures crashes { result.crashes ≡ self.now.crashes }
@@ -113,13 +86,14 @@ impl PartHead {
     pub fn is_of_same(&self, other: &PartHead) -> bool
         ensures { IsTrue result ↔ AreOfOne self.now other.now }
     {
-        if self.count() != other.count() || self.processes() != other.processes() {
+        if self.part.count() != other.part.count() || self.processes != other.processes {
             return false;
         }
-        if self.length() != other.length() || self.crashes() != other.crashes() {
+        let (own, others) = (self.settings, other.settings);
+        if own.length() != others.length() || own.crashes() != others.crashes() {
             return false;
         }
-        self.cut() == other.cut() && self.source() == other.source()
+        own.cut() == others.cut() && self.source() == other.source()
     }
 
     /// The bytes of the source, at most 1048576.

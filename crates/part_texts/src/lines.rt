@@ -1,8 +1,6 @@
 //! What stands on a line. No call takes memory.
 
-ghost use Rattle.std.specs.Prelude.{◌≡◌, ◌≢◌, ◌<◌, ◌≤◌, ◌^◌, ◌++◌, ◌==◌, ℕ, IfNone, IfSome, List, codes, decimal, length, not, true};
-ghost use Rattle.std.specs.List.{prefix_len};
-ghost use Rattle.patterns.specs.Cuts.{begins_at, has_no};
+ghost use Rattle.std.specs.Prelude.{◌≡◌, ◌≢◌, ◌<◌, ◌≤◌, ◌^◌, ◌++◌, ℕ, IfNone, IfSome, List, codes, decimal};
 ghost use Rattle.regmodel.specs.declared.limits.TheConstants.{MOST_PROCESSES};
 ghost use Rattle.regmodel.specs.declared.outcomes.ProcEnd.{ProcEnd};
 ghost use Rattle.report.specs.declared.parts.TheConstants.{MOST_PARTS};
@@ -10,7 +8,7 @@ ghost use Rattle.texts.specs.OutcomeText.{outcome_text};
 ghost use Rattle.part_texts.specs.FitsPart.{FitsOutcome};
 
 use crate::outcomes::read_outcome;
-use patterns::long_number_of;
+use patterns::{cut_at, long_number_of};
 use regmodel::Outcome;
 
 /// What follows a word at the beginning of a text. None where it does not begin so.
@@ -42,28 +40,11 @@ pub(crate) fn part_in(line: &[u8]) -> Option<(u64, u64)>
         → codes "part " ++ decimal number ++ codes " of " ++ decimal count ≢ line.now) }
 {
     let rest = after(line, b"part ")?;
-    let (digits, rest) = cut_at_space(rest);
+    let (digits, rest) = cut_at(rest, b' ');
     let number = long_number_of(digits)?;
     let digits = after(rest, b" of ")?;
     let count = long_number_of(digits)?;
     Some((number, count))
-}
-
-/// What stands before the first space, and the rest from that space on.
-fn cut_at_space(text: &[u8]) -> (&[u8], &[u8])
-    ensures parts { result.0.now ++ result.1.now ≡ text.now }
-    ensures before { has_no 32 result.0.now ≡ true }
-    ensures after { begins_at 32 result.1.now ≡ true }
-{
-    text.split_at(count_before_space(text))
-}
-
-/// How many bytes stand before the first space.
-fn count_before_space(text: &[u8]) -> usize
-    ensures within { result ≤ length text.now }
-    ensures count { result ≡ prefix_len (λ b. not (b == 32)) text.now }
-{
-    text.iter().take_while(|b| **b != b' ').count()
 }
 
 /// The outcome of so many processes behind a word. None for any other line.

@@ -38,8 +38,18 @@ impl<R: BufRead> PartStream<R> {
             (λ bad. IsOutwardAt FitsPart part_text (left_of R.remaining self.old) bad.cause) }
         ensures line { IfErr result (λ bad. bad.line ≡ self.new.number) }
     {
+        match self.next_line() {
+            Ok(true) => {}
+            Ok(false) => return Ok(None),
+            Err(cause) => {
+                return Err(BadPart {
+                    line: self.number,
+                    cause,
+                });
+            }
+        }
         match self.part(alloc) {
-            Ok(part) => Ok(part),
+            Ok(part) => Ok(Some(part)),
             Err(cause) => Err(BadPart {
                 line: self.number,
                 cause,
@@ -47,22 +57,20 @@ impl<R: BufRead> PartStream<R> {
         }
     }
 
-    /// The next part; None where nothing is left.
-    fn part(&mut self, alloc: Global) -> Result<Option<PartReport>, Cause>
-        ensures next { IfOk result
-            (IsNextPart (left_of R.remaining self.old) (left_of R.remaining self.new)) }
-        ensures err { IfErr result
-            (λ cause. left_of R.remaining self.old ≡ Some [] → cause ≡ Unreadable) }
+    /// The part whose first line is read.
+    fn part(&mut self, alloc: Global) -> Result<PartReport, Cause>
+        ensures text { IfOk result
+            (λ part. ReadsOn (left_of R.remaining self.old) (left_of R.remaining self.new)
+            self.old.line.items (part_text part)) }
+        ensures fits { IfOk result FitsPart }
         ensures whole { IfErr result
-            (IsOutwardAt FitsPart part_text (left_of R.remaining self.old)) }
+            (IsOutwardBehind FitsPart part_text (left_of R.remaining self.old)
+            self.old.line.items) }
     {
-        if !self.next_line()? {
-            return Ok(None);
-        }
         let head = self.head(alloc)?;
         let found = self.found(alloc, head.processes())?;
         self.end()?;
-        Ok(Some(PartReport { head, found }))
+        Ok(PartReport { head, found })
     }
 
     /// Reads the last line of a part.

@@ -52,7 +52,8 @@ impl Text for PartHead {
     ghost text = { head_text };
 
     fn put<W: Write>(&self, out: &mut W, block: &mut Block) -> Result<(), WriteFault> {
-        let part = ("part ", self.number(), " of ", self.count(), "\n");
+        let part = self.part();
+        let part = ("part ", part.number(), " of ", part.count(), "\n");
         let source = NumberLine::new("source", self.source().len() as u64);
         (part, BoundsOf(self), source, self.source()).put(out, block)
     }
@@ -66,10 +67,11 @@ impl Text for BoundsOf<'_> {
     ghost text = { λ bounds. let head = bounds.0.now in bounds_text head.processes head.length head.crashes head.cut };
 
     fn put<W: Write>(&self, out: &mut W, block: &mut Block) -> Result<(), WriteFault> {
+        let settings = self.0.settings();
         let processes = NumberLine::new("processes", u64::from(self.0.processes()));
-        let length = NumberLine::new("length", u64::from(self.0.length()));
-        let crashes = NumberLine::new("crashes", u64::from(self.0.crashes()));
-        let cut = NumberLine::new("cut", u64::from(self.0.cut()));
+        let length = NumberLine::new("length", u64::from(settings.length()));
+        let crashes = NumberLine::new("crashes", u64::from(settings.crashes()));
+        let cut = NumberLine::new("cut", u64::from(settings.cut()));
         (processes, length, crashes, cut).put(out, block)
     }
 }

@@ -60,9 +60,9 @@ fn parts_one_after_another_are_read_and_written_as_they_stood(rt: HostRuntime) -
 fn a_part_tells_what_stood_there(rt: HostRuntime) -> Result<(), Fail> {
     let report = part_of(rt.alloc(), EXPLORED)?;
     let head = &report.head;
-    let numbers = (head.number(), head.count(), head.processes());
-    assert!(rt; numbers == (3, 16, 2));
-    assert!(rt; (head.length(), head.crashes(), head.cut()) == (20, 0, 4));
+    let (part, settings) = (head.part(), head.settings());
+    assert!(rt; (part.number(), part.count(), head.processes()) == (3, 16, 2));
+    assert!(rt; (settings.length(), settings.crashes(), settings.cut()) == (20, 0, 4));
     assert!(rt; head.source() == b"empty\n".as_slice());
     let Found::Explored(found) = &report.found else {
         return Err(Fail::from("the least alone was read"));
