@@ -9,7 +9,7 @@ use Rattle.regmodel.specs.Limits.{expr_fits}
 use Rattle.regmodel.specs.Program as program
 use Rattle.regmodel.specs.Program.{Block, Stop}
 use Rattle.reglang.specs.Contents.{Contents}
-use Rattle.reglang.specs.Drafts.{Frame, First, Second, Turn, Inside, Reading, Answers, add, enter, leave_if, leave_repeat, turns, frame_of, frames_of, is_turn, reading_of, ◌⊕◌}
+use Rattle.reglang.specs.Drafts.{Frame, First, Second, Turn, Inside, Reading, Answers, add, enter, leave_if, leave_repeat, turns, frame_of, frames_of, is_turn, ◌⊕◌}
 use Rattle.reglang.proofs.Frames.{turns-held}
 use Rattle.reglang.specs.declared.draft.Draft.{Draft}
 use Rattle.reglang.specs.declared.open_process.Open.{Open}

@@ -1,4 +1,4 @@
-use Rattle.std.proofs.Common.{ap, subst, sym, ◌∙◌}
+use Rattle.std.proofs.Common.{subst, sym}
 use Rattle.std.proofs.lemmas.Result.{err_from_is_err_and}
 use Rattle.part_texts.specs.FitsPart.{FitsFound}
 use Rattle.part_texts.specs.Streams.{IsLineOf}
