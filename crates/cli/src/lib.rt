@@ -7,7 +7,7 @@ mod explorations;
 mod faults;
 mod machines;
 mod merges;
-mod performing;
+mod program;
 mod progress;
 mod runs;
 mod searches;
@@ -21,4 +21,4 @@ pub use orders::{
     Bound, Input, MOST_BYTES, Order, Question, Refusal, Request, Task, command, input_of, refuse,
     words_of,
 };
-pub use performing::perform;
+pub use program::perform;

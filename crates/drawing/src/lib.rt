@@ -2,14 +2,14 @@
 #![tactic(auto)]
 
 mod cells;
+mod deeds;
 mod drawings;
-mod following;
 mod gaps;
 mod layout;
 mod registers;
 mod tables;
 mod writing;
 
+pub use deeds::draw;
 pub use drawings::{Deed, Drawing, Held, Row};
-pub use following::draw;
 pub use writing::Drawn;

@@ -23,7 +23,7 @@ use Rattle.verdict.specs.declared.demands.Asked.TheVariants.{Checks, Faults, Not
 use Rattle.verdict.specs.declared.gaps.Gap.{Gap}
 use Rattle.verdict.specs.declared.gaps.Want.{Want}
 use Rattle.verdict.specs.declared.gaps.Want.TheVariants.{Name, Done}
-use Rattle.verdict.specs.declared.reaches.Reach.{Reach}
+use Rattle.verdict.specs.declared.reach.Reach.{Reach}
 
 -- the ending of a noun, but for one thing
 abbrev pub ending_text : ℕ → List ℕ → List ℕ

@@ -1,0 +1,28 @@
+use Rattle.std.proofs.Common.{◌<◌, ◌∙◌, [], ap, length, arith}
+use Rattle.std.proofs.lemmas.List.{take_all}
+use Rattle.world.proofs.Same.{same_since}
+use Rattle.world.specs.Sound.{letters_of, world_programs}
+use Rattle.drawing.proofs.Rows.{letters-more, picture-whole, rows-past, values-same}
+use Rattle.drawing.proofs.deeds.draw.Goals as goal
+
+pub loop-place-preserved : goal.loop-place-preserved
+loop-place-preserved g c =
+    let kept = c.loop-place.invariant in
+    let here : c.loop-place.place < length c.args.schedule.now = omega (arith, c.loop-place-test.true, ap length c.letters-letter-items.ensures.value) in
+    let went = c.row_of.ensures.same in
+    record {
+      same = same_since _ _ _ _ _ _ kept.same went;
+      went = letters-more _ _ _ c.args.schedule.now c.loop-place.place _ c.row_of.ensures.stepped kept.went c.letters-letter-items.ensures.value here;
+      rows = rows-past _ _ _ _ (letters_of c.loop-place.world) _ _ _ _ _ kept.same.programs kept.same.registers c.row_of.ensures.stepped c.push.ensures.items kept.rows c.row_of.ensures.row;
+      count = omega (arith, kept.count);
+    }
+
+pub returns-clause-drawn : goal.returns-clause-drawn
+returns-clause-drawn g c =
+    let kept = c.loop-place.invariant in
+    let first = c.restart.ensures in
+    let zeros = values-same _ _ _ _ [] (letters_of c.restart.new.self) _ first.same.programs first.same.registers first.back c.registers-zeros.ensures.value in
+    let went = kept.went ∙ take_all c.loop-place.place c.args.schedule.now (omega (arith, c.loop-place-test.false, ap length c.letters-letter-items.ensures.value)) in
+    picture-whole _ _ _ (letters_of c.loop-place.world) _ _ _ _ _ c.new.ensures kept.same.programs went
+    (c.held_since-start.ensures (world_programs (λ b. (goal.Machine-dyn g b).program b.1) c.args.world.now) [] [] _ zeros zeros)
+    kept.rows c.outcome.ensures

@@ -1,0 +1,289 @@
+//! Whether a source holds, in words. No call takes memory.
+
+ghost use Rattle.texts.specs.Appending.{Wrote};
+ghost use Rattle.verdict.specs.VerdictText as spec;
+ghost use Rattle.verdict.specs.VerdictText.{verdict_text};
+
+use crate::breaches::{Breach, Cause, Verdict};
+use crate::counts::{Bounds, Counted, Letters};
+use crate::demands::Asked;
+use crate::faults::FaultLine;
+use crate::gaps::{Gap, Want};
+use crate::reach::{Reach, reach_of};
+use crate::replays::ReplayCommand;
+use drawing::Drawn;
+use explanations::{origin_of, shown_line};
+use reglang::without_indent;
+use regmodel::limits::MOST_LETTERS;
+use std::io::Write;
+use texts::{Block, Text, WriteFault, write};
+
+/// Writes whether the source holds that the text in the file of this path spells: the schedule that fails, the check that it breaks and the
+/// process at fault, its drawing and the command that replays it; or how much was tried, what was looked for where there is no check line,
+/// which checks no outcome could break, and whether schedules were cut off. Where the shortest one was asked for, that no shorter one fails.
+/// After a fault the writer has taken a beginning of it.
+pub fn write_verdict<W: Write>(
+    path: &[u8],
+    text: &[u8],
+    verdict: &Verdict,
+    is_shortest: bool,
+    out: &mut W,
+) -> Result<(), WriteFault>
+    ensures { Wrote W.contents out.old out.new
+        (verdict_text path.now text.now is_shortest verdict.now) result }
+{
+    match verdict {
+        Verdict::Fails(breach) => {
+            let failing = Failing {
+                path,
+                text,
+                breach,
+                is_shortest,
+            };
+            write(&failing, out)
+        }
+        Verdict::Holds(held) => {
+            let reach = reach_of(&held.exploration);
+            let gaps = GapLines {
+                text,
+                gaps: held.gaps.as_slice(),
+            };
+            write(
+                &(Holding { path, reach }, held.asked, gaps, Caution(reach)),
+                out,
+            )
+        }
+    }
+}
+
+/// What a schedule that fails breaks.
+#[derive(Clone, Copy)]
+struct Failing<'a> {
+    path: &'a [u8],
+    text: &'a [u8],
+    breach: &'a Breach,
+    is_shortest: bool,
+}
+
+impl Text for Failing<'_> {
+    ghost text = { λ f. spec.breach_text f.path.now f.text.now f.is_shortest f.breach.now };
+
+    fn put<W: Write>(&self, out: &mut W, block: &mut Block) -> Result<(), WriteFault> {
+        let breach = self.breach;
+        let letters = Letters(breach.schedule.letters().len() as u64);
+        let cause = Caused {
+            text: self.text,
+            cause: &breach.cause,
+        };
+        let drawing = Drawn {
+            drawing: &breach.drawing,
+            all: false,
+        };
+        let fails = Fails(self.is_shortest);
+        let failing = (self.path, ": a schedule of ", letters, fails);
+        let replay = ReplayCommand {
+            path: self.path,
+            schedule: &breach.schedule,
+        };
+        let onset = Onset(breach.onset);
+        let told = (failing, cause, onset, "\n");
+        (told, drawing, replay).put(out, block)
+    }
+}
+
+/// That a schedule fails; and that no shorter one does, where the shortest one was asked for.
+#[derive(Clone, Copy)]
+struct Fails(bool);
+
+impl Text for Fails {
+    ghost text = { λ f. spec.fails_text f.0 };
+
+    fn put<W: Write>(&self, out: &mut W, block: &mut Block) -> Result<(), WriteFault> {
+        if self.0 {
+            return " fails, and no shorter one: ".put(out, block);
+        }
+        " fails: ".put(out, block)
+    }
+}
+
+/// Why a schedule fails.
+#[derive(Clone, Copy)]
+struct Caused<'a> {
+    text: &'a [u8],
+    cause: &'a Cause,
+}
+
+impl Text for Caused<'_> {
+    ghost text = { λ c. spec.cause_text c.text.now c.cause.now };
+
+    fn put<W: Write>(&self, out: &mut W, block: &mut Block) -> Result<(), WriteFault> {
+        match *self.cause {
+            Cause::Check { line, fault } => {
+                let check = CheckLine {
+                    text: self.text,
+                    line,
+                };
+                (check, "\n", FaultLine(fault)).put(out, block)
+            }
+            Cause::Fault(fault) => (fault, "\n").put(out, block),
+        }
+    }
+}
+
+/// A check line without its indent, and where it comes from.
+#[derive(Clone, Copy)]
+struct CheckLine<'a> {
+    text: &'a [u8],
+    line: u64,
+}
+
+impl Text for CheckLine<'_> {
+    ghost text = { λ c. spec.check_text c.text.now c.line };
+
+    fn put<W: Write>(&self, out: &mut W, block: &mut Block) -> Result<(), WriteFault> {
+        let check = without_indent(shown_line(self.text, self.line));
+        let origin = origin_of(&[], self.text, self.line);
+        (check, " (line ", origin.line, OfFile(origin.path), ")").put(out, block)
+    }
+}
+
+/// The file that a line comes from, where a line before it tells another one than that of the text.
+#[derive(Clone, Copy)]
+struct OfFile<'a>(&'a [u8]);
+
+impl Text for OfFile<'_> {
+    ghost text = { λ file. spec.of_file_text file.0.now };
+
+    fn put<W: Write>(&self, out: &mut W, block: &mut Block) -> Result<(), WriteFault> {
+        if self.0.is_empty() {
+            return Ok(());
+        }
+        (" of ", self.0).put(out, block)
+    }
+}
+
+/// From which letter on each beginning of a schedule fails, where that comes about by a letter.
+#[derive(Clone, Copy)]
+struct Onset(Option<u64>);
+
+impl Text for Onset {
+    ghost text = { λ onset. spec.onset_text onset.0 };
+
+    fn put<W: Write>(&self, out: &mut W, block: &mut Block) -> Result<(), WriteFault> {
+        match self.0 {
+            Some(letter) if letter != 0 => ("It fails from step ", letter, " on.\n").put(
+                out, block,
+            ),
+            _ => Ok(()),
+        }
+    }
+}
+
+/// What was looked for, where there is no check line.
+impl Text for Asked {
+    ghost text = { spec.asked_text };
+
+    fn put<W: Write>(&self, out: &mut W, block: &mut Block) -> Result<(), WriteFault> {
+        match self {
+            Asked::Nothing => "No check line: nothing was looked for.\n".put(out, block),
+            Asked::Faults => "No check line: only faults were looked for.\n".put(out, block),
+            Asked::Checks => Ok(()),
+        }
+    }
+}
+
+/// The checks of a text that no outcome could break, one a line, each with what is wanting.
+#[derive(Clone, Copy)]
+struct GapLines<'a> {
+    text: &'a [u8],
+    gaps: &'a [Gap],
+}
+
+impl Text for GapLines<'_> {
+    ghost text = { λ lines. spec.gaps_text lines.text.now lines.gaps.now };
+
+    fn put<W: Write>(&self, out: &mut W, block: &mut Block) -> Result<(), WriteFault> {
+        for gap in self.gaps {
+            let check = CheckLine {
+                text: self.text,
+                line: gap.line,
+            };
+            (check, gap.want).put(out, block)?;
+        }
+        Ok(())
+    }
+}
+
+/// What no outcome has of which a check speaks.
+impl Text for Want {
+    ghost text = { spec.want_text };
+
+    fn put<W: Write>(&self, out: &mut W, block: &mut Block) -> Result<(), WriteFault> {
+        match self {
+            Want::Name => ": no process ever had a name.\n".put(out, block),
+            Want::Done => ": no process was ever done.\n".put(out, block),
+        }
+    }
+}
+
+/// That no schedule fails, and how much was tried.
+#[derive(Clone, Copy)]
+struct Holding<'a> {
+    path: &'a [u8],
+    reach: Reach,
+}
+
+impl Text for Holding<'_> {
+    ghost text = { λ h. spec.holding_text h.path.now h.reach };
+
+    fn put<W: Write>(&self, out: &mut W, block: &mut Block) -> Result<(), WriteFault> {
+        let reach = self.reach;
+        let tried = Counted(reach.tried, "schedule", "s");
+        let outcomes = Counted(reach.outcomes, "outcome", "s");
+        let tried = (tried, " tried, ", outcomes);
+        let bounds = Bounds {
+            length: reach.length,
+            crashes: reach.crashes,
+        };
+        (self.path, ": no schedule fails: ", tried, bounds).put(out, block)
+    }
+}
+
+/// That schedules were cut off, where they were.
+#[derive(Clone, Copy)]
+struct Caution(Reach);
+
+impl Text for Caution {
+    ghost text = { λ c. spec.caution_text c.0.cut_off c.0.length };
+
+    fn put<W: Write>(&self, out: &mut W, block: &mut Block) -> Result<(), WriteFault> {
+        if !self.0.cut_off {
+            return Ok(());
+        }
+        CutOff(self.0.length).put(out, block)
+    }
+}
+
+/// That schedules of this length were cut off, and what can be done about it.
+#[derive(Clone, Copy)]
+struct CutOff(u64);
+
+impl Text for CutOff {
+    ghost text = { λ c. spec.cut_off_text c.0 };
+
+    fn put<W: Write>(&self, out: &mut W, block: &mut Block) -> Result<(), WriteFault> {
+        let advice = if self.0 == MOST_LETTERS as u64 {
+            ", and 64 letters are the most.\n"
+        } else {
+            ": give a greater --length, up to 64.\n"
+        };
+        let running = ", with a process still running; longer ones were not tried";
+        (
+            "Some schedules were cut off at ",
+            Letters(self.0),
+            running,
+            advice,
+        )
+            .put(out, block)
+    }
+}
