@@ -62,7 +62,7 @@ fn asked_of<'t>(all: &'t [Subcommand], word: &str) -> &'t [Subcommand]
 }
 
 /// The command of the program, where this word stands at the place of a subcommand's name.
-// Only of the subcommand that is named: to tell clap of all takes it longer than many an exploration.
+// Only of the subcommand that is named: the words of the others are not asked for in that run.
 fn program<'a>(alloc: Global, word: &str) -> Result<Command<'a>, AllocError>
     ensures { IfOk result (λ r. app_of r ≡ command_line word.now) }
 {
