@@ -18,7 +18,7 @@ use tables::{Kind, SUBCOMMANDS, Subcommand, Word};
 use texts::STATUSES;
 
 /// The program's version, and the toolchain that it is proved with.
-pub const VERSION: &str = "0.1.0, proved with rattle-kit-13b logic dac8208d650f15bf";
+pub const VERSION: &str = "0.1.0, proved with rattle-kit-13f logic dac8208d650f15bf";
 
 /// What clap makes of the words of the command line, the program's name first. Where it is Ok, it is clap's parse by a
 /// command of just the words of `command_line`, and names one of its subcommands, or `help`. Clap is told of one subcommand alone where
