@@ -1,8 +1,10 @@
 -- What each clause asks of how processes end.
-use Rattle.std.specs.Prelude.{ℕ, ◌+◌, ◌*◌, ◌==◌, ◌&&◌, ◌||◌, Bool, true, false, not, List, [], ◌∷◌, Option, Some, None, count_by, nat_le}
+use Rattle.std.specs.Prelude.{ℕ, ◌+◌, ◌*◌, ◌==◌, ◌&&◌, ◌||◌, Bool, true, false, not, List, [], ◌∷◌, Option, Some, None, count_by, is_some, nat_le}
 use Rattle.std.specs.List.{filter_map, list_all, list_any}
 use Rattle.regmodel.specs.declared.clauses.Clause.{Clause}
 use Rattle.regmodel.specs.declared.clauses.Clause.TheVariants.{Distinct, AtMost, Within, Adaptive, Triangle, SelfSeen, Ended, NoFault}
+use Rattle.regmodel.specs.declared.clauses.Subject.{Subject}
+use Rattle.regmodel.specs.declared.clauses.Subject.TheVariants as subject
 use Rattle.regmodel.specs.declared.outcomes.End.{End}
 use Rattle.regmodel.specs.declared.outcomes.End.TheVariants.{Done, Fault, Crashed, Running}
 use Rattle.regmodel.specs.declared.outcomes.ProcEnd.{ProcEnd}
@@ -56,6 +58,22 @@ meets Triangle ends = list_all (λ m. nat_le 1 m && nat_le (2 * m) (count_starte
 meets SelfSeen ends = see_themselves 0 ends
 meets Ended ends = not (list_any is_running ends)
 meets NoFault ends = not (list_any is_faulty ends)
+
+-- the processes of which a clause speaks, where an outcome may have none of them
+abbrev pub subject_of : Clause → Option Subject
+subject_of Distinct = Some subject.Named
+subject_of (AtMost name count) = Some subject.Named
+subject_of (Within low high) = Some subject.Named
+subject_of Adaptive = Some subject.Named
+subject_of Triangle = Some subject.Named
+subject_of SelfSeen = Some subject.Done
+subject_of Ended = None
+subject_of NoFault = None
+
+-- a process is one of these: it has a name, or is done
+abbrev pub includes : Subject → ProcEnd → Bool
+includes subject.Named end = is_some (name_of end)
+includes subject.Done end = elim end.fate [ Done numbers ↦ true | Fault code ↦ false | Crashed ↦ false | Running ↦ false ]
 
 -- whether an outcome meets all of these clauses
 abbrev pub meets_all : List Clause → List ProcEnd → Bool

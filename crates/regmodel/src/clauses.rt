@@ -25,6 +25,16 @@ pub enum Clause {
     NoFault,
 }
 
+/// The processes of which a clause speaks. An outcome that has none of them meets the clause.
+#[derive(Clone, Copy, Default, PartialEq, Eq, Debug)]
+pub enum Subject {
+    /// Those that have a name. It is the default because `ArrayVec` asks for one.
+    #[default]
+    Named,
+    /// Those that are done.
+    Done,
+}
+
 /// At most 16 clauses, in their order. A contract sees their list.
 #[derive(Clone, PartialEq, Eq, Debug, Drop)]
 pub struct Clauses {

@@ -5,7 +5,7 @@ ghost use Rattle.std.specs.List.{list_all, list_any, position};
 ghost use Rattle.regmodel.specs.declared.limits.TheConstants.{MOST_PROCESSES};
 ghost use Rattle.regmodel.specs.Judging.{are_different, has_if_done, is_faulty, is_running, meets, meets_all, name_of, names, see_themselves, count_started};
 
-use crate::clauses::{Clause, Clauses};
+use crate::clauses::{Clause, Clauses, Subject};
 use crate::outcomes::{End, Judge, Outcome, ProcEnd};
 
 /// The name of a process: the first number of a process that is done and has one.
@@ -150,6 +150,41 @@ fn meets(clause: &Clause, outcome: &Outcome) -> bool
         Clause::SelfSeen => see_themselves(0, ends),
         Clause::Ended => !some_running(ends),
         Clause::NoFault => !some_faulty(ends),
+    }
+}
+
+impl Clause {
+    ghost use Rattle.std.specs.Prelude.{◌≡◌};
+    ghost use Rattle.regmodel.specs.Judging.{subject_of};
+
+    /// The processes of which it speaks, where an outcome may have none of them.
+    pub fn subject(&self) -> Option<Subject>
+        ensures { result ≡ subject_of self.now }
+    {
+        match *self {
+            Clause::Distinct
+            | Clause::AtMost(_, _)
+            | Clause::Within(_, _)
+            | Clause::Adaptive
+            | Clause::Triangle => Some(Subject::Named),
+            Clause::SelfSeen => Some(Subject::Done),
+            Clause::Ended | Clause::NoFault => None,
+        }
+    }
+}
+
+impl Subject {
+    ghost use Rattle.std.specs.Prelude.{◌≡◌};
+    ghost use Rattle.regmodel.specs.Judging as spec;
+
+    /// Whether a process is one of these.
+    pub fn includes(self, end: &ProcEnd) -> bool
+        ensures { result ≡ spec.includes self end.now }
+    {
+        match self {
+            Subject::Named => name_of(end).is_some(),
+            Subject::Done => matches!(end.fate, End::Done(_)),
+        }
     }
 }
 

@@ -18,7 +18,7 @@ mod schedules;
 mod settings;
 
 pub use accesses::{Access, Footprint, Numbers, Pending};
-pub use clauses::{Clause, Clauses};
+pub use clauses::{Clause, Clauses, Subject};
 pub use fitting::scan_fits;
 pub use letters::Letter;
 pub use memory::OutOfMemory;

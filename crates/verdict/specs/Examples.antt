@@ -1,6 +1,7 @@
 -- Worked examples of what a check demands, of checks that are vacuous, of faults in words, and of paths in a shell.
 use Rattle.std.specs.Prelude.{◌≡◌, true, false, [], ◌∷◌, None, Some, codes, refl}
 use Rattle.regmodel.specs.declared.clauses.Clause.TheVariants as clause
+use Rattle.regmodel.specs.declared.clauses.Subject.TheVariants as subject
 use Rattle.regmodel.specs.declared.outcomes.End.{End}
 use Rattle.regmodel.specs.declared.outcomes.End.TheVariants as end
 use Rattle.regmodel.specs.declared.outcomes.ProcEnd.{ProcEnd}
@@ -9,7 +10,6 @@ use Rattle.verdict.specs.FaultText.{reason_text}
 use Rattle.verdict.specs.Faults.{first_fault}
 use Rattle.verdict.specs.Gaps.{want_of}
 use Rattle.verdict.specs.ShellWords.{operand_text}
-use Rattle.verdict.specs.declared.gaps.Want.TheVariants as want
 
 -- a process that took no step
 abbrev idle : End → ProcEnd
@@ -34,13 +34,13 @@ pub asked_for_no_fault : meets_demands (clauses_asked false (clause.Ended ∷ cl
 asked_for_no_fault = refl
 
 -- a process is done in the second outcome, but none has a name
-pub nameless : want_of clause.Distinct ((idle end.Crashed ∷ []) ∷ (idle (end.Done (record { items = [] })) ∷ []) ∷ []) ≡ Some want.Name
+pub nameless : want_of clause.Distinct ((idle end.Crashed ∷ []) ∷ (idle (end.Done (record { items = [] })) ∷ []) ∷ []) ≡ Some subject.Named
 nameless = refl
 
 pub done_once : want_of clause.SelfSeen ((idle end.Crashed ∷ []) ∷ (idle (end.Done (record { items = [] })) ∷ []) ∷ []) ≡ None
 done_once = refl
 
-pub never_done : want_of clause.SelfSeen ((idle end.Crashed ∷ []) ∷ (idle end.Running ∷ []) ∷ []) ≡ Some want.Done
+pub never_done : want_of clause.SelfSeen ((idle end.Crashed ∷ []) ∷ (idle end.Running ∷ []) ∷ []) ≡ Some subject.Done
 never_done = refl
 
 pub second_of_three : first_fault 0 (idle end.Crashed ∷ idle (end.Fault 2) ∷ idle (end.Fault 3) ∷ []) ≡ Some (record { process = 1; code = 2 })

@@ -1,6 +1,8 @@
 -- Whether a source holds, in words.
 use Rattle.std.specs.Prelude.{ℕ, ◌==◌, Bool, false, if◌then◌else◌, List, [], ◌++◌, length, Option, Some, None, codes, decimal}
 use Rattle.std.specs.List.{flat_map, list_any}
+use Rattle.regmodel.specs.declared.clauses.Subject.{Subject}
+use Rattle.regmodel.specs.declared.clauses.Subject.TheVariants.{Named, Done}
 use Rattle.regmodel.specs.declared.limits.TheConstants.{MOST_LETTERS}
 use Rattle.regmodel.specs.Judging.{is_running}
 use Rattle.regmodel.specs.Letters.{Schedule}
@@ -21,8 +23,6 @@ use Rattle.verdict.specs.declared.breaches.Verdict.TheVariants.{Fails, Holds}
 use Rattle.verdict.specs.declared.demands.Asked.{Asked}
 use Rattle.verdict.specs.declared.demands.Asked.TheVariants.{Checks, Faults, Nothing}
 use Rattle.verdict.specs.declared.gaps.Gap.{Gap}
-use Rattle.verdict.specs.declared.gaps.Want.{Want}
-use Rattle.verdict.specs.declared.gaps.Want.TheVariants.{Name, Done}
 use Rattle.verdict.specs.declared.reach.Reach.{Reach}
 
 -- the ending of a noun, but for one thing
@@ -123,8 +123,8 @@ asked_text Faults = codes "No check line: only faults were looked for.\n"
 asked_text Nothing = codes "No check line: nothing was looked for.\n"
 
 -- what no outcome has of which a check speaks
-abbrev pub want_text : Want → List ℕ
-want_text Name = codes ": no process ever had a name.\n"
+abbrev pub want_text : Subject → List ℕ
+want_text Named = codes ": no process ever had a name.\n"
 want_text Done = codes ": no process was ever done.\n"
 
 -- a check that no outcome could break, and why

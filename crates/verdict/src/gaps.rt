@@ -3,23 +3,14 @@
 ghost use Rattle.std.specs.Prelude.{◌≡◌, ◌≤◌, length};
 ghost use Rattle.std.specs.List.{list_any};
 ghost use Rattle.regmodel.specs.declared.limits.TheConstants.{MOST_CHECKS};
+ghost use Rattle.regmodel.specs.Judging.{includes};
 ghost use Rattle.verdict.specs.Gaps as spec;
 
 use arrayvec::ArrayVec;
 use explanations::check_line;
-use regmodel::{Clause, End, ProcEnd};
+use regmodel::{Clause, Subject};
 use report::Exploration;
 use tallies::{Ends, Outcomes};
-
-/// What a clause speaks of that no outcome has.
-#[derive(Clone, Copy, Default, PartialEq, Eq, Debug)]
-pub enum Want {
-    /// A process that has a name. It is the default because `ArrayVec` asks for one.
-    #[default]
-    Name,
-    /// A process that is done.
-    Done,
-}
 
 /// A check that no outcome could break.
 #[derive(Clone, Copy, Default, PartialEq, Eq, Debug)]
@@ -27,7 +18,7 @@ pub struct Gap {
     /// Its line, counted from 1.
     pub line: u64,
     /// What it speaks of that no outcome has.
-    pub want: Want,
+    pub want: Subject,
 }
 
 /// The checks of a text with these clauses that no outcome of an exploration could break.
@@ -55,33 +46,18 @@ fn gap_at(text: &[u8], clauses: &[Clause], found: &Exploration, i: usize) -> Opt
 }
 
 /// What a clause speaks of that no outcome of an exploration has.
-fn want_of(clause: &Clause, found: &Exploration) -> Option<Want>
+fn want_of(clause: &Clause, found: &Exploration) -> Option<Subject>
     ensures { result ≡ spec.want_of clause.now found.now.outcomes }
 {
-    let want = spoken_of(clause)?;
+    let want = clause.subject()?;
     if is_met(want, found.outcomes()) {
         return None;
     }
     Some(want)
 }
 
-/// What a clause speaks of, where some outcomes may lack it.
-fn spoken_of(clause: &Clause) -> Option<Want>
-    ensures { result ≡ spec.spoken_of clause.now }
-{
-    match *clause {
-        Clause::Distinct
-        | Clause::AtMost(_, _)
-        | Clause::Within(_, _)
-        | Clause::Adaptive
-        | Clause::Triangle => Some(Want::Name),
-        Clause::SelfSeen => Some(Want::Done),
-        Clause::Ended | Clause::NoFault => None,
-    }
-}
-
-/// Whether one of these outcomes has a process as it is wanted.
-fn is_met(want: Want, outcomes: Outcomes<'_>) -> bool
+/// Whether one of these outcomes has such a process.
+fn is_met(want: Subject, outcomes: Outcomes<'_>) -> bool
     ensures { result ≡ spec.is_met want outcomes.entry }
 {
     for ends in outcomes {
@@ -92,27 +68,14 @@ fn is_met(want: Want, outcomes: Outcomes<'_>) -> bool
     false
 }
 
-/// Whether an outcome has a process as it is wanted.
-fn has(want: Want, ends: Ends<'_>) -> bool
-    ensures { result ≡ list_any (spec.is_wanted want) ends.entry }
+/// Whether an outcome has such a process.
+fn has(want: Subject, ends: Ends<'_>) -> bool
+    ensures { result ≡ list_any (includes want) ends.entry }
 {
     for end in ends {
-        if is_wanted(want, &end) {
+        if want.includes(&end) {
             return true;
         }
     }
     false
-}
-
-/// Whether a process stands as it is wanted.
-fn is_wanted(want: Want, end: &ProcEnd) -> bool
-    ensures { result ≡ spec.is_wanted want end.now }
-{
-    match want {
-        Want::Name => match &end.fate {
-            End::Done(numbers) => numbers.as_slice().first().is_some(),
-            _ => false,
-        },
-        Want::Done => matches!(end.fate, End::Done(_)),
-    }
 }

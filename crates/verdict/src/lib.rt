@@ -17,7 +17,7 @@ mod ways;
 pub use breaches::{Breach, Cause, Held, Verdict, breach_for, verdict_on};
 pub use demands::{Asked, Demands, Strictness, without_ended};
 pub use faults::{FaultLine, ProcessFault, first_fault};
-pub use gaps::{Gap, Want};
+pub use gaps::Gap;
 pub use verdict_text::write_verdict;
 pub use way_text::write_discovery;
 pub use ways::{Discovery, Way, discovery_on};

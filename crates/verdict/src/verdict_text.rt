@@ -8,12 +8,13 @@ use crate::breaches::{Breach, Cause, Verdict};
 use crate::counts::{Bounds, Counted, Letters};
 use crate::demands::Asked;
 use crate::faults::FaultLine;
-use crate::gaps::{Gap, Want};
+use crate::gaps::Gap;
 use crate::reach::{Reach, reach_of};
 use crate::replays::ReplayCommand;
 use drawing::Drawn;
 use explanations::{origin_of, shown_line};
 use reglang::without_indent;
+use regmodel::Subject;
 use regmodel::limits::MOST_LETTERS;
 use std::io::Write;
 use texts::{Block, Text, WriteFault, write};
@@ -208,20 +209,23 @@ impl Text for GapLines<'_> {
                 text: self.text,
                 line: gap.line,
             };
-            (check, gap.want).put(out, block)?;
+            (check, Wanting(gap.want)).put(out, block)?;
         }
         Ok(())
     }
 }
 
 /// What no outcome has of which a check speaks.
-impl Text for Want {
-    ghost text = { spec.want_text };
+#[derive(Clone, Copy)]
+struct Wanting(Subject);
+
+impl Text for Wanting {
+    ghost text = { λ w. spec.want_text w.0 };
 
     fn put<W: Write>(&self, out: &mut W, block: &mut Block) -> Result<(), WriteFault> {
-        match self {
-            Want::Name => ": no process ever had a name.\n".put(out, block),
-            Want::Done => ": no process was ever done.\n".put(out, block),
+        match self.0 {
+            Subject::Named => ": no process ever had a name.\n".put(out, block),
+            Subject::Done => ": no process was ever done.\n".put(out, block),
         }
     }
 }
