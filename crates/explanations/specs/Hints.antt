@@ -6,7 +6,7 @@ use Rattle.explanations.specs.LineForms.{first_of, form_of}
 use Rattle.explanations.specs.Misfits.{first_that, is_keyword, is_unknown}
 use Rattle.reglang.specs.Forms.{target_of}
 use Rattle.reglang.specs.Words.{word_of}
-use Rattle.reglang.specs.declared.words.Keyword.TheVariants as keyword
+use Rattle.reglang.specs.declared.vocabulary.Keyword.TheVariants as keyword
 use Rattle.reglang.specs.declared.words.Word.{Word}
 use Rattle.reglang.specs.declared.words.Word.TheVariants as word
 

@@ -9,8 +9,8 @@ use Rattle.reglang.specs.Sorts.{kind_sorts, property_sorts, sorts_after}
 use Rattle.reglang.specs.Words.{word_of}
 use Rattle.reglang.specs.declared.sorts.Sort.{Sort}
 use Rattle.reglang.specs.declared.sorts.Sort.TheVariants as sort
-use Rattle.reglang.specs.declared.words.Keyword.{Keyword}
-use Rattle.reglang.specs.declared.words.Keyword.TheVariants as keyword
+use Rattle.reglang.specs.declared.vocabulary.Keyword.{Keyword}
+use Rattle.reglang.specs.declared.vocabulary.Keyword.TheVariants as keyword
 use Rattle.reglang.specs.declared.words.Word.{Word}
 use Rattle.reglang.specs.declared.words.Word.TheVariants as word
 

@@ -3,9 +3,9 @@ use Rattle.std.specs.Prelude.{ℕ, List, [], ◌∷◌, ◌++◌, Option, Some, 
 use Rattle.explanations.specs.LineForms.{first_of}
 use Rattle.reglang.specs.Forms.{kind_of}
 use Rattle.reglang.specs.Words.{word_of}
-use Rattle.reglang.specs.declared.words.Keyword.TheVariants as keyword
-use Rattle.reglang.specs.declared.words.Kind.{Kind}
-use Rattle.reglang.specs.declared.words.Kind.TheVariants as kind
+use Rattle.reglang.specs.declared.vocabulary.Keyword.TheVariants as keyword
+use Rattle.reglang.specs.declared.vocabulary.Kind.{Kind}
+use Rattle.reglang.specs.declared.vocabulary.Kind.TheVariants as kind
 use Rattle.reglang.specs.declared.words.Word.{Word}
 use Rattle.reglang.specs.declared.words.Word.TheVariants as word
 

@@ -23,10 +23,10 @@ use Rattle.reglang.specs.declared.arguments.Argument.{Argument}
 use Rattle.reglang.specs.declared.arguments.Argument.TheVariants as argument
 use Rattle.reglang.specs.declared.sorts.Sort.{Sort}
 use Rattle.reglang.specs.declared.sorts.Sort.TheVariants as sort
-use Rattle.reglang.specs.declared.words.Keyword.{Keyword}
-use Rattle.reglang.specs.declared.words.Keyword.TheVariants as keyword
-use Rattle.reglang.specs.declared.words.Property.{Property}
-use Rattle.reglang.specs.declared.words.Property.TheVariants as property
+use Rattle.reglang.specs.declared.vocabulary.Keyword.{Keyword}
+use Rattle.reglang.specs.declared.vocabulary.Keyword.TheVariants as keyword
+use Rattle.reglang.specs.declared.vocabulary.Property.{Property}
+use Rattle.reglang.specs.declared.vocabulary.Property.TheVariants as property
 use Rattle.reglang.specs.declared.words.Word.{Word}
 use Rattle.reglang.specs.declared.forms.Line.{Line}
 use Rattle.reglang.specs.declared.forms.Line.TheVariants as line

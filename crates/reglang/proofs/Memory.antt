@@ -10,8 +10,8 @@ use Rattle.reglang.specs.declared.forms.Line.{Line}
 use Rattle.reglang.specs.declared.reader.ReadFault.{ReadFault}
 use Rattle.reglang.specs.declared.refusals.LineRefusal.{LineRefusal}
 use Rattle.reglang.specs.declared.refusals.LineRefusal.TheVariants as refusal
-use Rattle.reglang.specs.declared.words.Keyword.{Keyword}
-use Rattle.reglang.specs.declared.words.Keyword.TheVariants as keyword
+use Rattle.reglang.specs.declared.vocabulary.Keyword.{Keyword}
+use Rattle.reglang.specs.declared.vocabulary.Keyword.TheVariants as keyword
 use Rattle.reglang.specs.declared.words.Word.{Word}
 use Rattle.reglang.specs.declared.words.Word.TheVariants as word
 use Rattle.reglang.proofs.Contexts.{StepsRead, context_of, steps_read}

@@ -10,12 +10,12 @@ use Rattle.reglang.specs.declared.forms.Line.{Line}
 use Rattle.reglang.specs.declared.forms.Line.TheVariants as line
 use Rattle.reglang.specs.declared.sorts.Sort.{Sort}
 use Rattle.reglang.specs.declared.sorts.Sort.TheVariants as sort
-use Rattle.reglang.specs.declared.words.Keyword.{Keyword}
-use Rattle.reglang.specs.declared.words.Keyword.TheVariants as keyword
-use Rattle.reglang.specs.declared.words.Kind.{Kind}
-use Rattle.reglang.specs.declared.words.Kind.TheVariants as kind
-use Rattle.reglang.specs.declared.words.Property.{Property}
-use Rattle.reglang.specs.declared.words.Property.TheVariants as property
+use Rattle.reglang.specs.declared.vocabulary.Keyword.{Keyword}
+use Rattle.reglang.specs.declared.vocabulary.Keyword.TheVariants as keyword
+use Rattle.reglang.specs.declared.vocabulary.Kind.{Kind}
+use Rattle.reglang.specs.declared.vocabulary.Kind.TheVariants as kind
+use Rattle.reglang.specs.declared.vocabulary.Property.{Property}
+use Rattle.reglang.specs.declared.vocabulary.Property.TheVariants as property
 
 -- ---- what is made of arguments
 

@@ -3,12 +3,12 @@ use Rattle.std.specs.Prelude.{List, [], ◌∷◌}
 use Rattle.regmodel.specs.declared.limits.TheConstants.{GREATEST_VALUE, MOST_PROCESSES}
 use Rattle.reglang.specs.declared.sorts.Sort.{Sort}
 use Rattle.reglang.specs.declared.sorts.Sort.TheVariants.{Number, NumberTo, Target, Operand, Expression}
-use Rattle.reglang.specs.declared.words.Keyword.{Keyword}
-use Rattle.reglang.specs.declared.words.Keyword.TheVariants as keyword
-use Rattle.reglang.specs.declared.words.Kind.{Kind}
-use Rattle.reglang.specs.declared.words.Kind.TheVariants as kind
-use Rattle.reglang.specs.declared.words.Property.{Property}
-use Rattle.reglang.specs.declared.words.Property.TheVariants as property
+use Rattle.reglang.specs.declared.vocabulary.Keyword.{Keyword}
+use Rattle.reglang.specs.declared.vocabulary.Keyword.TheVariants as keyword
+use Rattle.reglang.specs.declared.vocabulary.Kind.{Kind}
+use Rattle.reglang.specs.declared.vocabulary.Kind.TheVariants as kind
+use Rattle.reglang.specs.declared.vocabulary.Property.{Property}
+use Rattle.reglang.specs.declared.vocabulary.Property.TheVariants as property
 
 -- what follows a first word; after `use` comes a kind and after `check` a property, and then what follows these
 abbrev pub sorts_after : Keyword → List Sort

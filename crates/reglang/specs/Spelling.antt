@@ -2,12 +2,12 @@
 use Rattle.std.specs.Prelude.{ℕ, List, codes}
 use Rattle.regmodel.specs.declared.programs.Op.{Op}
 use Rattle.regmodel.specs.declared.programs.Op.TheVariants as op
-use Rattle.reglang.specs.declared.words.Keyword.{Keyword}
-use Rattle.reglang.specs.declared.words.Keyword.TheVariants as keyword
-use Rattle.reglang.specs.declared.words.Kind.{Kind}
-use Rattle.reglang.specs.declared.words.Kind.TheVariants as kind
-use Rattle.reglang.specs.declared.words.Property.{Property}
-use Rattle.reglang.specs.declared.words.Property.TheVariants as property
+use Rattle.reglang.specs.declared.vocabulary.Keyword.{Keyword}
+use Rattle.reglang.specs.declared.vocabulary.Keyword.TheVariants as keyword
+use Rattle.reglang.specs.declared.vocabulary.Kind.{Kind}
+use Rattle.reglang.specs.declared.vocabulary.Kind.TheVariants as kind
+use Rattle.reglang.specs.declared.vocabulary.Property.{Property}
+use Rattle.reglang.specs.declared.vocabulary.Property.TheVariants as property
 
 -- a first word of a line
 abbrev pub keyword_text : Keyword → List ℕ

@@ -8,10 +8,10 @@ use Rattle.regmodel.specs.declared.programs.Operand.TheVariants as operand
 use Rattle.regmodel.specs.declared.limits.TheConstants.{CELLS, GREATEST_VALUE, VARIABLES}
 use Rattle.reglang.specs.Lines.{is_empty}
 use Rattle.reglang.specs.Spelling.{keyword_text, kind_text, operator_text, property_text}
-use Rattle.reglang.specs.declared.words.Keyword.{Keyword}
-use Rattle.reglang.specs.declared.words.Kind.{Kind}
-use Rattle.reglang.specs.declared.words.Property.{Property}
-use Rattle.reglang.specs.declared.words.TheConstants.{KEYWORDS, KINDS, OPERATORS, PROPERTIES}
+use Rattle.reglang.specs.declared.vocabulary.Keyword.{Keyword}
+use Rattle.reglang.specs.declared.vocabulary.Kind.{Kind}
+use Rattle.reglang.specs.declared.vocabulary.Property.{Property}
+use Rattle.reglang.specs.declared.vocabulary.TheConstants.{KEYWORDS, KINDS, OPERATORS, PROPERTIES}
 use Rattle.reglang.specs.declared.words.Word.{Word}
 use Rattle.reglang.specs.declared.words.Word.TheVariants.{NoNumber, Comment, Other}
 use Rattle.reglang.specs.declared.words.Word.TheVariants as word

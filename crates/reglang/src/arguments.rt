@@ -6,7 +6,7 @@ ghost use Rattle.reglang.specs.declared.arguments.Argument.TheVariants.{Number};
 
 use crate::forms::Line;
 use crate::sorts::MOST_ARGUMENTS;
-use crate::words::{Keyword, Kind, Property};
+use crate::vocabulary::{Keyword, Kind, Property};
 use arrayvec::ArrayVec;
 use regmodel::{Clause, Expr, Operand, Target};
 use uses::Use;

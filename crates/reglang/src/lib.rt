@@ -14,7 +14,7 @@ mod reader;
 mod refusals;
 mod sorts;
 mod source;
-mod spellings;
+mod vocabulary;
 mod words;
 mod writer;
 
@@ -29,5 +29,6 @@ pub use refusals::{
 pub use sorts::{MOST_ARGUMENTS, Sort, Sorts, kind_sorts, property_sorts, sorts_after};
 pub use source::Source;
 pub use uses::{ExpandFault, Use, expand};
-pub use words::{Keyword, Kind, Property, Word, enclosed, word_of};
+pub use vocabulary::{Keyword, Kind, Property};
+pub use words::{Word, enclosed, word_of};
 pub use writer::write_source;

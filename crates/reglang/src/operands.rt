@@ -5,7 +5,8 @@ ghost use Rattle.reglang.specs.Forms as spec;
 
 use crate::arguments::{Argument, Arguments};
 use crate::sorts::{Sort, Sorts};
-use crate::words::{Kind, Property, Word};
+use crate::vocabulary::{Kind, Property};
+use crate::words::Word;
 use arrayvec::ArrayVec;
 use regmodel::{Expr, Op, Operand, Target};
 

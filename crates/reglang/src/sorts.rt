@@ -4,7 +4,7 @@ ghost use Rattle.std.specs.Prelude.{◌≡◌, ◌≤◌, length};
 ghost use Rattle.reglang.specs.Sorts as spec;
 ghost use Rattle.reglang.specs.declared.sorts.TheConstants.{MOST_ARGUMENTS};
 
-use crate::words::{Keyword, Kind, Property};
+use crate::vocabulary::{Keyword, Kind, Property};
 use regmodel::limits::{GREATEST_VALUE, MOST_PROCESSES};
 
 /// The most arguments that follow a word.

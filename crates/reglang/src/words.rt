@@ -5,91 +5,9 @@ ghost use Rattle.std.specs.List.{list_all};
 ghost use Rattle.std.specs.Str.Parse.{digits_value};
 ghost use Rattle.reglang.specs.Words as spec;
 
-use crate::spellings::Spelled;
+use crate::vocabulary::{KEYWORDS, KINDS, Keyword, Kind, OPERATORS, PROPERTIES, Property, Spelled};
 use regmodel::limits::{CELLS, GREATEST_VALUE, VARIABLES};
 use regmodel::{Op, Operand};
-
-/// The first words of lines.
-const KEYWORDS: [Keyword; 16] = [
-    Keyword::Registers,
-    Keyword::Process,
-    Keyword::End,
-    Keyword::Set,
-    Keyword::Read,
-    Keyword::Write,
-    Keyword::Scan,
-    Keyword::If,
-    Keyword::Else,
-    Keyword::Fi,
-    Keyword::Repeat,
-    Keyword::Done,
-    Keyword::Emit,
-    Keyword::Halt,
-    Keyword::Use,
-    Keyword::Check,
-];
-
-/// The operators.
-const OPERATORS: [Op; 5] = [Op::Add, Op::Sub, Op::Mul, Op::Equal, Op::Less];
-
-/// The kinds of use lines.
-const KINDS: [Kind; 5] = [Kind::Split, Kind::Grid, Kind::Tree, Kind::Name, Kind::Names];
-
-/// The properties.
-const PROPERTIES: [Property; 8] = [
-    Property::Distinct,
-    Property::AtMost,
-    Property::Within,
-    Property::Adaptive,
-    Property::Triangle,
-    Property::SelfSeen,
-    Property::Ended,
-    Property::NoFault,
-];
-
-/// A first word of a line.
-#[derive(Clone, Copy)]
-pub enum Keyword {
-    Registers,
-    Process,
-    End,
-    Set,
-    Read,
-    Write,
-    Scan,
-    If,
-    Else,
-    Fi,
-    Repeat,
-    Done,
-    Emit,
-    Halt,
-    Use,
-    Check,
-}
-
-/// A kind of use line.
-#[derive(Clone, Copy)]
-pub enum Kind {
-    Split,
-    Grid,
-    Tree,
-    Name,
-    Names,
-}
-
-/// A property that a check line names.
-#[derive(Clone, Copy)]
-pub enum Property {
-    Distinct,
-    AtMost,
-    Within,
-    Adaptive,
-    Triangle,
-    SelfSeen,
-    Ended,
-    NoFault,
-}
 
 /// A word of a line, by what it may stand for.
 #[derive(Clone, Copy, Default)]

@@ -4,7 +4,7 @@ ghost use Rattle.std.specs.Prelude.{◌≡◌, ◌++◌, OnOk, decimal};
 ghost use Rattle.reglang.specs.Writing as spec;
 ghost use Rattle.reglang.specs.Writing.{between};
 
-use crate::spellings::Spelled;
+use crate::vocabulary::Spelled;
 use crate::words::Word;
 use itoa::Buffer;
 use regmodel::{Operand, OutOfMemory};

@@ -1,7 +1,88 @@
-//! How the words of the language are spelled.
+//! The words of the language that have one spelling: the first words of lines, the operators, the kinds of use lines and the properties.
 
-use crate::words::{Keyword, Kind, Property};
 use regmodel::Op;
+
+/// A first word of a line.
+#[derive(Clone, Copy)]
+pub enum Keyword {
+    Registers,
+    Process,
+    End,
+    Set,
+    Read,
+    Write,
+    Scan,
+    If,
+    Else,
+    Fi,
+    Repeat,
+    Done,
+    Emit,
+    Halt,
+    Use,
+    Check,
+}
+
+/// The first words of lines.
+pub const KEYWORDS: [Keyword; 16] = [
+    Keyword::Registers,
+    Keyword::Process,
+    Keyword::End,
+    Keyword::Set,
+    Keyword::Read,
+    Keyword::Write,
+    Keyword::Scan,
+    Keyword::If,
+    Keyword::Else,
+    Keyword::Fi,
+    Keyword::Repeat,
+    Keyword::Done,
+    Keyword::Emit,
+    Keyword::Halt,
+    Keyword::Use,
+    Keyword::Check,
+];
+
+/// The operators.
+pub const OPERATORS: [Op; 5] = [Op::Add, Op::Sub, Op::Mul, Op::Equal, Op::Less];
+
+/// A kind of use line.
+#[derive(Clone, Copy)]
+pub enum Kind {
+    Split,
+    Grid,
+    Tree,
+    Name,
+    Names,
+}
+
+/// The kinds of use lines.
+pub const KINDS: [Kind; 5] = [Kind::Split, Kind::Grid, Kind::Tree, Kind::Name, Kind::Names];
+
+/// A property that a check line names.
+#[derive(Clone, Copy)]
+pub enum Property {
+    Distinct,
+    AtMost,
+    Within,
+    Adaptive,
+    Triangle,
+    SelfSeen,
+    Ended,
+    NoFault,
+}
+
+/// The properties.
+pub const PROPERTIES: [Property; 8] = [
+    Property::Distinct,
+    Property::AtMost,
+    Property::Within,
+    Property::Adaptive,
+    Property::Triangle,
+    Property::SelfSeen,
+    Property::Ended,
+    Property::NoFault,
+];
 
 /// A word of the language that has one spelling.
 pub trait Spelled: Copy {
