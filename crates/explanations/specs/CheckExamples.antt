@@ -1,12 +1,14 @@
 -- Where checks stand in a text, and the words at fault of lines.
 use Rattle.std.specs.Prelude.{◌≡◌, ℕ, List, [], ◌∷◌, Option, Some, None, map, refl, codes}
 use Rattle.explanations.specs.Checks.{line_at, check_lines}
+use Rattle.explanations.specs.ClauseForms.{clauses_listed}
 use Rattle.explanations.specs.Hints.{hint_of}
 use Rattle.explanations.specs.LineForms.{form_of}
 use Rattle.explanations.specs.Misfits.{word_at_fault}
 use Rattle.explanations.specs.OpenBlocks.{innermost, open_after}
 use Rattle.explanations.specs.declared.open_blocks.Block.TheVariants as block
 use Rattle.reglang.specs.Lines.{words}
+use Rattle.reglang.specs.declared.vocabulary.Property.TheVariants as property
 
 -- the second of three lines, which is the first check
 pub second_line : line_at 2 (codes "registers 1\n check ended\ncheck nofault") ≡ Some (codes " check ended")
@@ -40,6 +42,16 @@ named_register = refl
 
 pub unknown_kind : hint_of (words (codes "use spilt 0 1")) ≡ form_of (words (codes "use"))
 unknown_kind = refl
+
+-- the form of a check, by its property, and how clauses are listed
+pub check_of_numbers : form_of (words (codes "check within 1")) ≡ codes "check within LO HI; LO and HI are 0 to 1000000000"
+check_of_numbers = refl
+
+pub check_alone : form_of (words (codes "check ended 1")) ≡ codes "check ended, and nothing behind it"
+check_alone = refl
+
+pub three_clauses : clauses_listed (property.Distinct ∷ property.AtMost ∷ property.Ended ∷ []) ≡ codes "distinct, atmost V C and ended"
+three_clauses = refl
 
 -- inside an if that is closed again
 pub inside_repeat : innermost (open_after 5 (codes "registers 1\nprocess\nrepeat 2\nif v0\nfi\nend\n")) ≡ Some (record { block = block.Repeat; line = 3 })

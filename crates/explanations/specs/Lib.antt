@@ -1,6 +1,7 @@
 pub mod Advice
 pub mod CheckExamples
 pub mod Checks
+pub mod ClauseForms
 pub mod ExplanationText
 pub mod Hints
 pub mod LineForms

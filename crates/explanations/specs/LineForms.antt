@@ -1,23 +1,31 @@
 -- The form of a line, in words.
 use Rattle.std.specs.Prelude.{ℕ, List, [], ◌∷◌, ◌++◌, Option, Some, None, codes}
+use Rattle.explanations.specs.ClauseForms.{check_form}
+use Rattle.explanations.specs.declared.line_forms.Form.{Form}
+use Rattle.explanations.specs.declared.line_forms.Form.TheVariants as form
 use Rattle.reglang.specs.Forms.{kind_of, property_of}
-use Rattle.reglang.specs.Spelling.{keyword_text, property_text}
+use Rattle.reglang.specs.Spelling.{keyword_text}
 use Rattle.reglang.specs.Words.{word_of}
 use Rattle.reglang.specs.declared.vocabulary.Keyword.{Keyword}
 use Rattle.reglang.specs.declared.vocabulary.Keyword.TheVariants as keyword
 use Rattle.reglang.specs.declared.vocabulary.Kind.{Kind}
 use Rattle.reglang.specs.declared.vocabulary.Kind.TheVariants as kind
-use Rattle.reglang.specs.declared.vocabulary.Property.{Property}
-use Rattle.reglang.specs.declared.vocabulary.Property.TheVariants as property
 use Rattle.reglang.specs.declared.words.Word.{Word}
 use Rattle.reglang.specs.declared.words.Word.TheVariants as word
 
--- what an expression and an operand may be, and that a line has no more words
+-- what an expression and an operand may be
 abbrev sorts_words : List ℕ
 sorts_words = codes "EXPR is an operand, or two with + - * = or < between them, and an operand is a number, a variable or a cell"
 
-abbrev nothing_behind : List ℕ
-nothing_behind = codes ", and nothing behind it"
+-- a first word, and nothing behind it
+abbrev pub alone_text : Keyword → List ℕ
+alone_text key = keyword_text key ++ codes ", and nothing behind it"
+
+-- a form, in words
+abbrev pub form_text : Form → List ℕ
+form_text (form.Words words) = words.now
+form_text (form.Alone key) = alone_text key
+form_text (form.Check property) = check_form property
 
 -- the form of a line with this first word
 abbrev pub keyword_form : Keyword → List ℕ
@@ -30,8 +38,8 @@ keyword_form keyword.If = codes "if EXPR; " ++ sorts_words
 keyword_form keyword.Repeat = codes "repeat EXPR; " ++ sorts_words
 keyword_form keyword.Emit = codes "emit EXPR; " ++ sorts_words
 keyword_form keyword.Use = codes "use KIND NUMBERS; the kinds are split, grid, tree, name and names"
-keyword_form keyword.Check = codes "check CLAUSE; the clauses are distinct, atmost V C, within LO HI, adaptive, triangle, selfseen, ended and nofault"
-keyword_form key = keyword_text key ++ nothing_behind
+keyword_form keyword.Check = check_form None
+keyword_form key = alone_text key
 
 -- the form of a use of this kind
 abbrev pub kind_form : Kind → List ℕ
@@ -41,21 +49,10 @@ kind_form kind.Tree = codes "use tree BASE DEPTH ID VALUE with four numbers"
 kind_form kind.Name = codes "use name BASE SLOTS SLOT with three numbers"
 kind_form kind.Names = codes "use names BASE SLOTS SLOT with three numbers"
 
--- the form of a check of this property
-abbrev pub property_form : Property → List ℕ
-property_form property.AtMost = codes "check atmost V C; V is 0 to 1000000000, and C is 0 to 8"
-property_form property.Within = codes "check within LO HI; LO and HI are 0 to 1000000000"
-property_form property = codes "check " ++ property_text property ++ nothing_behind
-
 -- the form of a use, by the kind where there is one
 abbrev pub use_form : Option Kind → List ℕ
 use_form (Some kind) = kind_form kind
 use_form None = keyword_form keyword.Use
-
--- the form of a check, by the property where there is one
-abbrev pub check_form : Option Property → List ℕ
-check_form (Some property) = property_form property
-check_form None = keyword_form keyword.Check
 
 -- the first of some words; no word that is known where there is none
 abbrev pub first_of : List (List ℕ) → Word

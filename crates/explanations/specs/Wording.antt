@@ -1,5 +1,8 @@
 -- The words in which a refused source is explained.
 use Rattle.std.specs.Prelude.{ℕ, ◌==◌, Bool, true, false, if◌then◌else◌, List, codes}
+use Rattle.explanations.specs.LineForms.{form_text}
+use Rattle.explanations.specs.declared.wording.Change.{Change}
+use Rattle.explanations.specs.declared.wording.Change.TheVariants.{Words, Form}
 use Rattle.explanations.specs.declared.wording.Culprit.{Culprit}
 use Rattle.explanations.specs.declared.wording.Culprit.TheVariants as culprit
 use Rattle.reglang.specs.declared.refusals.TheConstants.{MISPLACED, NO_CLAUSE, NO_FORM, NO_NUMBER, NO_REGISTERS, NOT_PRINTABLE, PAST_LIMIT, UNKNOWN_WORD}
@@ -18,6 +21,11 @@ is_line _ = false
 abbrev pub is_end : Culprit → Bool
 is_end culprit.End = true
 is_end _ = false
+
+-- what to change, in words
+abbrev pub told_text : Change → List ℕ
+told_text (Words words) = words.now
+told_text (Form form) = form_text form
 
 -- what is wrong with a text whose first fault has this code, where this is at fault
 abbrev pub wrong_text : ℕ → Culprit → List ℕ

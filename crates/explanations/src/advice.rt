@@ -9,7 +9,7 @@ use crate::hints::hint_of;
 use crate::line_forms::{first_of, form_of};
 use crate::open_blocks::{Block as Inside, Opened};
 use crate::passed_limits::limit_of;
-use crate::wording::{Culprit, what_to_change};
+use crate::wording::{Change, Culprit, what_to_change};
 use reglang::{Keyword, MISPLACED, NO_CLAUSE, NO_FORM, PAST_LIMIT, UNKNOWN_WORD, Word};
 use std::io::Write;
 use texts::{Block, Text, WriteFault};
@@ -101,6 +101,7 @@ impl Advice<'_> {
     ghost use Rattle.std.specs.Prelude.{◌≡◌};
     ghost use Rattle.explanations.specs.Advice as spec;
     ghost use Rattle.explanations.specs.LineForms as forms;
+    ghost use Rattle.explanations.specs.Wording.{told_text};
     ghost use Rattle.reglang.specs.Lines.{words};
 
     /// With what it begins.
@@ -114,8 +115,8 @@ impl Advice<'_> {
     }
 
     /// What to change, if not the block that is open.
-    fn words(&self) -> &'static str
-        ensures { result.now
+    fn change(&self) -> Change
+        ensures { told_text result
             ≡ spec.advice_words self.now.code self.now.culprit (words self.now.line.now)
             self.now.opened }
     {
@@ -124,15 +125,16 @@ impl Advice<'_> {
             return hint_of(line);
         }
         if self.code == NO_FORM || self.code == NO_CLAUSE {
-            return form_of(line);
+            return Change::Form(form_of(line));
         }
         if self.code == MISPLACED {
-            return move_words(self.culprit, first_of(line), self.opened);
+            let words = move_words(self.culprit, first_of(line), self.opened);
+            return Change::Words(words);
         }
         if self.code == PAST_LIMIT {
-            return stay_words(self.culprit, line);
+            return Change::Words(stay_words(self.culprit, line));
         }
-        what_to_change(self.code, self.culprit)
+        Change::Words(what_to_change(self.code, self.culprit))
     }
 
     /// The block to close, where a line that opens or closes one is misplaced, or the end of the text.
@@ -155,6 +157,6 @@ impl Text for Advice<'_> {
     ghost text = { λ a. spec.advice_text a.code a.culprit a.line.now a.opened };
 
     fn put<W: Write>(&self, out: &mut W, block: &mut Block) -> Result<(), WriteFault> {
-        (self.lead(), self.words(), self.block_to_close()).put(out, block)
+        (self.lead(), self.change(), self.block_to_close()).put(out, block)
     }
 }

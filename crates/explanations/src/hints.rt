@@ -3,10 +3,12 @@
 ghost use Rattle.std.specs.Prelude.{◌≡◌};
 ghost use Rattle.std.specs.List.{list_any};
 ghost use Rattle.explanations.specs.Hints as spec;
+ghost use Rattle.explanations.specs.Wording.{told_text};
 ghost use Rattle.reglang.specs.Lines.{words};
 
 use crate::line_forms::{first_of, form_of};
 use crate::misfits::first_unknown;
+use crate::wording::Change;
 use reglang::{Keyword, Word, split_word, target_of, word_of};
 
 /// Whether a byte stands in an operator.
@@ -111,11 +113,11 @@ fn hint_in(line: &[u8]) -> &'static str
 }
 
 /// What to write in place of the unknown word of a line; for a use its form.
-pub(crate) fn hint_of(line: &[u8]) -> &'static str
-    ensures { result.now ≡ spec.hint_of (words line.now) }
+pub(crate) fn hint_of(line: &[u8]) -> Change
+    ensures { told_text result ≡ spec.hint_of (words line.now) }
 {
     if is_use(first_of(line)) {
-        return form_of(line);
+        return Change::Form(form_of(line));
     }
-    hint_in(line)
+    Change::Words(hint_in(line))
 }

@@ -3,6 +3,7 @@
 
 mod advice;
 mod checks;
+mod clause_forms;
 mod hints;
 mod line_forms;
 mod lines;

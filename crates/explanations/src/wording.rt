@@ -3,9 +3,12 @@
 ghost use Rattle.std.specs.Prelude.{◌≡◌};
 ghost use Rattle.explanations.specs.Wording.{change_text, wrong_text};
 
+use crate::line_forms::Form;
 use reglang::{
     MISPLACED, NO_CLAUSE, NO_FORM, NO_NUMBER, NO_REGISTERS, NOT_PRINTABLE, PAST_LIMIT, UNKNOWN_WORD,
 };
+use std::io::Write;
+use texts::{Block, Text, WriteFault};
 
 /// What is at fault in a refused text.
 #[derive(Clone, Copy, PartialEq, Eq, Debug)]
@@ -40,6 +43,28 @@ impl Culprit {
         ensures { result ≡ spec.is_end self }
     {
         matches!(self, Culprit::End)
+    }
+}
+
+/// What to change in a refused line.
+#[derive(Clone, Copy)]
+pub(crate) enum Change {
+    /// These words tell it.
+    Words(&'static str),
+    /// The line is to have this form.
+    Form(Form),
+}
+
+impl Text for Change {
+    ghost use Rattle.explanations.specs.Wording.{told_text};
+
+    ghost text = { told_text };
+
+    fn put<W: Write>(&self, out: &mut W, block: &mut Block) -> Result<(), WriteFault> {
+        match *self {
+            Change::Words(words) => words.put(out, block),
+            Change::Form(form) => form.put(out, block),
+        }
     }
 }
 

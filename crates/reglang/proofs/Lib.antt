@@ -11,9 +11,9 @@ mod LineWords
 mod Memory
 mod Programs
 mod ReadAgain
+mod Readings
 mod Says
 mod SourceTexts
-mod Spelled
 mod Contexts
 mod Taken
 mod WordTexts

@@ -15,7 +15,7 @@ use Rattle.reglang.specs.declared.vocabulary.Keyword.TheVariants as keyword
 use Rattle.reglang.specs.declared.words.Word.{Word}
 use Rattle.reglang.specs.declared.words.Word.TheVariants as word
 use Rattle.reglang.proofs.Contexts.{StepsRead, context_of, steps_read}
-use Rattle.reglang.proofs.Spelled.{IsCut, IsLeft}
+use Rattle.reglang.proofs.Readings.{IsCut, IsLeft}
 
 -- ---- no line has a fault of memory's code
 

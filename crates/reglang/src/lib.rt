@@ -29,6 +29,6 @@ pub use refusals::{
 pub use sorts::{MOST_ARGUMENTS, Sort, Sorts, kind_sorts, property_sorts, sorts_after};
 pub use source::Source;
 pub use uses::{ExpandFault, Use, expand};
-pub use vocabulary::{Keyword, Kind, Property};
+pub use vocabulary::{Keyword, Kind, PROPERTIES, Property, Spelled};
 pub use words::{Word, enclosed, word_of};
 pub use writer::write_source;

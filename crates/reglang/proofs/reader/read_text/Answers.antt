@@ -2,7 +2,7 @@ use Rattle.std.proofs.Common.{◌≡◌, Err, length, max, ◌∙◌, ap, arith,
 use Rattle.reglang.specs.Drafts.{reading_of}
 use Rattle.reglang.proofs.Fits.{read_on_fits}
 use Rattle.reglang.proofs.Memory.{ran_out}
-use Rattle.reglang.proofs.Spelled.{IsCut, left_next, left_refused, left_ended, line_refused, line_at_fault, end_at_fault, end_without_memory, no_fault_before, read_spells, read_fails}
+use Rattle.reglang.proofs.Readings.{IsCut, left_next, left_refused, left_ended, line_refused, line_at_fault, end_at_fault, end_without_memory, no_fault_before, read_spells, read_fails}
 use Rattle.reglang.proofs.reader.read_text.Goals as goal
 
 pub returns-in-Err-clause-first_fault : goal.returns-in-Err-clause-first_fault

@@ -1,7 +1,7 @@
 use Rattle.std.proofs.Common.{◌≡◌, ◌+◌, ◌≤◌, length}
 use Rattle.reglang.specs.Drafts.{ReadingFits, reading_of}
 use Rattle.reglang.specs.Lines.{lines}
-use Rattle.reglang.proofs.Spelled.{IsLeft}
+use Rattle.reglang.proofs.Readings.{IsLeft}
 use Rattle.reglang.proofs.reader.read_text.Given as goal
 
 abbrev pub invariant-loop-bytes : goal.invariant-loop-bytes
