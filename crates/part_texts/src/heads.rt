@@ -43,7 +43,7 @@ impl PartHead {
         ensures fits { IsSome result
             ↔ FitsHead (head_of part.number part.count processes settings source.items) }
     {
-        let _length = settings.length();
+        let _bounds = (settings.length(), settings.crashes(), settings.cut());
         if processes == 0 || processes as usize > MOST_PROCESSES {
             return None;
         }

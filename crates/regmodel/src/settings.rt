@@ -1,7 +1,8 @@
 //! How far an exploration goes.
 
-ghost use Rattle.std.specs.Prelude.{◌≡◌, ◌↔◌, IsOk, IfOk, IfErr};
+ghost use Rattle.std.specs.Prelude.{◌≡◌, ◌<◌, ◌≤◌, ◌↔◌, IsOk, IfOk, IfErr};
 ghost use Rattle.regmodel.specs.Settings.{AreSettingsWithin, bounds_of, setting_fault};
+ghost use Rattle.regmodel.specs.declared.limits.TheConstants.{GREATEST_CUT, GREATEST_ROOM, MOST_CRASHES, MOST_LETTERS, MOST_WORKERS};
 
 use crate::limits::{GREATEST_CUT, GREATEST_ROOM, MOST_CRASHES, MOST_LETTERS, MOST_WORKERS};
 use std::marker::Model;
@@ -103,7 +104,7 @@ impl Settings {
     /// How many letters a schedule has at most, 0 to 64.
     pub fn length(&self) -> u32
         ensures value { result ≡ self.now.length }
-        ensures within { AreSettingsWithin self.now }
+        ensures within { self.now.length ≤ MOST_LETTERS }
     {
         self.length
     }
@@ -111,7 +112,7 @@ impl Settings {
     /// How many processes may crash, 0 to 8.
     pub fn crashes(&self) -> u32
         ensures value { result ≡ self.now.crashes }
-        ensures within { AreSettingsWithin self.now }
+        ensures within { self.now.crashes ≤ MOST_CRASHES }
     {
         self.crashes
     }
@@ -119,7 +120,8 @@ impl Settings {
     /// How many workers explore, 1 to 16.
     pub fn workers(&self) -> u32
         ensures value { result ≡ self.now.workers }
-        ensures within { AreSettingsWithin self.now }
+        ensures some { 0 < self.now.workers }
+        ensures within { self.now.workers ≤ MOST_WORKERS }
     {
         self.workers
     }
@@ -127,7 +129,7 @@ impl Settings {
     /// Below which length a piece is split, 0 to 16.
     pub fn cut(&self) -> u32
         ensures value { result ≡ self.now.cut }
-        ensures within { AreSettingsWithin self.now }
+        ensures within { self.now.cut ≤ GREATEST_CUT }
     {
         self.cut
     }
@@ -135,7 +137,7 @@ impl Settings {
     /// How many pieces a worker may hand on, 0 to 65536.
     pub fn room(&self) -> u32
         ensures value { result ≡ self.now.room }
-        ensures within { AreSettingsWithin self.now }
+        ensures within { self.now.room ≤ GREATEST_ROOM }
     {
         self.room
     }
