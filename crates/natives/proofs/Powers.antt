@@ -6,14 +6,6 @@ use Rattle.std.proofs.Math.Nat.{pow-suc}
 double : (levels k : ℕ) → levels ≡ suc k → 2 ^ levels ≡ 2 ^ k * 2
 double levels k e = ap (λ n. 2 ^ n) e ∙ pow-suc 2 k
 
-pub power_small : (depth : ℕ) → depth ≤ 4 → 2 ^ depth ≤ 16
-power_small zero h = omega arith
-power_small (suc zero) h = omega arith
-power_small (suc (suc zero)) h = omega arith
-power_small (suc (suc (suc zero))) h = omega arith
-power_small (suc (suc (suc (suc zero)))) h = omega arith
-power_small (suc (suc (suc (suc (suc depth))))) h = absurd (omega arith)
-
 pub power_some : (levels : ℕ) → 1 ≤ 2 ^ levels
 power_some zero = omega arith
 power_some (suc levels) = let e = pow-suc 2 levels in let h = power_some levels in omega arith

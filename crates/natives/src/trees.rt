@@ -18,7 +18,7 @@ use crate::packing::packed;
 use crate::splitters::Step;
 use machine::{Machine, Told, value_of};
 use regmodel::{Access, Numbers, Pending};
-use uses::Use;
+use uses::{Use, vertices};
 
 /// Where a process stands in the tree.
 #[derive(Clone, Copy)]
@@ -69,15 +69,6 @@ pub struct Tree {
     ghost takes: { (at : ℕ) → stage ≡ Takes at → IsIn last at },
 }
 
-/// How many vertices a tree of so many levels has.
-fn vertices(depth: u8) -> u8
-    requires { depth ≤ MOST_LEVELS }
-    ensures value { result ≡ 2 ^ depth - 1 }
-    ensures few { result ≤ 15 }
-{
-    (1 << depth) - 1
-}
-
 impl Tree {
     /// The collect tree of a use line, at its start: BASE, DEPTH, ID, VALUE, and how many registers there are. Fault 1 where a
     /// limit of the line is passed, which [`Use::fits`] tells; no other fault comes. It takes no memory.
@@ -91,11 +82,12 @@ impl Tree {
         ensures { IsMadeFor (kind.Tree base depth id value) registers ⟦<Tree as Machine>⟧ result }
     {
         check_fits(Use::Tree(base, depth, id, value), registers)?;
+        let last = vertices(depth) as u8;
         let depth = depth as u8;
         Ok(Tree {
             base: base as u8,
             depth,
-            last: vertices(depth),
+            last,
             id,
             value,
             registers,

@@ -87,10 +87,11 @@ fn registers_end(kind: &Use) -> u64
     }
 }
 
-/// How many vertices a binary tree of this depth has.
-pub(crate) fn vertices(depth: u32) -> u32
+/// How many vertices a binary tree of this depth has, at most 15.
+pub fn vertices(depth: u32) -> u32
     requires { depth ≤ MOST_LEVELS }
-    ensures { result ≡ 2 ^ depth - 1 }
+    ensures value { result ≡ 2 ^ depth - 1 }
+    ensures few { result ≤ 15 }
 {
     (1 << depth) - 1
 }

@@ -5,4 +5,4 @@ mod expansions;
 mod kinds;
 
 pub use expansions::{ExpandFault, expand};
-pub use kinds::Use;
+pub use kinds::{Use, vertices};
