@@ -80,7 +80,13 @@ impl OpenProcess {
             Line::Else => self.enter_else(alloc),
             Line::Fi => self.leave_if(alloc),
             Line::Done => self.leave_repeat(),
-            Line::End => self.end(),
+            Line::End => {
+                if !self.blocks.is_empty() {
+                    return Err(LineRefusal::Fault(MISPLACED));
+                }
+                let prog = Prog::of(self.before.registers(), self.block);
+                self.before.add_process(Process::Text(prog))
+            }
             Line::Use(kind) => self.stand_for(kind),
             Line::Registers(_) | Line::Process | Line::Check(_) => Err(LineRefusal::Fault(
                 MISPLACED,
@@ -202,18 +208,6 @@ impl OpenProcess {
     {
         self.block.push(stmt)?;
         Ok(Draft::Inside(self))
-    }
-
-    /// Ends the process.
-    fn end(self) -> Result<Draft, LineRefusal>
-        requires { ReadingFits (inside_of self) }
-        ensures { Answers (take_line (inside_of self) line.End) result }
-    {
-        if !self.blocks.is_empty() {
-            return Err(LineRefusal::Fault(MISPLACED));
-        }
-        let prog = Prog::of(self.before.registers(), self.block);
-        self.before.add_process(Process::Text(prog))
     }
 
     /// Lets the process be what a use line stands for.
