@@ -1,4 +1,5 @@
 pub mod Cuts
 pub mod Examples
 pub mod Matching
+pub mod Numbers
 pub mod PatternText

@@ -1,6 +1,7 @@
 //! Numbers as words.
 
-ghost use Rattle.std.specs.Prelude.{◌≡◌, ◌≢◌, ◌<◌, ◌≤◌, ◌^◌, ℕ, IfNone, IfSome, Some, decimal};
+ghost use Rattle.std.specs.Prelude.{◌≡◌, ◌<◌, ◌≤◌, ◌^◌, ℕ, Some, decimal};
+ghost use Rattle.patterns.specs.Numbers.{IsNumberIn};
 ghost use Rattle.regmodel.specs.declared.limits.TheConstants.{GREATEST_VALUE};
 
 use itoa::Buffer;
@@ -9,9 +10,7 @@ use std::str;
 
 /// The number 0 to 1000000000 that a word writes in decimal: without a sign, and without a 0 before other digits. None for any other word.
 pub fn number_of(word: &[u8]) -> Option<u32>
-    ensures some { IfSome result (λ n. decimal n ≡ word.now) }
-    ensures small { IfSome result (λ n. n ≤ GREATEST_VALUE) }
-    ensures none { IfNone result ((n : ℕ) → n ≤ GREATEST_VALUE → decimal n ≢ word.now) }
+    ensures { IsNumberIn (λ n. n ≤ GREATEST_VALUE) word.now result }
 {
     let number = long_number_of(word)?;
     if number > u64::from(GREATEST_VALUE) {
@@ -22,8 +21,7 @@ pub fn number_of(word: &[u8]) -> Option<u32>
 
 /// The number that a word writes so, below 2 to the 64. None for any other word.
 pub fn long_number_of(word: &[u8]) -> Option<u64>
-    ensures some { IfSome result (λ n. decimal n ≡ word.now) }
-    ensures none { IfNone result ((n : ℕ) → n < 2 ^ 64 → decimal n ≢ word.now) }
+    ensures { IsNumberIn (λ n. n < 2 ^ 64) word.now result }
 {
     let number = number_in(word)?;
     let mut buffer = Buffer::new();
