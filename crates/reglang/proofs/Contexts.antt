@@ -11,7 +11,7 @@ use Rattle.regmodel.specs.Program.{Block}
 use Rattle.reglang.specs.Contents.{Contents, Text, Kind}
 use Rattle.reglang.specs.Drafts.{Frame, First, Second, Turn, opened_of, Reading, Empty, Between, Inside, Used, ◌⊕◌, turns, enter, enter_else, leave, leave_if, leave_repeat, take_line, take_if_said, contents_at_end, read_from, faulty_at, goes_on}
 use Rattle.reglang.specs.Faults as faults
-use Rattle.reglang.specs.Faults.{Context, at_start, context_after_line, context_after_lines, context_after, line_fault, fault_of_line, end_fault, at_line, or_later, fault_from, first_fault}
+use Rattle.reglang.specs.Faults.{Context, at_start, context_after_line, context_after_lines, context_after, line_fault, fault_of_line, end_fault, at_line, or_later, fault_from}
 use Rattle.reglang.specs.Forms.{read_line}
 use Rattle.reglang.specs.Grammar.{lines_said, line_said}
 use Rattle.uses.specs.Uses.{is_between, use_fits}
