@@ -1,5 +1,5 @@
 -- What rows tell.
-use Rattle.std.proofs.Common.{◌≡◌, ℕ, ◌+◌, ◌<◌, ◌==◌, Bool, not, List, [], ◌∷◌, ◌++◌, get_or, length, take, ap, sym, subst, ◌∙◌, append_assoc, arith}
+use Rattle.std.proofs.Common.{◌≡◌, ℕ, ◌+◌, ◌<◌, ◌==◌, Bool, not, List, [], ◌∷◌, ◌++◌, get_or, length, length-append, take, ap, sym, subst, ◌∙◌, append_assoc, arith}
 use Rattle.std.proofs.lemmas.List.{append-nil, take_more}
 use Rattle.std.proofs.lemmas.List.FromFn.{length-map-range_with_len}
 use Rattle.regmodel.specs.declared.letters.Letter.{Letter}
@@ -34,6 +34,15 @@ values-same ps qs n m v w now same count went told = told ∙ (ap (λ rs. values
 -- whether a process is at fault, of programs that have stayed the same
 pub fault-same : (ps qs : List Program) (v w : Schedule) (p q : ℕ) (found : Bool) → qs ≡ ps → w ≡ v → q ≡ p → found ≡ is_fault_of q (outcome_of qs w) → found ≡ is_fault_of p (outcome_of ps v)
 fault-same ps qs v w p q found same went one told = told ∙ (ap (λ rs. is_fault_of q (outcome_of rs w)) same ∙ (ap (λ u. is_fault_of q (outcome_of ps u)) went ∙ ap (λ r. is_fault_of r (outcome_of ps v)) one))
+
+-- what registers hold past a letter, of programs and registers that have stayed the same
+pub held-past : (ps qs : List Program) (n m : ℕ) (v w : Schedule) (a : Letter) (before now : List ℕ) (held : List Held) → ((programs : List Program) → (x y : Schedule) → (k : ℕ) → before ≡ values_after programs x k → now ≡ values_after programs y k → held ≡ all_held programs k x y)
+    → before ≡ values_after ps v n → qs ≡ ps → m ≡ n → w ≡ v ++ a ∷ [] → now ≡ values_after qs w m → held ≡ all_held ps n v (v ++ a ∷ [])
+held-past ps qs n m v w a before now held told first same count went last = told ps v (v ++ a ∷ []) n first (values-same ps qs n m (v ++ a ∷ []) w now same count went last)
+
+-- the number of a letter is one more than there are letters before it
+pub number-told : (w v : List Letter) (a : Letter) (n : ℕ) → w ≡ v ++ a ∷ [] → n ≡ length w → n ≡ length v + 1
+number-told w v a n went told = omega (arith, told, ap length went, length-append v (a ∷ []))
 
 -- the row of a last letter comes last
 pub rows-more : (ps : List Program) (n : ℕ) (before w : Schedule) (rows : List Row) (a : Letter) (row : Row) → AreRowsOf ps n before w rows → IsRowOf ps n (before ++ w) a row → AreRowsOf ps n before (w ++ a ∷ []) (rows ++ row ∷ [])

@@ -1,7 +1,8 @@
 -- What is drawn of a schedule.
-use Rattle.std.specs.Prelude.{◌≡◌, ℕ, ◌+◌, Bool, false, List, [], ◌∷◌, ◌++◌, length, slice_get, Option, Some, None}
+use Rattle.std.specs.Prelude.{◌≡◌, ℕ, ◌+◌, Bool, false, List, [], ◌∷◌, ◌++◌, length, slice_get, IfErr, IfOk, OnOk, Option, Result, Some, None}
 use Rattle.regmodel.specs.declared.accesses.Access.{Access}
 use Rattle.regmodel.specs.declared.accesses.Access.TheVariants as access
+use Rattle.regmodel.specs.declared.accesses.Pending.{Pending}
 use Rattle.regmodel.specs.declared.letters.Letter.{Letter}
 use Rattle.regmodel.specs.declared.letters.Letter.TheVariants as letter
 use Rattle.regmodel.specs.declared.outcomes.ProcEnd.{ProcEnd}
@@ -11,6 +12,12 @@ use Rattle.regmodel.specs.Letters.{Schedule, process_of}
 use Rattle.regmodel.specs.Outcomes.{outcome_of}
 use Rattle.regmodel.specs.Program.{Program}
 use Rattle.regmodel.specs.Replies.{value_after}
+use Rattle.regmodel.specs.Reply.{Replies}
+use Rattle.regmodel.specs.Schedules.{IsSchedule}
+use Rattle.world.specs.declared.BadLetter.{BadLetter}
+use Rattle.world.specs.declared.World.{World}
+use Rattle.world.specs.Sound.{IsSameWorld, budget_of, letters_of, register_count_of, world_programs}
+use Rattle.world.specs.Stops.{IsStopped}
 use Rattle.drawing.specs.declared.drawings.Deed.{Deed}
 use Rattle.drawing.specs.declared.drawings.Deed.TheVariants as deed
 use Rattle.drawing.specs.declared.drawings.Held.{Held}
@@ -56,3 +63,11 @@ pub record IsPictureOf (programs : List Program) (registers : ℕ) (w : Schedule
   pub start : picture.start ≡ all_held programs registers [] []
   pub rows : AreRowsOf programs registers [] w picture.rows
   pub ends : picture.ends ≡ outcome_of programs w
+
+-- the same world was led along a schedule, which was drawn; or it stands before the first letter that is not possible
+pub record Draws {I : Type 0} {V : I → Type 0} (program : ((i : I) × V i) → Program) (rest : ((i : I) × V i) → Replies → Pending) (resumed : ((i : I) × V i) → List ℕ → Replies → Pending) (old new : World I V) (w : Schedule) (result : Result Picture BadLetter) : Type 0 where
+  pub same : IsSameWorld program rest resumed old new
+  pub schedule : IfOk result (λ drawing. IsSchedule (world_programs program old) (budget_of old) w)
+  pub drawn : IfOk result (IsPictureOf (world_programs program old) (register_count_of old) w)
+  pub ok : OnOk result (letters_of new ≡ w)
+  pub refused : IfErr result (IsStopped (world_programs program old) (budget_of old) w (letters_of new))

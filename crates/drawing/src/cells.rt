@@ -45,11 +45,10 @@ impl Cell {
     }
 
     /// The bytes.
-    pub(crate) fn bytes(&self) -> &[u8]
-        ensures value { result.now ≡ self.now }
-        ensures few { length result.now ≤ MOST_CELL_BYTES }
+    pub(crate) fn bytes(&self) -> &ArrayVec<u8, MOST_CELL_BYTES>
+        ensures { result.now.items ≡ self.now }
     {
-        self.bytes.as_slice()
+        &self.bytes
     }
 
     /// The same with these bytes last.
@@ -188,7 +187,7 @@ impl Drawing {
         ensures value { result ≡ column_count self.now }
         ensures few { result ≤ MOST_COLUMNS }
     {
-        1 + self.ends().len() + self.start().len()
+        1 + self.outcome().ends().len() + self.start().len()
     }
 
     /// What a line is.
@@ -206,12 +205,11 @@ impl Drawing {
     }
 
     /// The text at a line and a column.
-    pub(crate) fn cell(&self, line: usize, column: usize) -> Cell
-        requires { column < MOST_COLUMNS }
+    pub(crate) fn cell(&self, line: usize, column: u8) -> Cell
         ensures { result ≡ texts.cell_text self.now line column }
     {
         let line = self.line_at(line);
-        let processes = self.ends().len();
+        let processes = self.outcome().ends().len() as u8;
         if column == 0 {
             number_cell(line)
         } else if column <= processes {
@@ -222,15 +220,14 @@ impl Drawing {
     }
 
     /// The text of a line in the column of a process.
-    fn process_cell(&self, line: Line<'_>, p: usize) -> Cell
-        requires { p < MOST_COLUMNS }
+    fn process_cell(&self, line: Line<'_>, p: u8) -> Cell
         ensures { result ≡ texts.process_cell self.now.ends p (texts.line_of line.entry) }
     {
         match line {
-            Line::Head => Cell::new().with(b"process ").with_number(p as u32),
-            Line::Row(row) if usize::from(row.process) == p => row_cell(row),
+            Line::Head => Cell::new().with(b"process ").with_number(u32::from(p)),
+            Line::Row(row) if row.process == p => row_cell(row),
             Line::Start | Line::Row(_) => Cell::new(),
-            Line::End => match self.ends().get(p) {
+            Line::End => match self.outcome().ends().get(usize::from(p)) {
                 Some(end) => end_cell(end),
                 None => Cell::new(),
             },
@@ -238,17 +235,16 @@ impl Drawing {
     }
 
     /// The text of a line in the column of a register.
-    fn register_cell(&self, line: Line<'_>, r: usize) -> Cell
-        requires { r < MOST_COLUMNS }
+    fn register_cell(&self, line: Line<'_>, r: u8) -> Cell
         ensures { result ≡ texts.register_cell self.now.start r (texts.line_of line.entry) }
     {
         let registers = match line {
-            Line::Head => return Cell::new().with(b"r").with_number(r as u32),
+            Line::Head => return Cell::new().with(b"r").with_number(u32::from(r)),
             Line::Start => self.start(),
             Line::Row(row) => &row.registers,
             Line::End => return Cell::new(),
         };
-        match registers.get(r) {
+        match registers.get(usize::from(r)) {
             Some(held) => held_cell(*held),
             None => Cell::new(),
         }

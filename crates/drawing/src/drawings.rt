@@ -3,7 +3,7 @@
 ghost use Rattle.std.specs.Prelude.{◌≡◌, ◌≤◌, length};
 
 use arrayvec::ArrayVec;
-use regmodel::{Outcome, ProcEnd};
+use regmodel::Outcome;
 use std::marker::Model;
 
 /// What a letter did.
@@ -118,13 +118,5 @@ impl Drawing {
         ensures { result.now ≡ self.now.ends }
     {
         &self.outcome
-    }
-
-    /// How each process stands at the end, processes from 0.
-    pub(crate) fn ends(&self) -> &[ProcEnd]
-        ensures value { result.now ≡ self.now.ends }
-        ensures few { length result.now ≤ MOST_PROCESSES }
-    {
-        self.outcome.ends()
     }
 }

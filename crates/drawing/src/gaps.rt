@@ -20,7 +20,7 @@ impl Text for Placed<'_> {
     ghost text = { λ p. placed p.gap p.cell.now };
 
     fn put<W: Write>(&self, out: &mut W, block: &mut Block) -> Result<(), WriteFault> {
-        let bytes = self.cell.bytes();
+        let bytes = self.cell.bytes().as_slice();
         if bytes.is_empty() {
             return Ok(());
         }

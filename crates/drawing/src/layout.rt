@@ -1,7 +1,6 @@
 //! How wide the columns of a drawing are, and how many are shown.
 
 ghost use Rattle.std.specs.Prelude.{◌≡◌, ◌≤◌, ◌<◌, ◌*◌, All, length};
-ghost use Rattle.drawing.specs.declared.cells.TheConstants.{MOST_COLUMNS};
 ghost use Rattle.drawing.specs.Layout as layout;
 
 use crate::cells::MOST_COLUMNS;
@@ -21,8 +20,7 @@ pub(crate) const WIDE: usize = 132;
 pub(crate) type Widths = ArrayVec<u8, MOST_COLUMNS>;
 
 /// How wide the column is: as wide as its widest text.
-fn width_of(drawing: &Drawing, column: usize) -> u8
-    requires { column < MOST_COLUMNS }
+fn width_of(drawing: &Drawing, column: u8) -> u8
     ensures { result ≡ layout.width_of drawing.now column }
 {
     let mut width = 0;
@@ -40,7 +38,7 @@ pub(crate) fn widths_of(drawing: &Drawing) -> Widths
 {
     let mut widths = Widths::new();
     for column in 0..drawing.columns() {
-        widths.push(width_of(drawing, column));
+        widths.push(width_of(drawing, column as u8));
     }
     widths
 }
@@ -65,7 +63,7 @@ fn is_changed(drawing: &Drawing, register: usize) -> bool
 fn fixed_columns(drawing: &Drawing) -> usize
     ensures { result ≡ layout.fixed_columns drawing.now }
 {
-    1 + drawing.ends().len()
+    1 + drawing.outcome().ends().len()
 }
 
 /// How much of a line the first so many columns take, of those that are kept first or of the others, each with what parts it from the next.
@@ -100,7 +98,7 @@ fn is_shown(drawing: &Drawing, widths: &Widths, all: bool, column: usize) -> boo
     requires { column < length widths.now.items }
     ensures { result ≡ layout.is_shown drawing.now widths.now.items all column }
 {
-    let processes = drawing.ends().len();
+    let processes = drawing.outcome().ends().len();
     let places = if processes <= 2 { NARROW } else { WIDE };
     all || column < fixed_columns(drawing) || end_with(drawing, widths, column) <= places + PARTING
 }

@@ -85,10 +85,10 @@ impl Text for TableLine<'_> {
         let widths = table.widths;
         let mut gap = 0;
         for place in 0..table.columns.len() {
-            let column = usize::from(table.columns[place]);
+            let column = table.columns[place];
             let cell = table.drawing.cell(self.line, column);
             Placed { gap, cell: &cell }.put(out, block)?;
-            gap = gap_past(gap, widths[column], &cell);
+            gap = gap_past(gap, widths[usize::from(column)], &cell);
         }
         block.put_byte(out, b'\n')
     }

@@ -1,28 +1,43 @@
-use Rattle.std.proofs.Common.{◌<◌, ◌∙◌, [], ap, length, arith}
+use Rattle.std.proofs.Common.{◌≡◌, ◌<◌, ◌∙◌, [], ap, length, arith}
 use Rattle.std.proofs.lemmas.List.{take_all}
 use Rattle.world.proofs.Same.{same_since}
 use Rattle.world.specs.Sound.{letters_of, world_programs}
-use Rattle.drawing.proofs.Rows.{letters-more, picture-whole, rows-past, values-same}
+use Rattle.drawing.specs.Pictures.{is_fault_of}
+use Rattle.drawing.proofs.Rows.{fault-same, held-past, letters-more, number-told, picture-whole, rows-past, values-same}
 use Rattle.drawing.proofs.deeds.draw.Goals as goal
 
 pub loop-place-preserved : goal.loop-place-preserved
 loop-place-preserved g c =
     let kept = c.loop-place.invariant in
+    let before = letters_of c.loop-place.world in
     let here : c.loop-place.place < length c.args.schedule.now = omega (arith, c.loop-place-test.true, ap length c.letters-letter-items.ensures.value) in
-    let went = c.row_of.ensures.same in
+    let went = c.step.ensures.same in
+    let copied : c.unwrap-before.result.items ≡ c.registers.result.now = (rw c.unwrap-before.ensures at c.try_from.ensures).0 in
     record {
       same = same_since _ _ _ _ _ _ kept.same went;
-      went = letters-more _ _ _ c.args.schedule.now c.loop-place.place _ c.row_of.ensures.stepped kept.went c.letters-letter-items.ensures.value here;
-      rows = rows-past _ _ _ _ (letters_of c.loop-place.world) _ _ _ _ _ kept.same.programs kept.same.registers c.row_of.ensures.stepped c.push.ensures.items kept.rows c.row_of.ensures.row;
+      went = letters-more _ _ _ c.args.schedule.now c.loop-place.place _ c.step.ensures.stepped kept.went c.letters-letter-items.ensures.value here;
+      rows = rows-past _ _ _ _ before _ _ _ _ _ kept.same.programs kept.same.registers c.step.ensures.stepped c.push.ensures.items kept.rows (record {
+        number = number-told _ _ _ _ c.step.ensures.stepped c.depth.ensures.value;
+        process = c.process.ensures;
+        deed = c.deed_of-deed.ensures;
+        at_fault = fault-same _ _ _ _ _ _ _ went.programs c.step.ensures.stepped c.process-in-loop-place.ensures (c.is_at_fault.ensures ∙ ap (is_fault_of c.process-in-loop-place.result) c.outcome.ensures);
+        registers_are = held-past _ _ _ _ before _ _ _ _ _ c.held_since.ensures (c.as_slice.ensures.value ∙ (copied ∙ c.registers.ensures.value)) went.programs went.registers c.step.ensures.stepped c.registers-in-loop-place.ensures.value;
+      });
       count = omega (arith, kept.count);
     }
 
-pub returns-clause-drawn : goal.returns-clause-drawn
-returns-clause-drawn g c =
+pub returns : goal.returns
+returns g c =
     let kept = c.loop-place.invariant in
     let first = c.restart.ensures in
     let zeros = values-same _ _ _ _ [] (letters_of c.restart.new.self) _ first.same.programs first.same.registers first.back c.registers-zeros.ensures.value in
     let went = kept.went ∙ take_all c.loop-place.place c.args.schedule.now (omega (arith, c.loop-place-test.false, ap length c.letters-letter-items.ensures.value)) in
-    picture-whole _ _ _ (letters_of c.loop-place.world) _ _ _ _ _ c.new.ensures kept.same.programs went
-    (c.held_since-start.ensures (world_programs (λ b. (goal.Machine-dyn g b).program b.1) c.args.world.now) [] [] _ zeros zeros)
-    kept.rows c.outcome.ensures
+    record {
+      same = kept.same;
+      schedule = rw (kept.same.programs, kept.same.budget, went) at kept.same.at.schedule;
+      drawn = picture-whole _ _ _ (letters_of c.loop-place.world) _ _ _ _ _ c.new.ensures kept.same.programs went
+          (c.held_since-start.ensures (world_programs (λ b. (goal.Machine-dyn g b).program b.1) c.args.world.now) [] [] _ zeros zeros)
+          kept.rows c.outcome-2.ensures;
+      ok = went;
+      refused = tt;
+    }

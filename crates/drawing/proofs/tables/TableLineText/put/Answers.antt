@@ -6,25 +6,25 @@ use Rattle.drawing.proofs.Joined.{fault-in, gap-more, text-more}
 use Rattle.drawing.proofs.Placing.{gap_past-low, joined-all}
 use Rattle.drawing.proofs.tables.TableLineText.put.Goals as goal
 
-pub bounds-widths-column : goal.bounds-widths-column
-bounds-widths-column g c =
-    rw (c.from-column.ensures) (c.args.self.now.table.there c.loop-place.place 0 c.loop-place-test.true)
+pub bounds-widths-from : goal.bounds-widths-from
+bounds-widths-from g c =
+    rw (c.from.ensures) (c.args.self.now.table.there c.loop-place.place 0 c.loop-place-test.true)
 
 pub returns-in_err-put : goal.returns-in_err-put
 returns-in_err-put g c =
     let p = err_from_is_err_and c.from_residual.result c.from_residual.ensures.1 in
-    let here = rw (c.loop-place.invariant.gap, c.cell-cell.ensures, c.from-column.ensures) at c.in_err-put.ensures in
+    let here = rw (c.loop-place.invariant.gap, c.cell-cell.ensures) at c.in_err-put.ensures in
     rw (p.1, p.2) (fault_before (fault-in (λ i. placed (gap_before (width_at c.args.self.now.table.widths.now c.args.self.now.table.columns.now) (text_at c.args.self.now.table.drawing.now c.args.self.now.table.columns.now c.args.self.now.line) i) ((text_at c.args.self.now.table.drawing.now c.args.self.now.table.columns.now c.args.self.now.line) i)) c.loop-place.place (length c.args.self.now.table.columns.now) c.loop-place-test.true c.loop-place.invariant.text here) (codes "\n"))
 
 pub loop-place-preserved : goal.loop-place-preserved
 loop-place-preserved g c =
-    let here = rw (c.loop-place.invariant.gap, c.cell-cell.ensures, c.from-column.ensures) at c.in_ok-put.ensures in
+    let here = rw (c.loop-place.invariant.gap, c.cell-cell.ensures) at c.in_ok-put.ensures in
     let past = gap-more (width_at c.args.self.now.table.widths.now c.args.self.now.table.columns.now) (text_at c.args.self.now.table.drawing.now c.args.self.now.table.columns.now c.args.self.now.line) c.loop-place.place in
-    let low = gap_past-low c.loop-place.gap (get_or c.args.self.now.table.widths.now c.from-column.result 0) c.cell-cell.result in
+    let low = gap_past-low c.loop-place.gap (get_or c.args.self.now.table.widths.now c.from.result 0) c.cell-cell.result in
     record {
       text = text-more (λ i. placed (gap_before (width_at c.args.self.now.table.widths.now c.args.self.now.table.columns.now) (text_at c.args.self.now.table.drawing.now c.args.self.now.table.columns.now c.args.self.now.line) i) ((text_at c.args.self.now.table.drawing.now c.args.self.now.table.columns.now c.args.self.now.line) i)) c.loop-place.place c.loop-place.invariant.text here;
-      gap = (rw (c.loop-place.invariant.gap, c.cell-cell.ensures, c.from-column.ensures) at c.gap_past-gap.ensures) ∙ sym past;
-      low = omega (arith, low, c.gap_past-gap.ensures, c.type_inv.widths c.from-column.result, c.loop-place.invariant.low);
+      gap = (rw (c.loop-place.invariant.gap, c.cell-cell.ensures, c.from.ensures) at c.gap_past-gap.ensures) ∙ sym past;
+      low = omega (arith, low, c.gap_past-gap.ensures, c.type_inv.widths c.from.result, c.loop-place.invariant.low);
     }
 
 pub returns : goal.returns
