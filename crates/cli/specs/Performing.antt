@@ -28,9 +28,9 @@ pub record IsNext {W : Type 0} (contents : W → Option (List ℕ)) (opened : Li
   pub done : IsAnsweredOrRefused contents path asked file before.0 after.0 status
   pub highest : after.1 ≡ max before.1 status
 
--- what is read of a path, as far as that is known, by what is given for it and what remains to be read of that
+-- what is read of a path, as far as that is known, by what it opens and what remains to be read of that
 abbrev pub IsOpened : {R : Type 0} → (List ℕ → Option R → Type 0) → (R → Option (List ℕ)) → List ℕ → Option (List ℕ) → Type 0
-IsOpened {R} gives remaining path known = (file : Option R) × gives path file × (known ≡ option_and_then remaining file)
+IsOpened {R} opens remaining path known = (file : Option R) × opens path file × (known ≡ option_and_then remaining file)
 
 -- the files of an order are answered or refused one after another, and the status is the highest
 abbrev pub AreAnswered : {W : Type 0} → (W → Option (List ℕ)) → (List ℕ → Option (List ℕ) → Type 0) → orders.Order → W → W → ℕ → Type 0

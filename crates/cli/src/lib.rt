@@ -18,7 +18,7 @@ mod wording;
 
 pub use answers::answer;
 pub use orders::{
-    Bound, Input, MOST_BYTES, Order, Question, Refusal, Request, Task, command, input_of, refuse,
-    words_of,
+    Bound, Input, MOST_BYTES, Opener, Order, Question, Refusal, Request, Task, command, input_of,
+    refuse, words_of,
 };
 pub use program::perform;

@@ -1,46 +1,37 @@
 //! The whole program, over what opens its files and what takes its texts.
 
-ghost use Rattle.std.specs.Fn.{FnReturnsAt};
 ghost use Rattle.cli.specs.Performing.{AreAnswered, IsOpened, IsPerformed, IsVersionTold};
 
 use crate::answers::answer;
 use crate::faults::{AnswerFault, refuse};
 use crate::merges::merge_file;
 use command_words::VERSION;
-use orders::{Order, Question, Request, worse};
+use orders::{Opener, Order, Question, Request, worse};
 use std::alloc::Global;
-use std::io::{Read, Write};
+use std::io::Write;
 use std::sync::Wait;
 use std::thread::Threads;
 use texts::write;
 
-/// Does what was asked for, and gives the status: that of the words where they were refused, and nothing is done then; 0 where the version was written, else the
-/// highest of those with which
-/// the files are answered, one after another, each as `opener` gives it for its path, which may be that of standard input (`input_of`): 0 or 1 where
-/// the answer was written to `out`; 2 where the file, the source or a letter is refused; 3 where it could not be done. At 2 and 3 `err` is told why,
-/// and `out` is as before, unless it did not take the whole answer: then it took a beginning of it.
-pub fn perform<
-    H: Threads + Wait + Sync,
-    R: Read + Drop,
-    F: Fn(&str) -> Option<R>,
-    W: Write,
-    E: Write + Send,
->(
+/// Does what was asked for, and gives the status: that of the words where they were refused, and nothing is done then; 0 where the version was
+/// written, else the highest of those with which the files are answered, one after another, each as `opener` opens it by its path: 0 or 1 where
+/// the answer was written to `out`; 2 where the file, the source or a letter is refused; 3 where it could not be done. At 2 and 3 `err` is told
+/// why, and `out` is as before, unless it did not take the whole answer: then it took a beginning of it.
+pub fn perform<H: Threads + Wait + Sync, O: Opener, W: Write, E: Write + Send>(
     rt: &H,
     alloc: Global,
     request: Result<Request<'_>, u8>,
-    opener: &F,
+    opener: &O,
     out: &mut W,
     err: &mut E,
 ) -> u8
-    requires { F.IsAlwaysCallable opener.now }
-    ensures { IsPerformed W.contents
-        (IsOpened (FnReturnsAt F.Fn opener.now) R.remaining) request.entry out.old out.new result }
+    ensures { IsPerformed W.contents (IsOpened (O.opens opener.now) O.Reader.remaining)
+        request.entry out.old out.new result }
 {
     match request {
         Ok(Request::Order(order)) => answer_each(rt, alloc, &order, opener, out, err),
         Ok(Request::Version) => tell_version(out, err),
-        Ok(Request::Merge(path)) => merge_file(alloc, path, opener(path), out, err),
+        Ok(Request::Merge(path)) => merge_file(alloc, path, opener.open(path), out, err),
         Err(status) => status,
     }
 }
@@ -59,16 +50,16 @@ fn tell_version<W: Write, E: Write>(out: &mut W, err: &mut E) -> u8
 }
 
 /// Answers each file of an order in turn, and gives the highest status.
-fn answer_each<
-    H: Threads + Wait + Sync,
-    R: Read + Drop,
-    F: Fn(&str) -> Option<R>,
-    W: Write,
-    E: Write + Send,
->(rt: &H, alloc: Global, order: &Order<'_>, opener: &F, out: &mut W, err: &mut E) -> u8
-    requires { F.IsAlwaysCallable opener.now }
-    ensures { AreAnswered W.contents (IsOpened (FnReturnsAt F.Fn opener.now) R.remaining)
-        order.now out.old out.new result }
+fn answer_each<H: Threads + Wait + Sync, O: Opener, W: Write, E: Write + Send>(
+    rt: &H,
+    alloc: Global,
+    order: &Order<'_>,
+    opener: &O,
+    out: &mut W,
+    err: &mut E,
+) -> u8
+    ensures { AreAnswered W.contents (IsOpened (O.opens opener.now) O.Reader.remaining) order.now
+        out.old out.new result }
 {
     let mut worst = 0;
     for path in order.paths.as_slice() {
@@ -77,7 +68,7 @@ fn answer_each<
             task: &order.task,
             progress: order.progress,
         };
-        let status = answer(rt, alloc, &question, opener(path), out, err);
+        let status = answer(rt, alloc, &question, opener.open(path), out, err);
         worst = worse(worst, status);
     }
     worst

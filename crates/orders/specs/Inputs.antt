@@ -12,10 +12,10 @@ pub record IsTextOf (file : Option (List ℕ)) (text : List ℕ) : Type 0 where
   pub known : IfSome file (λ bytes. text ≡ bytes)
   pub short : length text ≤ MOST_BYTES
 
--- what is read of standard input, by what is given for its path, and by what remains to be read of that
-pub record IsStandardText {R : Type 0} (gives : List ℕ → Option R → Type 0) (remaining : R → Option (List ℕ)) (text : List ℕ) : Type 0 where
+-- what is read of standard input, by what its path opens, and by what remains to be read of that
+pub record IsStandardText {R : Type 0} (opens : List ℕ → Option R → Type 0) (remaining : R → Option (List ℕ)) (text : List ℕ) : Type 0 where
   pub file : Option R
-  pub given : gives (codes "-") file
+  pub opened : opens (codes "-") file
   pub read : IsTextOf (option_and_then remaining file) text
 
 -- more bytes than that, where they are known

@@ -1,6 +1,6 @@
 //! Where a source and patterns are read from: a file, or standard input.
 
-ghost use Rattle.std.specs.Prelude.{◌≡◌, ◌⊎◌, IfErr, IfOk, Option, Some, false, option_map, true};
+ghost use Rattle.std.specs.Prelude.{◌≡◌, ◌⊎◌, IfErr, IfOk, List, Option, Some, false, option_map, true, ℕ};
 ghost use Rattle.std.specs.Fn.{FnOnceReturnsAt};
 ghost use Rattle.orders.specs.Inputs.{IsTextOf, IsTooLong, is_standard};
 ghost use Rattle.orders.specs.declared.inputs.Input.TheVariants as input;
@@ -15,6 +15,19 @@ pub const STANDARD_INPUT: &str = "-";
 
 /// The most bytes of a source, and of patterns.
 pub const MOST_BYTES: u64 = 1048576;
+
+/// What opens files by their paths.
+pub trait Opener {
+    /// What is read of a file.
+    type Reader: Read + Drop;
+
+    /// Which file a path opens, or that it opens none.
+    ghost opens: { Self → List ℕ → Option Self.Reader → Type 0 };
+
+    /// The file of a path, which may be that of standard input (`input_of`); None where it cannot be opened.
+    fn open(&self, path: &str) -> Option<Self::Reader>
+        ensures { opens self.now path.now result };
+}
 
 /// What is read: standard input, or a file.
 #[derive(Drop)]

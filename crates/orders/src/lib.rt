@@ -14,7 +14,7 @@ mod wording;
 mod words;
 
 pub use bounds::Bound;
-pub use inputs::{Input, MOST_BYTES, bytes_of, input_of};
+pub use inputs::{Input, MOST_BYTES, Opener, bytes_of, input_of};
 pub use orders::{Order, Request, command};
 pub use refusals::{Refusal, refuse};
 pub use statuses::worse;

@@ -1,7 +1,6 @@
 //! What the words of the command line ask for.
 
 ghost use Rattle.std.specs.Prelude.{◌≡◌, ◌⊎◌, Err, IfErr, IfOk, map};
-ghost use Rattle.std.specs.Fn.{FnReturnsAt};
 ghost use Rattle.clap.specs.Words.{found_of, one_text};
 ghost use Rattle.regmodel.specs.ScheduleText.{schedule_text};
 ghost use Rattle.orders.specs.Bounds.{IsBoundRefused};
@@ -10,7 +9,7 @@ ghost use Rattle.orders.specs.Inputs.{IsStandardText};
 ghost use Rattle.orders.specs.Statuses.{IsNoSchedule, status_of};
 
 use crate::bounds::{Bound, CACHE, MOST_CACHE, ProcessorCount, bound_of, bounds_of, processors};
-use crate::inputs::{STANDARD_INPUT, is_standard};
+use crate::inputs::{Opener, STANDARD_INPUT, is_standard};
 use crate::options::{has_flag, is_native, number_of};
 use crate::parts_told::part_told;
 use crate::patterns_told::{are_standard, patterns_told};
@@ -24,7 +23,7 @@ use regmodel::{Prefix, Settings, read_schedule};
 use report::Effort;
 use std::alloc::Global;
 use std::convert::AsStr;
-use std::io::{Read, Write};
+use std::io::Write;
 use std::thread::Threads;
 
 /// The number of the setting that says in how many megabytes states are remembered. Those of `Settings` are 1 to 5.
@@ -54,17 +53,14 @@ pub enum Request<'a> {
 
 /// Reads the words of the command line, the program's name first. Where they are refused, also where they ask for help, a setting is past
 /// its limit, or a schedule or a pattern is no text of one, it prints why, and the error is the status. A check or a search has as many
-/// workers as there are processors, 1 to 16, where the words do not say how many: `rt` tells that. `opener` gives what is read for a path,
-/// here for that of standard input where the words say that patterns are read from it.
-pub fn command<
-    'a,
-    H: Threads + AllocGlobal,
-    S: AsStr,
-    R: Read + Drop,
-    F: Fn(&str) -> Option<R>,
-    E: Write,
->(rt: &H, words: &'a Result<Vec<S>, Refusal>, opener: &F, err: &mut E) -> Result<Request<'a>, u8>
-    requires { F.IsAlwaysCallable opener.now }
+/// workers as there are processors, 1 to 16, where the words do not say how many: `rt` tells that. `opener` opens standard
+/// input by its path where the words say that patterns are read from it.
+pub fn command<'a, H: Threads + AllocGlobal, S: AsStr, O: Opener, E: Write>(
+    rt: &H,
+    words: &'a Result<Vec<S>, Refusal>,
+    opener: &O,
+    err: &mut E,
+) -> Result<Request<'a>, u8>
     ensures words { IfErr words.now (λ refusal. result ≡ Err (status_of refusal)) }
     ensures err { IfErr result (λ status. (status ≡ 2) ⊎ (status ≡ 3)) }
 {
@@ -97,13 +93,12 @@ fn merge_of<'a>(matches: &ArgMatches<'a>) -> Option<&'a str> {
 }
 
 /// The order of words that clap took.
-fn order_of<'a, H: Threads + AllocGlobal, R: Read + Drop, F: Fn(&str) -> Option<R>, E: Write>(
+fn order_of<'a, H: Threads + AllocGlobal, O: Opener, E: Write>(
     rt: &H,
     matches: &ArgMatches<'a>,
-    opener: &F,
+    opener: &O,
     err: &mut E,
 ) -> Result<Order<'a>, u8>
-    requires { F.IsAlwaysCallable opener.now }
     ensures { IfErr result (λ status. (status ≡ 2) ⊎ (status ≡ 3)) }
 {
     let Some((name, words)) = matches.subcommand() else {
@@ -175,15 +170,14 @@ fn effort_of(words: &ArgMatches<'_>, processors: ProcessorCount) -> Result<Effor
 }
 
 /// How far the words of `find` ask to look, and for which outcomes. Standard input cannot be both the source and the patterns.
-fn find_of<R: Read + Drop, F: Fn(&str) -> Option<R>>(
+fn find_of<O: Opener>(
     alloc: Global,
     words: &ArgMatches<'_>,
     processors: ProcessorCount,
-    opener: &F,
+    opener: &O,
 ) -> Result<Task, Refusal>
-    requires { F.IsAlwaysCallable opener.now }
     ensures { IfOk result
-        (IsFindTold (IsStandardText (FnReturnsAt F.Fn opener.now) R.remaining) (found_of words.now)
+        (IsFindTold (IsStandardText (O.opens opener.now) O.Reader.remaining) (found_of words.now)
         processors.number) }
 {
     let effort = effort_of(words, processors)?;

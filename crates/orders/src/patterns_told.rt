@@ -1,38 +1,35 @@
 //! The patterns that the words of the command line tell.
 
 ghost use Rattle.std.specs.Prelude.{◌≡◌, IfOk, map};
-ghost use Rattle.std.specs.Fn.{FnReturnsAt};
 ghost use Rattle.patterns.specs.PatternText.{pattern_text};
 ghost use Rattle.orders.specs.Inputs.{IsStandardText};
 ghost use Rattle.orders.specs.PatternTexts as spec;
 ghost use Rattle.orders.specs.PatternTexts.{AreTextsOf};
 
-use crate::inputs::{STANDARD_INPUT, bytes_of, is_standard};
+use crate::inputs::{Opener, STANDARD_INPUT, bytes_of, is_standard};
 use crate::refusals::Refusal;
 use patterns::{Pattern, read_pattern};
 use reglang::split_line;
 use std::alloc::Global;
-use std::io::Read;
 
 /// What stands before an outcome in a report.
 const LABEL: &[u8] = b"outcome ";
 
-/// The patterns of the words that stand where patterns do; or where that is one dash, of the lines of standard input, which `opener` gives for it.
+/// The patterns of the words that stand where patterns do; or where that is one dash, of the lines of standard input, which `opener` opens by it.
 /// The first text that no pattern has is refused, and standard input without a line.
-pub fn patterns_told<R: Read + Drop, F: Fn(&str) -> Option<R>>(
+pub fn patterns_told<O: Opener>(
     alloc: Global,
     words: &[&str],
-    opener: &F,
+    opener: &O,
 ) -> Result<Vec<Pattern>, Refusal>
-    requires { F.IsAlwaysCallable opener.now }
     ensures { IfOk result
-        (λ patterns. AreTextsOf (IsStandardText (FnReturnsAt F.Fn opener.now) R.remaining)
+        (λ patterns. AreTextsOf (IsStandardText (O.opens opener.now) O.Reader.remaining)
         (map (λ word. word.now) words.now) (map pattern_text patterns.items)) }
 {
     if !are_standard(words) {
         return patterns_of(alloc, words);
     }
-    let Some(file) = opener(STANDARD_INPUT) else {
+    let Some(file) = opener.open(STANDARD_INPUT) else {
         return Err(Refusal::File);
     };
     match bytes_of(alloc, file) {

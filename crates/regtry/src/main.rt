@@ -1,16 +1,43 @@
 //! Explores register algorithms under all bounded schedules, and replays one.
 #![tactic(auto)]
 
-use cli::{command, input_of, perform, words_of};
+ghost use Rattle.std.specs.Prelude.{◌≡◌, Some, true};
+ghost use Rattle.orders.specs.Inputs.{is_standard};
+ghost use Rattle.orders.specs.declared.inputs.Input.TheVariants as input;
+
+use cli::{Input, Opener, command, input_of, perform, words_of};
 use std::fs;
+use std::fs::File;
+use std::io::Stdin;
 use std::process::ExitCode;
 
+/// The files of the system, and its standard input.
+#[derive(Drop)]
+struct System<'a> {
+    rt: &'a HostRuntime,
+    standard: Stdin,
+}
+
+impl Opener for System<'_> {
+    type Reader = Input<Stdin, File>;
+
+    ghost opens = { λ system path file. is_standard path ≡ true → file ≡ Some (input.Standard system.standard) };
+
+    fn open(&self, path: &str) -> Option<Input<Stdin, File>> {
+        let rt = self.rt;
+        input_of(path, self.standard, |path: &str| fs::open(rt, path).ok())
+    }
+}
+
 fn main(rt: HostRuntime) -> ExitCode {
-    let open = |path: &str| input_of(path, rt.stdin(), |path: &str| fs::open(&rt, path).ok());
+    let system = System {
+        rt: &rt,
+        standard: rt.stdin(),
+    };
     let (mut out, mut err) = (rt.stdout(), rt.stderr());
     let words = words_of(&rt);
-    let request = command(&rt, &words, &open, &mut err);
-    ExitCode::from(perform(&rt, rt.alloc(), request, &open, &mut out, &mut err))
+    let request = command(&rt, &words, &system, &mut err);
+    ExitCode::from(perform(&rt, rt.alloc(), request, &system, &mut out, &mut err))
 }
 
 #[cfg(test)]

@@ -1,6 +1,8 @@
 //! What no run of the program shows: writers that take nothing or pass nothing on, and what the words ask for.
 
-use cli::{Refusal, Request, Task, command, perform};
+ghost use Rattle.std.specs.Prelude.{◌≡◌, Some};
+
+use cli::{Opener, Refusal, Request, Task, command, perform};
 use std::alloc::Global;
 use std::io;
 use std::io::Write;
@@ -44,6 +46,20 @@ const TELLING: [&str; 3] = [
     "regtry explore FILE --least --length 2 --crashes 1 --cut 2 --room 16 --workers 2",
     "regtry check FILE --crashes 1 --workers 2",
 ];
+
+/// A file that is opened by each path.
+#[derive(Drop)]
+struct OneFile(&'static [u8]);
+
+impl Opener for OneFile {
+    type Reader = &'static [u8];
+
+    ghost opens = { λ one _ file. file ≡ Some one.0 };
+
+    fn open(&self, _path: &str) -> Option<&'static [u8]> {
+        Some(self.0)
+    }
+}
 
 /// A writer that takes no byte.
 #[derive(Drop)]
@@ -94,9 +110,9 @@ fn asked<H: Threads + Wait + Sync + AllocGlobal, W: Write, E: Write + Send>(
     err: &mut E,
 ) -> u8 {
     let words = list_of(rt.alloc(), words);
-    let open = |_path: &str| Some(file);
-    let request = command(rt, &words, &open, err);
-    perform(rt, rt.alloc(), request, &open, out, err)
+    let opener = OneFile(file);
+    let request = command(rt, &words, &opener, err);
+    perform(rt, rt.alloc(), request, &opener, out, err)
 }
 
 /// Asserts that a fault of this writer is told.
@@ -146,7 +162,7 @@ fn each_option_says_its_own_setting(rt: HostRuntime) -> Result<(), Fail> {
     for (last, interpreted) in [(Some("--text"), true), (None, false)] {
         let mut err = Vec::new(rt.alloc());
         let words = list_of(rt.alloc(), Words { first, last });
-        let request = command(&rt, &words, &|_path: &str| Some(SPLITTER), &mut err);
+        let request = command(&rt, &words, &OneFile(SPLITTER), &mut err);
         let Ok(Request::Order(order)) = request else {
             return Err(Fail::from("refused words"));
         };
