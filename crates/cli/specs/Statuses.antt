@@ -1,5 +1,5 @@
 -- The statuses with which the program tells that there is no answer.
-use Rattle.std.specs.Prelude.{◌≡◌, ◌⊎◌, ℕ}
+use Rattle.std.specs.Prelude.{ℕ}
 use Rattle.orders.specs.Statuses as orders
 use Rattle.cli.specs.declared.faults.AnswerFault.{AnswerFault}
 use Rattle.cli.specs.declared.faults.AnswerFault.TheVariants.{Refused, Misfit, Source, Letter, Merge, Run, Write}
@@ -13,8 +13,3 @@ status_of (Letter refused) = 2
 status_of (Merge fault) = 2
 status_of (Run code) = 3
 status_of Write = 3
-
--- the status that tells why there is no answer, one of these two
-pub record IsStatusOf (fault : AnswerFault) (status : ℕ) : Type 0 where
-  pub value : status ≡ status_of fault
-  pub known : (status ≡ 2) ⊎ (status ≡ 3)

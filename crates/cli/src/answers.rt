@@ -5,12 +5,12 @@ ghost use Rattle.texts.specs.Appending.{Writes};
 ghost use Rattle.findings.specs.FindingText.{finding_text};
 ghost use Rattle.cli.specs.Findings.{HasBeginning, IsAnswered, IsCutShort, IsRefusedWith, IsUnanswered};
 
-use crate::faults::{AnswerFault, refuse};
+use crate::faults::AnswerFault;
 use crate::progress::Progress;
 use crate::tasks::found;
-use crate::wording::{explain, refuse_in_words};
+use explanations::write_explanation;
 use findings::Finding;
-use orders::{Question, Refusal, bytes_of};
+use orders::{Question, Refusal, bytes_of, refuse};
 use std::alloc::Global;
 use std::io::{Read, Write};
 use std::sync::Wait;
@@ -48,8 +48,7 @@ pub fn answer<H: Threads + Wait + Sync, R: Read + Drop, W: Write, E: Write + Sen
     };
     match written {
         Ok(fails) => u8::from(fails),
-        Err(fault) if question.task.is_in_words() => refuse_in_words(question.path, &fault, err),
-        Err(fault) => refuse(&fault, err),
+        Err(fault) => refuse(&fault, question.subject(), err),
     }
 }
 
@@ -82,7 +81,8 @@ fn written<H: Threads + Wait + Sync, R: Read + Drop, W: Write, E: Write + Send>(
     Ok(finding.fails())
 }
 
-/// Why nothing is found of a text. Where refusals are told in words, a refused source is explained.
+/// Why nothing is found of a text. Where refusals are told in words, it is written what is wrong with the text of a refused source, as far as that
+/// can be written.
 fn explained<E: Write>(
     question: &Question<'_>,
     text: &[u8],
@@ -91,8 +91,10 @@ fn explained<E: Write>(
 ) -> AnswerFault
     ensures { result ≡ fault }
 {
-    if question.task.is_in_words() {
-        explain(question.path, text, &fault, err);
+    if let Some(path) = question.subject() {
+        if let AnswerFault::Source(rejection) = &fault {
+            let _ = write_explanation(path.as_bytes(), text, rejection, err);
+        }
     }
     fault
 }

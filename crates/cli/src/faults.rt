@@ -1,16 +1,16 @@
-//! Why there is no answer, and the status that tells it.
+//! Why there is no answer.
 
 ghost use Rattle.std.specs.Prelude.{◌≡◌};
 ghost use Rattle.orders.specs.declared.refusals.Refusal.TheVariants.{Memory};
 ghost use Rattle.cli.specs.declared.faults.AnswerFault.TheVariants.{Refused};
-ghost use Rattle.cli.specs.Statuses.{IsStatusOf};
 
 use crate::standings::RefusedLetter;
 use merging::MergeFault;
-use orders::Refusal;
+use orders::{Reason, Refusal};
 use reglang::Rejection;
-use regmodel::OutOfMemory;
+use regmodel::{End, OutOfMemory};
 use std::alloc::AllocFailed;
+use std::io;
 use std::io::Write;
 use thiserror::Error;
 
@@ -40,11 +40,12 @@ pub enum AnswerFault {
     Write,
 }
 
-impl AnswerFault {
-    /// 2 where what was asked is refused, 3 where it could not be done.
-    pub fn status(&self) -> u8
-        ensures { IsStatusOf self.now result }
-    {
+impl Reason for AnswerFault {
+    ghost use Rattle.cli.specs.Statuses as statuses;
+
+    ghost status_of = { statuses.status_of };
+
+    fn status(&self) -> u8 {
         match self {
             AnswerFault::Refused(refusal) => refusal.status(),
             AnswerFault::Misfit(_)
@@ -52,6 +53,28 @@ impl AnswerFault {
             | AnswerFault::Letter(_)
             | AnswerFault::Merge(_) => 2,
             AnswerFault::Run(_) | AnswerFault::Write => 3,
+        }
+    }
+
+    /// Nothing is written of a source, which is explained where it is read.
+    fn write_words<E: Write>(&self, subject: &str, err: &mut E) -> io::Result<()> {
+        match self {
+            AnswerFault::Refused(refusal) => refusal.write_words(subject, err),
+            AnswerFault::Misfit(place) => writeln!(
+                err,
+                "{subject}: pattern {} has not as many standings as the source has processes: write one for each process, parted by '; ', as 'done 1; *'",
+                place.saturating_add(1)
+            ),
+            AnswerFault::Source(_) => Ok(()),
+            AnswerFault::Letter(refused) => writeln!(
+                err,
+                "{subject}: letter {} of the schedule is not possible there: {}",
+                refused.place.saturating_add(1),
+                hindrance(refused)
+            ),
+            AnswerFault::Merge(fault) => writeln!(err, "{subject}: {fault}"),
+            AnswerFault::Run(code) => writeln!(err, "{subject}: {}", run_fault(*code)),
+            AnswerFault::Write => writeln!(err, "the answer could not be written"),
         }
     }
 }
@@ -80,10 +103,22 @@ impl<T: Drop> From<AllocFailed<T>> for AnswerFault {
     }
 }
 
-/// Writes the line of a fault, and gives its status, also where the line could not be written.
-pub fn refuse<E: Write>(fault: &AnswerFault, err: &mut E) -> u8
-    ensures { IsStatusOf fault.now result }
-{
-    let _ = writeln!(err, "regtry: {fault}");
-    fault.status()
+/// Why a letter is not possible, by how its process stands.
+fn hindrance(refused: &RefusedLetter) -> &'static str {
+    match &refused.fate {
+        None => "the source has no such process",
+        Some(End::Crashed) => "its process has crashed",
+        Some(End::Done(_)) => "its process is done",
+        Some(End::Fault(_)) => "its process is at fault",
+        Some(End::Running) => "its process cannot take that letter",
+    }
+}
+
+/// Why there is no report, by the code of the run.
+fn run_fault(code: u8) -> &'static str {
+    match code {
+        1 => "memory ran out while exploring",
+        2 => "there are more schedules than can be counted",
+        _ => "a worker's thread could not be started",
+    }
 }

@@ -14,11 +14,10 @@ mod searches;
 mod shortest;
 mod standings;
 mod tasks;
-mod wording;
 
 pub use answers::answer;
 pub use orders::{
-    Bound, Input, MOST_BYTES, Opener, Order, Question, Refusal, Request, Task, command, input_of,
-    refuse, words_of,
+    Bound, Input, MOST_BYTES, Opener, Order, Question, Reason, Refusal, Request, Task, command,
+    input_of, refuse, words_of,
 };
 pub use program::perform;

@@ -8,9 +8,8 @@ ghost use Rattle.cli.specs.Findings.{HasBeginning};
 ghost use Rattle.cli.specs.Merges.{AreMergedIn};
 
 use crate::faults::AnswerFault;
-use crate::wording::refuse_in_words;
 use merging::{MergeFault, Merged, merge_parts, write_merged};
-use orders::Refusal;
+use orders::{Refusal, refuse};
 use std::alloc::Global;
 use std::io::{BufReader, Read, Write};
 
@@ -28,11 +27,11 @@ pub fn merge_file<R: Read + Drop, W: Write, E: Write>(
 {
     let merged = match merged_in(alloc, file) {
         Ok(merged) => merged,
-        Err(fault) => return refuse_in_words(path, &fault, err),
+        Err(fault) => return refuse(&fault, Some(path), err),
     };
     match tell(&merged, out) {
         Ok(()) => u8::from(merged.fails()),
-        Err(fault) => refuse_in_words(path, &fault, err),
+        Err(fault) => refuse(&fault, Some(path), err),
     }
 }
 

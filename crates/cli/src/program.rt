@@ -3,10 +3,10 @@
 ghost use Rattle.cli.specs.Performing.{AreAnswered, IsOpened, IsPerformed, IsVersionTold};
 
 use crate::answers::answer;
-use crate::faults::{AnswerFault, refuse};
+use crate::faults::AnswerFault;
 use crate::merges::merge_file;
 use command_words::VERSION;
-use orders::{Opener, Order, Question, Request, worse};
+use orders::{Opener, Order, Question, Request, refuse, worse};
 use std::alloc::Global;
 use std::io::Write;
 use std::sync::Wait;
@@ -41,10 +41,10 @@ fn tell_version<W: Write, E: Write>(out: &mut W, err: &mut E) -> u8
     ensures { IsVersionTold W.contents out.old out.new result }
 {
     if write(&("regtry ", VERSION, "\n"), out).is_err() {
-        return refuse(&AnswerFault::Write, err);
+        return refuse(&AnswerFault::Write, None, err);
     }
     if out.flush().is_err() {
-        return refuse(&AnswerFault::Write, err);
+        return refuse(&AnswerFault::Write, None, err);
     }
     0
 }

@@ -3,4 +3,5 @@ pub mod Inputs
 pub mod NumberTexts
 pub mod Orders
 pub mod PatternTexts
+pub mod Reasons
 pub mod Statuses

@@ -1,5 +1,5 @@
 -- The statuses with which the program tells that the words of the command line, or what they name, are refused.
-use Rattle.std.specs.Prelude.{◌≡◌, ◌≢◌, ◌⊎◌, ℕ, List}
+use Rattle.std.specs.Prelude.{◌≡◌, ◌≢◌, ℕ, List}
 use Rattle.regmodel.specs.declared.letters.Letter.{Letter}
 use Rattle.regmodel.specs.Prefixes.{FitsPrefix}
 use Rattle.regmodel.specs.ScheduleText.{schedule_text}
@@ -19,11 +19,6 @@ status_of TwiceStandard = 2
 status_of File = 2
 status_of LongFile = 2
 status_of Memory = 3
-
--- the status that tells of a refusal, one of these two
-pub record IsStatusOf (refusal : Refusal) (status : ℕ) : Type 0 where
-  pub value : status ≡ status_of refusal
-  pub known : (status ≡ 2) ⊎ (status ≡ 3)
 
 -- the refusal of a text that no schedule has
 pub record IsNoSchedule (text : List ℕ) (refusal : Refusal) : Type 0 where

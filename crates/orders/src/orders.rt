@@ -13,9 +13,9 @@ use crate::inputs::{Opener, STANDARD_INPUT, is_standard};
 use crate::options::{has_flag, is_native, number_of};
 use crate::parts_told::part_told;
 use crate::patterns_told::{are_standard, patterns_told};
-use crate::refusals::{Refusal, refuse};
+use crate::reasons::refuse;
+use crate::refusals::Refusal;
 use crate::tasks::Task;
-use crate::wording::refuse_in_words;
 use clap::ArgMatches;
 use clap::error::ErrorKind;
 use command_words::matches_of;
@@ -66,7 +66,7 @@ pub fn command<'a, H: Threads + AllocGlobal, S: AsStr, O: Opener, E: Write>(
 {
     let words = match words {
         Ok(words) => words.as_slice(),
-        Err(refusal) => return Err(refuse(refusal, err)),
+        Err(refusal) => return Err(refuse(refusal, None, err)),
     };
     match matches_of(rt.alloc(), words) {
         Ok(matches) => {
@@ -127,11 +127,11 @@ fn order_of<'a, H: Threads + AllocGlobal, O: Opener, E: Write>(
         },
         Err(refusal) => refusal,
     };
-    if name == "check" || name == "find" || name == "show" {
-        let subject = subject_of(words, &refusal);
-        return Err(refuse_in_words(subject, &refusal, err));
-    }
-    Err(refuse(&refusal, err))
+    let subject = match name {
+        "check" | "find" | "show" => Some(subject_of(words, &refusal)),
+        _ => None,
+    };
+    Err(refuse(&refusal, subject, err))
 }
 
 /// Of what a refusal of words tells: the text that is given for a bound, or standard input, of which patterns are read.

@@ -1,13 +1,22 @@
-//! What is refused of the words of the command line and of what they name, and the status that tells it.
+//! What is refused of the words of the command line and of what they name.
 
 ghost use Rattle.std.specs.Prelude.{◌≡◌};
 ghost use Rattle.orders.specs.declared.refusals.Refusal.TheVariants.{Memory};
-ghost use Rattle.orders.specs.Statuses.{IsStatusOf};
 
 use crate::bounds::Bound;
+use crate::reasons::Reason;
 use std::alloc::AllocFailed;
+use std::io;
 use std::io::Write;
 use thiserror::Error;
+
+/// How a schedule is written.
+const LETTERS: &str =
+    "write at most 64 letters parted by one space, each R or C and the number of a process, 0 to 7, or . for none";
+
+/// How a standing of a pattern is written.
+const STANDINGS: &str =
+    "write 1 to 8 of them, parted by '; ', each * or done * or a standing of a report, as done 1 20, fault 1, crashed or running, with idle behind it where the process took no step";
 
 /// What is refused, in one line.
 #[derive(Debug, Drop, Error)]
@@ -47,11 +56,12 @@ pub enum Refusal {
     Memory,
 }
 
-impl Refusal {
-    /// 2 where what was asked is refused, 3 where it could not be done.
-    pub fn status(&self) -> u8
-        ensures { IsStatusOf self.now result }
-    {
+impl Reason for Refusal {
+    ghost use Rattle.orders.specs.Statuses as statuses;
+
+    ghost status_of = { statuses.status_of };
+
+    fn status(&self) -> u8 {
         match self {
             Refusal::Words
             | Refusal::Setting(_)
@@ -66,6 +76,50 @@ impl Refusal {
             Refusal::Memory => 3,
         }
     }
+
+    fn write_words<E: Write>(&self, subject: &str, err: &mut E) -> io::Result<()> {
+        match self {
+            Refusal::Words => write_line("", "a word of the command line is not UTF-8", err),
+            Refusal::Setting(code) => writeln!(err, "setting {code} is past its limit"),
+            Refusal::Bound(bound) => writeln!(
+                err,
+                "--{} takes a number from {} to {}, not '{subject}'",
+                bound.name(),
+                bound.least(),
+                bound.most()
+            ),
+            Refusal::Schedule => write_line("this is no schedule: ", LETTERS, err),
+            Refusal::Pattern(place, standing) => writeln!(
+                err,
+                "pattern {}, standing {}: this is no way in which a process can stand: {STANDINGS}",
+                place.saturating_add(1),
+                standing.saturating_add(1)
+            ),
+            Refusal::PatternLine(place, standing) => writeln!(
+                err,
+                "{subject}:{}: standing {}: this is no way in which a process can stand: {STANDINGS}",
+                place.saturating_add(1),
+                standing.saturating_add(1)
+            ),
+            Refusal::NoPattern => write_line(
+                subject,
+                ": there is no pattern: write one a line",
+                err,
+            ),
+            Refusal::TwiceStandard => write_line(
+                subject,
+                " stands for standard input, which cannot be both the source and the patterns",
+                err,
+            ),
+            Refusal::File => write_line(subject, ": the file cannot be read", err),
+            Refusal::LongFile => write_line(
+                subject,
+                ": the file is longer than 1048576 bytes",
+                err,
+            ),
+            Refusal::Memory => write_line("", "memory ran out", err),
+        }
+    }
 }
 
 impl<T: Drop> From<AllocFailed<T>> for Refusal {
@@ -76,10 +130,7 @@ impl<T: Drop> From<AllocFailed<T>> for Refusal {
     }
 }
 
-/// Writes the line of a refusal, and gives its status, also where the line could not be written.
-pub fn refuse<E: Write>(refusal: &Refusal, err: &mut E) -> u8
-    ensures { IsStatusOf refusal.now result }
-{
-    let _ = writeln!(err, "regtry: {refusal}");
-    refusal.status()
+/// Writes a line of a beginning and what is behind it.
+fn write_line<E: Write>(beginning: &str, words: &str, err: &mut E) -> io::Result<()> {
+    writeln!(err, "{beginning}{words}")
 }

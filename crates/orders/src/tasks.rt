@@ -94,3 +94,14 @@ pub struct Question<'a> {
     /// Whether it is to be told meanwhile how far it has come.
     pub progress: bool,
 }
+
+impl<'a> Question<'a> {
+    /// Of what it is told in words why there is no answer: of the path; None where that is told in one line.
+    pub fn subject(&self) -> Option<&'a str> {
+        if self.task.is_in_words() {
+            Some(self.path)
+        } else {
+            None
+        }
+    }
+}

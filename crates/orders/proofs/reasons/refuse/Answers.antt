@@ -1,4 +1,4 @@
-use Rattle.orders.proofs.refusals.refuse.Goals as goal
+use Rattle.orders.proofs.reasons.refuse.Goals as goal
 
 pub returns : goal.returns
 returns g c = c.status.ensures
