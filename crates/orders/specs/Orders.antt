@@ -18,23 +18,11 @@ use Rattle.orders.specs.declared.tasks.Task.{Task}
 use Rattle.orders.specs.declared.bounds.TheConstants.{CACHE, MOST_CACHE, ROOM, SHARED_CUT}
 use Rattle.orders.specs.declared.tasks.Task.TheVariants.{Check, Explore, Least, Find, Replay, Show}
 
--- to replay the schedule of this text
-abbrev pub IsReplayOf : List ℕ → Task → Type 0
-IsReplayOf text (Check effort native allows_faults shortest) = ⊥
-IsReplayOf text (Explore effort native part) = ⊥
-IsReplayOf text (Least effort native part) = ⊥
-IsReplayOf text (Find effort native patterns) = ⊥
-IsReplayOf text (Replay schedule) = schedule_text schedule ≡ text
-IsReplayOf text (Show schedule all) = ⊥
-
--- to draw the schedule of this text, with all registers or with those that fit
-abbrev pub IsShowOf : List ℕ → Bool → Task → Type 0
-IsShowOf text all (Check effort native allows_faults shortest) = ⊥
-IsShowOf text all (Explore effort native part) = ⊥
-IsShowOf text all (Least effort native part) = ⊥
-IsShowOf text all (Find effort native patterns) = ⊥
-IsShowOf text all (Replay schedule) = ⊥
-IsShowOf text all (Show schedule with_all) = (schedule_text schedule ≡ text) × (with_all ≡ all)
+-- to draw the schedule of this text, with all registers or with those that fit, or else to replay it
+abbrev pub IsWalk : List ℕ → Bool → Bool → Task → Type 0
+IsWalk text draws all (Replay schedule) = (schedule_text schedule ≡ text) × (draws ≡ false)
+IsWalk text draws all (Show schedule with_all) = (schedule_text schedule ≡ text) × (draws ≡ true) × (with_all ≡ all)
+IsWalk text draws all _ = ⊥
 
 -- the number that a text writes, where it writes one; else another one
 pub record IsNumberIn (text : List ℕ) (other n : ℕ) : Type 0 where

@@ -2,11 +2,10 @@
 
 ghost use Rattle.std.specs.Prelude.{◌≡◌, ◌⊎◌, Err, IfErr, IfOk, map};
 ghost use Rattle.clap.specs.Words.{found_of, one_text};
-ghost use Rattle.regmodel.specs.ScheduleText.{schedule_text};
 ghost use Rattle.orders.specs.Bounds.{IsBoundRefused};
-ghost use Rattle.orders.specs.Orders.{IsCheck, IsEffortTold, IsExploration, IsFindTold, IsReplayOf, IsShowOf, texts_told, word_told};
+ghost use Rattle.orders.specs.Orders.{IsCheck, IsEffortTold, IsExploration, IsFindTold, IsWalk, texts_told, word_told};
 ghost use Rattle.orders.specs.Inputs.{IsStandardText};
-ghost use Rattle.orders.specs.Statuses.{IsNoSchedule, status_of};
+ghost use Rattle.orders.specs.Statuses.{IsNoSchedule, IsSettingRefused, status_of};
 
 use crate::bounds::{Bound, CACHE, MOST_CACHE, ProcessorCount, bound_of, bounds_of, processors};
 use crate::inputs::{Opener, STANDARD_INPUT, is_standard};
@@ -19,7 +18,7 @@ use crate::tasks::Task;
 use clap::ArgMatches;
 use clap::error::ErrorKind;
 use command_words::matches_of;
-use regmodel::{Prefix, Settings, read_schedule};
+use regmodel::{Settings, read_schedule};
 use report::Effort;
 use std::alloc::Global;
 use std::convert::AsStr;
@@ -107,9 +106,9 @@ fn order_of<'a, H: Threads + AllocGlobal, O: Opener, E: Write>(
     let task = match name {
         "check" => check_of(words, processors(rt)),
         "find" => find_of(rt.alloc(), words, processors(rt), opener),
-        "replay" => replay_of(words.get_str("SCHEDULE").unwrap_or("")),
-        "show" => show_of(
+        "replay" | "show" => walk_of(
             words.get_str("SCHEDULE").unwrap_or(""),
+            name == "show",
             words.get_flag("all"),
         ),
         _ => exploration_of(words),
@@ -206,7 +205,7 @@ fn pattern_words<'a>(words: &'a ArgMatches<'_>) -> &'a [&'a str]
 fn exploration_of(words: &ArgMatches<'_>) -> Result<Task, Refusal>
     ensures ok { IfOk result
         (IsExploration (one_text (found_of words.now)) (word_told (found_of words.now))) }
-    ensures err { IfErr result (λ refusal. status_of refusal ≡ 2) }
+    ensures err { IfErr result IsSettingRefused }
 {
     let settings = Settings::new(
         number_of(words, "length"),
@@ -240,35 +239,16 @@ fn exploration_of(words: &ArgMatches<'_>) -> Result<Task, Refusal>
     })
 }
 
-/// To replay the schedule of this text.
-fn replay_of(text: &str) -> Result<Task, Refusal>
-    ensures ok { IfOk result (λ task. IsReplayOf text.now task) }
+/// To draw the schedule of this text, with all registers or with those that fit, or else to replay it.
+fn walk_of(text: &str, draws: bool, all: bool) -> Result<Task, Refusal>
+    ensures ok { IfOk result (IsWalk text.now draws all) }
     ensures refused { IfErr result (IsNoSchedule text.now) }
 {
-    match schedule_of(text) {
-        Ok(schedule) => Ok(Task::Replay { schedule }),
-        Err(refusal) => Err(refusal),
+    let Some(schedule) = read_schedule(text.as_bytes()) else {
+        return Err(Refusal::Schedule);
+    };
+    if draws {
+        return Ok(Task::Show { schedule, all });
     }
-}
-
-/// To draw the schedule of this text.
-fn show_of(text: &str, all: bool) -> Result<Task, Refusal>
-    ensures ok { IfOk result (λ task. IsShowOf text.now all task) }
-    ensures refused { IfErr result (IsNoSchedule text.now) }
-{
-    match schedule_of(text) {
-        Ok(schedule) => Ok(Task::Show { schedule, all }),
-        Err(refusal) => Err(refusal),
-    }
-}
-
-/// The schedule of this text.
-fn schedule_of(text: &str) -> Result<Prefix, Refusal>
-    ensures ok { IfOk result (λ schedule. schedule_text schedule ≡ text.now) }
-    ensures refused { IfErr result (IsNoSchedule text.now) }
-{
-    match read_schedule(text.as_bytes()) {
-        Some(schedule) => Ok(schedule),
-        None => Err(Refusal::Schedule),
-    }
+    Ok(Task::Replay { schedule })
 }
