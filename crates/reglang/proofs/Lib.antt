@@ -6,6 +6,7 @@ mod FirstWords
 mod Fits
 mod Frames
 mod Joins
+mod KnownSpellings
 mod Leads
 mod LineWords
 mod Memory

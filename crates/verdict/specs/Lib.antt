@@ -1,5 +1,6 @@
 pub mod Breaches
 pub mod Demands
+pub mod Drawn
 pub mod Examples
 pub mod FaultText
 pub mod Faults

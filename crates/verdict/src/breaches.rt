@@ -5,23 +5,22 @@ ghost use Rattle.regmodel.specs.Judging.{meets_all};
 ghost use Rattle.report.specs.PlainCheck.{IsPlainCheck};
 ghost use Rattle.report.specs.PlainReport.{IsPlainLeast};
 ghost use Rattle.regmodel.specs.Schedules.{IsSchedule};
-ghost use Rattle.reglang.specs.Grammar.{Spells};
 ghost use Rattle.reglang.specs.Sources.{contents_of, registers_of, source_programs};
-ghost use Rattle.drawing.specs.Pictures.{IsPictureOf};
 ghost use Rattle.verdict.specs.Breaches.{IsBreachOf, IsBrokenLine, IsCauseOf};
 ghost use Rattle.verdict.specs.Demands.{clauses_asked, demands_of, meets_demands};
 ghost use Rattle.verdict.specs.Verdicts.{IsVerdictFor};
-ghost use Rattle.world.specs.Sound.{IsSameWorld, IsSoundWorld, budget_of, letters_of, register_count_of, world_programs};
+ghost use Rattle.verdict.specs.Drawn.{IsDrawn};
+ghost use Rattle.world.specs.Sound.{IsSoundWorld, budget_of, world_programs};
 
 use crate::demands::{Asked, Strictness, asked_of, first_broken};
 use crate::faults::{ProcessFault, first_fault};
 use crate::gaps::{Gap, gaps_of};
 use crate::onsets::onset_of;
+use crate::spellings::Spelling;
 use arrayvec::ArrayVec;
 use drawing::{Drawing, draw};
 use explanations::check_line;
 use machine::Machine;
-use reglang::Source;
 use regmodel::laws::the_first_refused_is_a_schedule;
 use regmodel::{Outcome, Prefix, Settings};
 use report::{Checked, Exploration, Least};
@@ -90,18 +89,18 @@ impl Verdict {
 /// Whether the source holds that a text spells, and what its least failing schedule breaks, where one fails. The machines, one a process,
 /// lead to its drawing. Takes no memory.
 pub fn verdict_on(
-    text: &[u8],
-    source: &Source,
+    spelling: &Spelling<'_>,
     machines: Vec<Box<dyn Machine + Send>>,
     settings: Settings,
     allows_faults: bool,
     checked: Checked,
 ) -> Verdict
-    requires machines { map program machines.items ≡ source_programs source.now }
-    requires spelled { Spells text.now (contents_of source.now) }
-    requires checked { IsPlainCheck (source_programs source.now) settings.length settings.crashes
-        (meets_demands (contents_of source.now).clauses allows_faults) checked }
-    ensures { IsVerdictFor text.now (contents_of source.now) allows_faults checked result }
+    requires machines { map program machines.items ≡ source_programs spelling.now.source.now }
+    requires checked { IsPlainCheck (source_programs spelling.now.source.now)
+        settings.length settings.crashes
+        (meets_demands (contents_of spelling.now.source.now).clauses allows_faults) checked }
+    ensures { IsVerdictFor spelling.now.text.now (contents_of spelling.now.source.now)
+        allows_faults checked result }
 {
     match checked {
         Checked::Fails(least) => {
@@ -109,13 +108,13 @@ pub fn verdict_on(
                 asks_ended: true,
                 allows_faults,
             };
-            Verdict::Fails(breach_for(text, source, machines, settings, strictness, &least))
+            Verdict::Fails(breach_for(spelling, machines, settings, strictness, &least))
         }
         Checked::Holds(exploration) => {
-            let clauses = source.clauses().list();
+            let clauses = spelling.source.clauses().list();
             Verdict::Holds(Held {
                 asked: asked_of(clauses, allows_faults),
-                gaps: gaps_of(text, clauses, &exploration),
+                gaps: gaps_of(spelling.text, clauses, &exploration),
                 exploration,
             })
         }
@@ -125,44 +124,45 @@ pub fn verdict_on(
 /// What the least schedule breaks that fails when judged so strictly, which there is. The machines, one a process, lead to its drawing.
 /// Takes no memory.
 pub fn breach_for(
-    text: &[u8],
-    source: &Source,
+    spelling: &Spelling<'_>,
     machines: Vec<Box<dyn Machine + Send>>,
     settings: Settings,
     strictness: Strictness,
     least: &Least,
 ) -> Breach
-    requires machines { map program machines.items ≡ source_programs source.now }
-    requires spelled { Spells text.now (contents_of source.now) }
-    requires least { IsPlainLeast (source_programs source.now) settings.length settings.crashes
-        (demands_of strictness (contents_of source.now).clauses) least.now }
+    requires machines { map program machines.items ≡ source_programs spelling.now.source.now }
+    requires least { IsPlainLeast (source_programs spelling.now.source.now)
+        settings.length settings.crashes
+        (demands_of strictness (contents_of spelling.now.source.now).clauses) least.now }
     requires fails { is_some least.now.least ≡ true }
     ensures { IfSome least.now.least
-        (λ l. IsBreachOf text.now (contents_of source.now) strictness l.0 l.1 result) }
+        (λ l. IsBreachOf spelling.now.text.now (contents_of spelling.now.source.now) strictness
+        l.0 l.1 result) }
 {
     the_first_refused_is_a_schedule();
     let Some((schedule, outcome)) = least.least() else {
         unreachable!()
     };
+    let source = spelling.source;
     let mut world = World::new(machines, source.registers(), settings.crashes());
     let drawing = drawing_of(&mut world, schedule);
     Breach {
         schedule: schedule.copy(),
-        cause: cause_of(text, source, strictness, outcome),
+        cause: cause_of(spelling, strictness, outcome),
         onset: onset_of(&mut world, source.clauses(), strictness.allows_faults),
         drawing,
     }
 }
 
 /// Why a schedule with this outcome fails when judged so strictly.
-fn cause_of(text: &[u8], source: &Source, strictness: Strictness, outcome: &Outcome) -> Cause
-    requires spelled { Spells text.now (contents_of source.now) }
-    requires refused { demands_of strictness (contents_of source.now).clauses outcome.now ≡ false }
-    ensures { IsCauseOf text.now (contents_of source.now).clauses strictness.asks_ended outcome.now
-        result }
+fn cause_of(spelling: &Spelling<'_>, strictness: Strictness, outcome: &Outcome) -> Cause
+    requires { demands_of strictness (contents_of spelling.now.source.now).clauses outcome.now
+        ≡ false }
+    ensures { IsCauseOf spelling.now.text.now (contents_of spelling.now.source.now).clauses
+        strictness.asks_ended outcome.now result }
 {
     let fault = first_fault(outcome);
-    if let Some(line) = broken_line(text, source, strictness.asks_ended, outcome) {
+    if let Some(line) = broken_line(spelling, strictness.asks_ended, outcome) {
         return Cause::Check { line, fault };
     }
     let Some(fault) = fault else { unreachable!() };
@@ -170,17 +170,19 @@ fn cause_of(text: &[u8], source: &Source, strictness: Strictness, outcome: &Outc
 }
 
 /// The line of the first check of a source that is asked and that an outcome breaks; `ended` may be left out. None where it breaks none.
-fn broken_line(text: &[u8], source: &Source, asks_ended: bool, outcome: &Outcome) -> Option<u64>
-    requires { Spells text.now (contents_of source.now) }
+fn broken_line(spelling: &Spelling<'_>, asks_ended: bool, outcome: &Outcome) -> Option<u64>
     ensures line { IfSome result
-        (IsBrokenLine text.now (contents_of source.now).clauses asks_ended outcome.now) }
+        (IsBrokenLine spelling.now.text.now (contents_of spelling.now.source.now).clauses
+        asks_ended outcome.now) }
     ensures none { IsNone result
-        → meets_all (clauses_asked asks_ended (contents_of source.now).clauses) outcome.now ≡ true }
+        → meets_all (clauses_asked asks_ended (contents_of spelling.now.source.now).clauses)
+        outcome.now ≡ true }
 {
-    let Some(place) = first_broken(source.clauses().list(), asks_ended, outcome) else {
+    spelling.spells();
+    let Some(place) = first_broken(spelling.source.clauses().list(), asks_ended, outcome) else {
         return None;
     };
-    let Some(line) = check_line(text, place) else {
+    let Some(line) = check_line(spelling.text, place) else {
         unreachable!()
     };
     Some(line)
@@ -191,10 +193,7 @@ pub(crate) fn drawing_of(world: &mut World, schedule: &Prefix) -> Drawing
     requires at { IsSoundWorld program rest resumed world.old }
     requires schedule { IsSchedule (world_programs program world.old) (budget_of world.old)
         schedule.now }
-    ensures same { IsSameWorld program rest resumed world.old world.new }
-    ensures drawn { IsPictureOf (world_programs program world.old) (register_count_of world.old)
-        schedule.now result }
-    ensures letters { letters_of world.new ≡ schedule.now }
+    ensures { IsDrawn program rest resumed world.old world.new schedule.now result }
 {
     match draw(world, schedule) {
         Ok(drawing) => drawing,

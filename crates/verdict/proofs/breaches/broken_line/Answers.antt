@@ -8,15 +8,15 @@ use Rattle.verdict.proofs.breaches.broken_line.Goals as goal
 
 pub unreachable-requires : goal.unreachable-requires
 unreachable-requires c =
-    broken_line_is c.args.text.now (contents_of c.args.source.now) c.args.asks_ended c.args.outcome.now c.in-Some.place None
-    (c.in-Some.ensures ∙ ap (position (breaks c.args.asks_ended c.args.outcome.now)) (c.list.ensures.value ∙ c.clauses.ensures.value)) c.in_default-check_line.ensures.number c.requires c.in_default-check_line.ensures.clause
+    broken_line_is c.args.spelling.now.text.now (contents_of c.args.spelling.now.source.now) c.args.asks_ended c.args.outcome.now c.in-Some.place None
+    (c.in-Some.ensures ∙ ap (position (breaks c.args.asks_ended c.args.outcome.now)) (c.list.ensures.value ∙ c.clauses.ensures.value)) c.in_default-check_line.ensures.number c.spells.ensures c.in_default-check_line.ensures.clause
 
 pub returns-clause-line : goal.returns-clause-line
 returns-clause-line c =
-    broken_line_is c.args.text.now (contents_of c.args.source.now) c.args.asks_ended c.args.outcome.now c.in-Some.place (Some c.in-Some-check_line.line)
-    (c.in-Some.ensures ∙ ap (position (breaks c.args.asks_ended c.args.outcome.now)) (c.list.ensures.value ∙ c.clauses.ensures.value)) c.in-Some-check_line.ensures.number c.requires c.in-Some-check_line.ensures.clause
+    broken_line_is c.args.spelling.now.text.now (contents_of c.args.spelling.now.source.now) c.args.asks_ended c.args.outcome.now c.in-Some.place (Some c.in-Some-check_line.line)
+    (c.in-Some.ensures ∙ ap (position (breaks c.args.asks_ended c.args.outcome.now)) (c.list.ensures.value ∙ c.clauses.ensures.value)) c.in-Some-check_line.ensures.number c.spells.ensures c.in-Some-check_line.ensures.clause
 
 pub returns-in_default-clause-none : goal.returns-in_default-clause-none
 returns-in_default-clause-none c =
-    λ _. none_broken c.args.asks_ended (contents_of c.args.source.now).clauses c.args.outcome.now
+    λ _. none_broken c.args.asks_ended (contents_of c.args.spelling.now.source.now).clauses c.args.outcome.now
     (ap (position (breaks c.args.asks_ended c.args.outcome.now)) (sym (c.list.ensures.value ∙ c.clauses.ensures.value)) ∙ sym c.first_broken.ensures ∙ cc)
