@@ -35,5 +35,8 @@ pub fn merge_parts<R: BufRead + Drop>(alloc: Global, reader: R) -> Result<Merged
     while let Some(part) = stream.next_part(alloc)? {
         merger.add(alloc, part)?;
     }
-    merger.into_merged()
+    match merger.into_merged() {
+        Ok(merged) => Ok(merged),
+        Err(missing) => Err(MergeFault::Missing(missing)),
+    }
 }

@@ -2,7 +2,7 @@ use Rattle.std.proofs.Common.{◌∷◌, ◌∙◌, List, reverse, rules}
 use Rattle.std.specs.List.{flat_map}
 use Rattle.std.specs.Io.KnownBytes.{Consumes, IsAtEnd}
 use Rattle.std.proofs.lemmas.List.Elements.{All-head}
-use Rattle.std.proofs.lemmas.Result.{IfErr-weaker, err_from_is_err_and}
+use Rattle.std.proofs.lemmas.Result.{err_from_is_err_and}
 use Rattle.part_texts.specs.FitsPart.{FitsPart}
 use Rattle.part_texts.specs.PartText.{part_text}
 use Rattle.part_texts.specs.declared.parts.PartReport.{PartReport}
@@ -60,11 +60,8 @@ returns-in_err-add-clause-whole g c =
     let next = next_goes_with _ _ _ c.loop-merger.merger kept c.in-Some-2.part first others fits taken m e in
     no_fault_of_more _ _ c.in_err-add.field-0.0 next.1 (c.in_err-add.ensures.whole kept.first kept.others kept.holds next.0))
 
-pub returns-clause-nothing : goal.returns-clause-nothing
-returns-clause-nothing g c = IfErr-weaker c.into_merged.result _ _ (λ fault there e. absurd (there e)) c.into_merged.ensures.there
-
 pub returns-clause-whole : goal.returns-clause-whole
 returns-clause-whole g c =
     let kept = c.loop-merger.invariant in
     let end : IsAtEnd (g.R.Read.remaining c.loop-merger.stream.reader) = search rules in
-    IfErr-weaker c.into_merged.result _ _ (λ fault whole first others m e. absurd (whole kept.first kept.others kept.holds (all_held _ _ c.loop-merger.merger kept first others m e end))) c.into_merged.ensures.whole
+    λ first others m e. absurd (c.in-Err.ensures.whole kept.first kept.others kept.holds (all_held _ _ c.loop-merger.merger kept first others m e end))
