@@ -1,5 +1,5 @@
--- What is told of a letter that is refused.
-use Rattle.std.specs.Prelude.{◌≡◌, ℕ, ◌<◌, false, List, length, take, IfSome, Option, slice_get}
+-- Where a schedule leads, and what is told of a letter that is refused.
+use Rattle.std.specs.Prelude.{◌≡◌, ℕ, ◌<◌, false, List, length, take, IfErr, IfOk, IfSome, Option, Result, slice_get}
 use Rattle.std.specs.Option.{option_map}
 use Rattle.regmodel.specs.declared.letters.Letter.{Letter}
 use Rattle.regmodel.specs.declared.outcomes.End.{End}
@@ -8,6 +8,8 @@ use Rattle.regmodel.specs.Letters.{process_of}
 use Rattle.regmodel.specs.Outcomes.{outcome_of}
 use Rattle.regmodel.specs.Program.{Program}
 use Rattle.regmodel.specs.Schedules.{IsSchedule, is_possible}
+use Rattle.world.specs.Registers.{values_after}
+use Rattle.findings.specs.declared.standings.Standing.{Standing}
 use Rattle.cli.specs.declared.standings.RefusedLetter.{RefusedLetter}
 
 -- how a process stands, where there is one
@@ -25,3 +27,15 @@ pub record IsLetterRefused (programs : List Program) (crashes : ℕ) (w : List L
   pub before : IsSchedule programs crashes (take refused.place w)
   pub impossible : IfSome (slice_get w refused.place) (λ a. is_possible programs crashes (take refused.place w) a ≡ false)
   pub hindrance : IsHindranceAt (outcome_of programs (take refused.place w)) w refused
+
+-- the schedule is one of these programs, of which any number of processes may crash, and this is told of it; or its first letter is refused
+-- that is not possible
+pub record IsFollowed {T : Type 0} (programs : List Program) (w : List Letter) (P : T → Type 0) (result : Result T RefusedLetter) : Type 0 where
+  pub schedule : IfOk result (λ told. IsSchedule programs 8 w)
+  pub told : IfOk result P
+  pub refused : IfErr result (IsLetterRefused programs 8 w)
+
+-- where a schedule of these programs leads, over so many registers
+pub record IsStandingAfter (programs : List Program) (registers : ℕ) (w : List Letter) (standing : Standing) : Type 0 where
+  pub outcome : standing.outcome ≡ outcome_of programs w
+  pub registers_are : standing.registers.items ≡ values_after programs w registers

@@ -1,8 +1,6 @@
 //! What the machines of a source are made for.
 
 ghost use Rattle.std.specs.Prelude.{◌≡◌, IfErr, IfOk};
-ghost use Rattle.reglang.specs.Grammar.{Spells};
-ghost use Rattle.reglang.specs.Sources.{contents_of};
 ghost use Rattle.cli.specs.Runs.{IsNextAim, IsReached, IsUnreached};
 
 use crate::faults::AnswerFault;
@@ -60,12 +58,11 @@ pub fn reached<H: Threads + Wait + Sync, G: Gate>(
     run: &Run<'_, H, G>,
     aim: &Aim<'_>,
 ) -> Result<Option<Finding>, AnswerFault>
-    requires spelled { Spells run.now.text.now (contents_of run.now.source.now) }
-    requires next { IsNextAim aim.now run.now.text.now }
-    ensures found { IfOk result (IsReached aim.now run.now.text.now) }
-    ensures refused { IfErr result (IsUnreached aim.now run.now.text.now) }
+    requires next { IsNextAim aim.now run.now.spelling.text.now }
+    ensures found { IfOk result (IsReached aim.now run.now.spelling.text.now) }
+    ensures refused { IfErr result (IsUnreached aim.now run.now.spelling.text.now) }
 {
-    let (alloc, source) = (run.alloc, run.source);
+    let (alloc, source) = (run.alloc, run.spelling.source);
     let mut lists: Vec<Vec<Box<dyn Machine + Send>>> = Vec::new(alloc);
     for _list in 0..aim.lists() {
         let mut machines: Vec<Box<dyn Machine + Send>> = Vec::new(alloc);

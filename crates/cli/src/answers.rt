@@ -1,9 +1,8 @@
 //! Does what was asked, and gives the status.
 
-ghost use Rattle.std.specs.Prelude.{◌≡◌, ◌≤◌, ◌⊎◌, IfErr, IfOk, IsNone, None, OnErr, OnOk, if◌then◌else◌, option_and_then};
-ghost use Rattle.texts.specs.Appending.{Writes};
+ghost use Rattle.std.specs.Prelude.{◌≡◌, ◌≤◌, ◌⊎◌, IfErr, IfOk, IsNone, if◌then◌else◌, option_and_then};
 ghost use Rattle.findings.specs.FindingText.{finding_text};
-ghost use Rattle.cli.specs.Findings.{HasBeginning, IsAnswered, IsCutShort, IsRefusedWith, IsUnanswered};
+ghost use Rattle.cli.specs.Findings.{IsAnswered, IsCutShort, IsRefusedWith, IsUnanswered, Tells};
 
 use crate::faults::AnswerFault;
 use crate::progress::Progress;
@@ -106,13 +105,8 @@ fn tell<W: Write>(
     finding: &Finding,
     out: &mut W,
 ) -> Result<(), AnswerFault>
-    ensures whole { OnOk result
-        (Writes (W.contents out.old) (W.contents out.new)
-        (finding_text path.now text.now finding.now) None) }
-    ensures begun { OnErr result
-        (HasBeginning (W.contents out.old) (W.contents out.new)
-        (finding_text path.now text.now finding.now)) }
-    ensures err { IfErr result (λ fault. fault ≡ AnswerFault.Write) }
+    ensures { Tells (W.contents out.old) (W.contents out.new)
+        (finding_text path.now text.now finding.now) result }
 {
     if finding.write(path, text, out).is_err() {
         return Err(AnswerFault::Write);

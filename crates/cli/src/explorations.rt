@@ -1,10 +1,9 @@
 //! The explorations of a source, and of one part of it, which several runs share.
 
-ghost use Rattle.std.specs.Prelude.{◌≡◌, Bool, IfErr, IfOk, option_map};
-ghost use Rattle.reglang.specs.Grammar.{Spells};
-ghost use Rattle.reglang.specs.Sources.{contents_of, source_programs};
+ghost use Rattle.std.specs.Prelude.{◌≡◌, Bool, IfOk, option_map};
+ghost use Rattle.reglang.specs.Sources.{source_programs};
 ghost use Rattle.explorer.specs.Running.{AreListsOf};
-ghost use Rattle.cli.specs.Findings.{IsFoundBy, IsRefusedBy, exploring_task, part_head};
+ghost use Rattle.cli.specs.Findings.{Finds, exploring_task, part_head};
 
 use crate::faults::AnswerFault;
 use crate::runs::Run;
@@ -25,14 +24,14 @@ fn head_for<H, G>(
     part: Option<Part>,
 ) -> Result<Option<PartHead>, OutOfMemory>
     ensures { IfOk result
-        (λ head. head ≡ option_map (part_head settings run.now.source.now) part) }
+        (λ head. head ≡ option_map (part_head settings run.now.spelling.source.now) part) }
 {
     let Some(part) = part else {
         return Ok(None);
     };
     let mut text = Vec::new(run.alloc);
-    write_source(run.source, &mut text)?;
-    match PartHead::new(part, run.source.processes() as u32, settings, text) {
+    write_source(run.spelling.source, &mut text)?;
+    match PartHead::new(part, run.spelling.source.processes() as u32, settings, text) {
         Some(head) => Ok(Some(head)),
         None => Err(OutOfMemory),
     }
@@ -49,18 +48,14 @@ pub fn explored<H: Threads + Wait + Sync, G: Gate>(
     least_alone: bool,
     lists: Vec<Vec<Box<dyn Machine + Send>>>,
 ) -> Result<Finding, AnswerFault>
-    requires spelled { Spells run.now.text.now (contents_of run.now.source.now) }
-    requires machines { AreListsOf program (source_programs run.now.source.now)
+    requires machines { AreListsOf program (source_programs run.now.spelling.source.now)
         effort.settings.workers lists.items }
-    ensures found { (native : Bool)
-        → IfOk result
-        (IsFoundBy (exploring_task least_alone effort native part) run.now.text.now) }
-    ensures refused { (native : Bool)
-        → IfErr result
-        (IsRefusedBy (exploring_task least_alone effort native part) run.now.text.now) }
+    ensures { (native : Bool)
+        → Finds (exploring_task least_alone effort native part) run.now.spelling.text.now result }
 {
+    run.spelling.spells();
     let head = head_for(run, effort.settings, part)?;
-    let (rt, alloc, source, gate) = (run.rt, run.alloc, run.source, run.gate);
+    let (rt, alloc, source, gate) = (run.rt, run.alloc, run.spelling.source, run.gate);
     let job = Job {
         alloc,
         source,

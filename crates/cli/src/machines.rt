@@ -112,20 +112,12 @@ pub fn machine_of(
 {
     match source.use_of(p) {
         Some(kind) if native => native_of(kind, source.registers()).map_err(|_| OutOfMemory),
-        _ => interpreter_of(alloc, source, p),
+        _ => {
+            let prog = source.prog(alloc, p)?;
+            let interp = Interp::make(alloc, prog)?;
+            Ok(ProcessMachine::Text(interp))
+        }
     }
-}
-
-/// An interpreter of the program of process p.
-fn interpreter_of(alloc: Global, source: &Source, p: usize) -> Result<ProcessMachine, OutOfMemory>
-    requires { p < length (source_programs source.now) }
-    ensures { IfOk result
-        (λ m. slice_get (source_programs source.now) p
-        ≡ Some (⟦<ProcessMachine as Machine>⟧.program m)) }
-{
-    let prog = source.prog(alloc, p)?;
-    let interp = Interp::make(alloc, prog)?;
-    Ok(ProcessMachine::Text(interp))
 }
 
 /// The native machine of a use line. An error where a limit of the line is passed.

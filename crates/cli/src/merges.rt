@@ -1,10 +1,9 @@
 //! The parts of an exploration that are in a file, merged.
 
-ghost use Rattle.std.specs.Prelude.{◌≡◌, ◌≤◌, ◌⊎◌, IfErr, IfOk, OnErr, OnOk, None, option_and_then};
-ghost use Rattle.texts.specs.Appending.{Writes};
+ghost use Rattle.std.specs.Prelude.{IfOk, option_and_then};
 ghost use Rattle.merging.specs.Merged.{IsMergedOf};
 ghost use Rattle.merging.specs.MergedText.{merged_text};
-ghost use Rattle.cli.specs.Findings.{HasBeginning};
+ghost use Rattle.cli.specs.Findings.{Tells};
 ghost use Rattle.cli.specs.Merges.{AreMergedIn};
 
 use crate::faults::AnswerFault;
@@ -54,11 +53,7 @@ fn merged_in<R: Read + Drop>(alloc: Global, file: Option<R>) -> Result<Merged, A
 
 /// Writes what parts tell together, and has the writer pass it on.
 fn tell<W: Write>(merged: &Merged, out: &mut W) -> Result<(), AnswerFault>
-    ensures whole { OnOk result
-        (Writes (W.contents out.old) (W.contents out.new) (merged_text merged.now) None) }
-    ensures begun { OnErr result
-        (HasBeginning (W.contents out.old) (W.contents out.new) (merged_text merged.now)) }
-    ensures err { IfErr result (λ fault. fault ≡ AnswerFault.Write) }
+    ensures { Tells (W.contents out.old) (W.contents out.new) (merged_text merged.now) result }
 {
     if write_merged(merged, out).is_err() {
         return Err(AnswerFault::Write);

@@ -1,13 +1,11 @@
 //! Where one schedule leads, and what it does on its way.
 
-ghost use Rattle.std.specs.Prelude.{◌≡◌, ◌<◌, IfErr, IfOk, length, map};
+ghost use Rattle.std.specs.Prelude.{◌≡◌, ◌<◌, length, map};
 ghost use Rattle.regmodel.specs.Outcomes.{outcome_of};
-ghost use Rattle.regmodel.specs.Schedules.{IsSchedule};
 ghost use Rattle.reglang.specs.Sources.{source_programs, registers_of};
 ghost use Rattle.drawing.specs.Pictures.{IsPictureOf};
-ghost use Rattle.world.specs.Registers.{values_after};
 ghost use Rattle.world.specs.Sound.{IsSoundWorld, letters_of, world_programs};
-ghost use Rattle.cli.specs.Standings.{IsHindranceAt, IsLetterRefused};
+ghost use Rattle.cli.specs.Standings.{IsFollowed, IsHindranceAt, IsStandingAfter};
 
 use arrayvec::ArrayVec;
 use drawing::{Drawing, draw};
@@ -41,15 +39,9 @@ pub fn standing_after(
     schedule: &Prefix,
 ) -> Result<Standing, RefusedLetter>
     requires { map program machines.items ≡ source_programs source.now }
-    ensures schedule { IfOk result
-        (λ standing. IsSchedule (source_programs source.now) 8 schedule.now) }
-    ensures outcome { IfOk result
-        (λ standing. standing.outcome ≡ outcome_of (source_programs source.now) schedule.now) }
-    ensures registers { IfOk result
-        (λ standing. standing.registers.items
-        ≡ values_after (source_programs source.now) schedule.now (registers_of source.now)) }
-    ensures refused { IfErr result
-        (IsLetterRefused (source_programs source.now) 8 schedule.now) }
+    ensures { IsFollowed (source_programs source.now) schedule.now
+        (IsStandingAfter (source_programs source.now) (registers_of source.now) schedule.now)
+        result }
 {
     let mut world = World::new(machines, source.registers(), CRASHES);
     match world.replay(schedule) {
@@ -71,12 +63,8 @@ pub fn drawing_of(
     schedule: &Prefix,
 ) -> Result<Drawing, RefusedLetter>
     requires { map program machines.items ≡ source_programs source.now }
-    ensures schedule { IfOk result
-        (λ drawing. IsSchedule (source_programs source.now) 8 schedule.now) }
-    ensures drawn { IfOk result
-        (IsPictureOf (source_programs source.now) (registers_of source.now) schedule.now) }
-    ensures refused { IfErr result
-        (IsLetterRefused (source_programs source.now) 8 schedule.now) }
+    ensures { IsFollowed (source_programs source.now) schedule.now
+        (IsPictureOf (source_programs source.now) (registers_of source.now) schedule.now) result }
 {
     let mut world = World::new(machines, source.registers(), CRASHES);
     match draw(&mut world, schedule) {

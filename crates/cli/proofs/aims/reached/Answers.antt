@@ -8,7 +8,7 @@ use Rattle.cli.proofs.aims.reached.Goals as goal
 
 pub loop-p-preserved : goal.loop-p-preserved
 loop-p-preserved g c =
-    let programs = source_programs c.args.run.now.source.now in
+    let programs = source_programs c.args.run.now.spelling.source.now in
     let program = (own-1.entry (inl tt)).1.program c.in_ok-machine.machine in
     let boxed = c.into_dyn_box.result in
     let same : (own-1.entry boxed.vtable).1.program boxed.value ≡ program =

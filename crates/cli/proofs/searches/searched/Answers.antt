@@ -5,15 +5,18 @@ use Rattle.cli.proofs.searches.searched.Goals as goal
 pub discovery_on-discovery-requires-clause-found : goal.discovery_on-discovery-requires-clause-found
 discovery_on-discovery-requires-clause-found g c = let least = rw c.whole-job.ensures at c.in-Ok.ensures.least in (_, least)
 
-pub returns-in_ok-new-in-Ok-clause-found : goal.returns-in_ok-new-in-Ok-clause-found
-returns-in_ok-new-in-Ok-clause-found g c =
+pub returns-in_ok-new-in-Ok : goal.returns-in_ok-new-in-Ok
+returns-in_ok-new-in-Ok g c =
     λ native.
     let least = rw (c.whole-job.ensures, c.as_slice-2.ensures.value) at c.in-Ok.ensures.least in
     let fit = rw (c.as_slice.ensures.value, ← c.processes.ensures.value) at (sym c.misfit.ensures ∙ c.in_default.is) in
-    rw c.in_ok-new-in-Ok.ensures.ok (record {
-      source = contents_of c.args.run.now.source.now;
-      spelled = c.requires.spelled;
-      fit = fit;
-      least_is = rw c.discovery_on-discovery.ensures.least least;
-      way = rw c.discovery_on-discovery.ensures.least c.discovery_on-discovery.ensures.way;
-    })
+    record {
+      found = rw c.in_ok-new-in-Ok.ensures.ok (record {
+        source = contents_of c.args.run.now.spelling.source.now;
+        spelled = c.spells.ensures;
+        fit = fit;
+        least_is = rw c.discovery_on-discovery.ensures.least least;
+        way = rw c.discovery_on-discovery.ensures.least c.discovery_on-discovery.ensures.way;
+      });
+      refused = tt;
+    }
