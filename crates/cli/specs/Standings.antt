@@ -31,7 +31,7 @@ pub record IsLetterRefused (programs : List Program) (crashes : ℕ) (w : List L
 -- the schedule is one of these programs, of which any number of processes may crash, and this is told of it; or its first letter is refused
 -- that is not possible
 pub record IsFollowed {T : Type 0} (programs : List Program) (w : List Letter) (P : T → Type 0) (result : Result T RefusedLetter) : Type 0 where
-  pub schedule : IfOk result (λ told. IsSchedule programs 8 w)
+  pub schedule : IfOk result (λ _. IsSchedule programs 8 w)
   pub told : IfOk result P
   pub refused : IfErr result (IsLetterRefused programs 8 w)
 

@@ -1,10 +1,8 @@
 //! Where one schedule leads, and what it does on its way.
 
 ghost use Rattle.std.specs.Prelude.{◌≡◌, ◌<◌, length, map};
-ghost use Rattle.regmodel.specs.Outcomes.{outcome_of};
 ghost use Rattle.reglang.specs.Sources.{source_programs, registers_of};
 ghost use Rattle.drawing.specs.Pictures.{IsPictureOf};
-ghost use Rattle.world.specs.Sound.{IsSoundWorld, letters_of, world_programs};
 ghost use Rattle.cli.specs.Standings.{IsFollowed, IsHindranceAt, IsStandingAfter};
 
 use arrayvec::ArrayVec;
@@ -12,7 +10,7 @@ use drawing::{Drawing, draw};
 use findings::Standing;
 use machine::Machine;
 use reglang::Source;
-use regmodel::{End, Prefix};
+use regmodel::{End, Outcome, Prefix};
 use world::{BadLetter, World};
 
 /// How many processes may crash in a schedule that is replayed or drawn.
@@ -49,7 +47,7 @@ pub fn standing_after(
             outcome: world.outcome(),
             registers: ArrayVec::try_from(world.registers()).unwrap(),
         }),
-        Err(bad) => Err(refused_at(&world, schedule, bad)),
+        Err(bad) => Err(refused_at(&world.outcome(), schedule, bad)),
     }
 }
 
@@ -69,21 +67,17 @@ pub fn drawing_of(
     let mut world = World::new(machines, source.registers(), CRASHES);
     match draw(&mut world, schedule) {
         Ok(drawing) => Ok(drawing),
-        Err(bad) => Err(refused_at(&world, schedule, bad)),
+        Err(bad) => Err(refused_at(&world.outcome(), schedule, bad)),
     }
 }
 
-/// What is told of a letter that is not possible where the world stands.
-fn refused_at(world: &World, schedule: &Prefix, bad: BadLetter) -> RefusedLetter
-    requires at { IsSoundWorld program rest resumed world.now }
-    requires there { bad.place < length schedule.now }
+/// What is told of a letter that is not possible where the processes stand so.
+fn refused_at(outcome: &Outcome, schedule: &Prefix, bad: BadLetter) -> RefusedLetter
+    requires { bad.place < length schedule.now }
     ensures place { result.place ≡ bad.place }
-    ensures hindrance { IsHindranceAt
-        (outcome_of (world_programs program world.now) (letters_of world.now)) schedule.now
-        result }
+    ensures hindrance { IsHindranceAt outcome.now schedule.now result }
 {
     let process = schedule.letters()[bad.place].process();
-    let outcome = world.outcome();
     let fate = match outcome.ends().get(usize::from(process)) {
         Some(end) => Some(end.fate.clone().unwrap()),
         None => None,
