@@ -13,7 +13,7 @@ use Rattle.reglang.specs.declared.reader.ReadFault.{ReadFault}
 use Rattle.reglang.specs.declared.source.Source.{Source}
 use Rattle.reglang.proofs.Programs.{all_bodies}
 use Rattle.reglang.proofs.SourceTexts.{text_spells}
-use Rattle.reglang.proofs.Spelled.{one_source, read_spells, spelled_read}
+use Rattle.reglang.proofs.Readings.{one_source, read_spells, spelled_read}
 
 -- a source is within the limits
 pub source_within : (source : Source) → IsSourceWithin (contents_of source)
