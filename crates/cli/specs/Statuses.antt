@@ -11,5 +11,5 @@ status_of (Misfit place) = 2
 status_of (Source rejection) = 2
 status_of (Letter refused) = 2
 status_of (Merge fault) = 2
-status_of (Run code) = 3
+status_of (Run run) = 3
 status_of Write = 3

@@ -67,7 +67,7 @@ pub fn explored<H: Threads + Wait + Sync, G: Gate>(
     if least_alone {
         let least = match least_failing(rt, &job, lists) {
             Ok(least) => least,
-            Err(fault) => return Err(AnswerFault::Run(fault.code)),
+            Err(fault) => return Err(AnswerFault::Run(fault)),
         };
         return match head {
             Some(head) => Ok(Finding::LeastPart(head, least)),
@@ -76,7 +76,7 @@ pub fn explored<H: Threads + Wait + Sync, G: Gate>(
     }
     let found = match exploration_of(rt, &job, lists) {
         Ok(found) => found,
-        Err(fault) => return Err(AnswerFault::Run(fault.code)),
+        Err(fault) => return Err(AnswerFault::Run(fault)),
     };
     match head {
         Some(head) => Ok(Finding::Part(head, found)),

@@ -5,6 +5,7 @@ ghost use Rattle.orders.specs.declared.refusals.Refusal.TheVariants.{Memory};
 ghost use Rattle.cli.specs.declared.faults.AnswerFault.TheVariants.{Refused};
 
 use crate::standings::RefusedLetter;
+use explorer::{NO_MEMORY, RunFault, TOO_MANY};
 use merging::MergeFault;
 use orders::{Reason, Refusal};
 use reglang::Rejection;
@@ -33,8 +34,8 @@ pub enum AnswerFault {
     #[error("merge")]
     Merge(MergeFault),
     /// An exploration without a report.
-    #[error("run {0}")]
-    Run(u8),
+    #[error("run {}", .0.code)]
+    Run(RunFault),
     /// A text that could not be written whole.
     #[error("write")]
     Write,
@@ -73,7 +74,7 @@ impl Reason for AnswerFault {
                 hindrance(refused)
             ),
             AnswerFault::Merge(fault) => writeln!(err, "{subject}: {fault}"),
-            AnswerFault::Run(code) => writeln!(err, "{subject}: {}", run_fault(*code)),
+            AnswerFault::Run(fault) => writeln!(err, "{subject}: {}", hitch(fault)),
             AnswerFault::Write => writeln!(err, "the answer could not be written"),
         }
     }
@@ -114,11 +115,11 @@ fn hindrance(refused: &RefusedLetter) -> &'static str {
     }
 }
 
-/// Why there is no report, by the code of the run.
-fn run_fault(code: u8) -> &'static str {
-    match code {
-        1 => "memory ran out while exploring",
-        2 => "there are more schedules than can be counted",
+/// Why there is no report.
+fn hitch(fault: &RunFault) -> &'static str {
+    match fault.code {
+        NO_MEMORY => "memory ran out while exploring",
+        TOO_MANY => "there are more schedules than can be counted",
         _ => "a worker's thread could not be started",
     }
 }

@@ -1,2 +1,1 @@
 mod BlocksBehind
-mod CheckLines

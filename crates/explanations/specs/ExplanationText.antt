@@ -2,7 +2,7 @@
 use Rattle.std.specs.Prelude.{ℕ, ◌+◌, ◌-◌, ◌==◌, not, if◌then◌else◌, List, [], ◌++◌, Option, Some, None, codes, decimal, is_some, slice_index}
 use Rattle.std.specs.List.{position}
 use Rattle.explanations.specs.Advice.{advice_text}
-use Rattle.explanations.specs.Checks.{line_at}
+use Rattle.reglang.specs.Checks.{line_at}
 use Rattle.explanations.specs.OpenBlocks.{innermost, open_after}
 use Rattle.explanations.specs.Origins.{line_told, path_told}
 use Rattle.explanations.specs.Wording.{wrong_text}

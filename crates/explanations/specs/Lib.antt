@@ -1,7 +1,6 @@
 pub mod Advice
-pub mod CheckExamples
-pub mod Checks
 pub mod ClauseForms
+pub mod ExplanationExamples
 pub mod ExplanationText
 pub mod Hints
 pub mod LineForms

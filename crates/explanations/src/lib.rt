@@ -2,7 +2,6 @@
 #![tactic(auto)]
 
 mod advice;
-mod checks;
 mod clause_forms;
 mod hints;
 mod line_forms;
@@ -14,7 +13,6 @@ mod passed_limits;
 mod wording;
 mod writing;
 
-pub use checks::check_line;
 pub use lines::shown_line;
 pub use origins::{Origin, origin_of};
 pub use writing::write_explanation;

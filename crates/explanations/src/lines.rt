@@ -1,7 +1,7 @@
 //! Lines of a text, by their numbers.
 
 ghost use Rattle.std.specs.Prelude.{◌≡◌, option_copied};
-ghost use Rattle.explanations.specs.Checks as spec;
+ghost use Rattle.reglang.specs.Checks as spec;
 ghost use Rattle.explanations.specs.Shown.{shown};
 
 use reglang::split_line;

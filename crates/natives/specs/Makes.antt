@@ -6,7 +6,7 @@ use Rattle.uses.specs.Expansions.{expansion}
 use Rattle.uses.specs.Uses.{use_fits}
 use Rattle.uses.specs.declared.kinds.Use.{Use}
 use Rattle.natives.specs.declared.MakeFault.{MakeFault}
-use Rattle.natives.specs.declared.TheConstants.{PAST_LIMIT}
+use Rattle.uses.specs.declared.expansions.TheConstants.{PAST_LIMIT}
 
 -- one over so many registers: its program is the line's expansion, at whose start it stands; it is made exactly where the line is within
 -- its limits, and else they are the fault

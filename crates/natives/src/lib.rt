@@ -18,14 +18,12 @@ pub use scanned_names::Names;
 pub use split::Split;
 use thiserror::Error;
 pub use trees::Tree;
-
-/// The code of numbers past the limits of their use line.
-pub const PAST_LIMIT: u8 = 1;
+pub use uses::PAST_LIMIT;
 
 /// Why a native machine was not made.
 #[derive(Clone, Copy, PartialEq, Eq, Debug, Error)]
 #[error("no machine: code {code}")]
 pub struct MakeFault {
-    /// 1 where a limit of the use line is passed. 2 is that of memory, which no machine here takes.
+    /// 1 where a limit of the use line is passed, as where it has no expansion. 2 is that of memory, which no machine here takes.
     pub code: u8,
 }

@@ -2,10 +2,10 @@
 
 ghost use Rattle.std.specs.Prelude.{◌≡◌, true, false, IfErr, IfOk};
 ghost use Rattle.uses.specs.Uses.{use_fits};
-ghost use Rattle.natives.specs.declared.TheConstants.{PAST_LIMIT};
+ghost use Rattle.uses.specs.declared.expansions.TheConstants.{PAST_LIMIT};
 
-use crate::{MakeFault, PAST_LIMIT};
-use uses::Use;
+use crate::MakeFault;
+use uses::{PAST_LIMIT, Use};
 
 /// That a use line is within its limits over so many registers, else fault 1.
 pub fn check_fits(kind: Use, registers: u32) -> Result<(), MakeFault>

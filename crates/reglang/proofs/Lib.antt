@@ -1,4 +1,5 @@
 mod Appending
+mod CheckLines
 mod ClausesFit
 mod Cuts
 mod Digits

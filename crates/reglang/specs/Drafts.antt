@@ -10,7 +10,7 @@ use Rattle.regmodel.specs.Program.{Block, Stop, block_of, with_stmt}
 use Rattle.regmodel.specs.declared.programs.Stmt.{Stmt}
 use Rattle.reglang.specs.Forms.{read_line}
 use Rattle.reglang.specs.Contents.{Body, Text, Kind, Contents, IsBodyWithin, clause_fits}
-use Rattle.reglang.specs.Sources.{contents_of, contents_with}
+use Rattle.reglang.specs.Sources.{check_lines_of, contents_of, contents_with}
 use Rattle.reglang.specs.declared.source.Source.{Source}
 use Rattle.reglang.specs.Faults.{Opened, If, Else, Repeat, repeats_in}
 use Rattle.uses.specs.Uses.{is_between, use_fits}
@@ -155,6 +155,13 @@ take_line Empty line = begin line
 take_line (Between before) line = take_between before line
 take_line (Inside before frames block n) line = take_inside before frames block n line
 take_line (Used before kind) line = take_used before kind line
+
+-- how many checks were read so far
+abbrev pub checks_in : Reading → ℕ
+checks_in Empty = 0
+checks_in (Between before) = length before.clauses
+checks_in (Inside before frames block n) = length before.clauses
+checks_in (Used before kind) = length before.clauses
 
 -- takes what a line of the text says, if it says something; or keeps the code of its fault
 abbrev pub take_if_said : Reading → Result (Option Line) ℕ → Result Reading ℕ
@@ -314,7 +321,7 @@ pub record AnswersLine (may_ask : Bool) (expected : Result Reading ℕ) (result 
   pub answers : Answers expected result
   pub memory : IfErr result (IsWantOf may_ask)
 
--- the answer at the end of a text
-abbrev pub AnswersAtEnd : Reading → Result Source ℕ → Type 0
-AnswersAtEnd reading result =
-    MatchResult result (λ source. contents_at_end reading ≡ Ok (contents_of source)) (λ code. contents_at_end reading ≡ Err code)
+-- the answer at the end of a text whose checks stand on these lines
+abbrev pub AnswersAtEnd : Reading → List ℕ → Result Source ℕ → Type 0
+AnswersAtEnd reading numbers result =
+    MatchResult result (λ source. (contents_at_end reading ≡ Ok (contents_of source)) × (check_lines_of source ≡ numbers)) (λ code. contents_at_end reading ≡ Err code)

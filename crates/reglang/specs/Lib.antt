@@ -1,4 +1,6 @@
 pub mod Arguments
+pub mod CheckExamples
+pub mod Checks
 pub mod Contents
 pub mod Drafts
 pub mod FaultExamples

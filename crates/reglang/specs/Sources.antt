@@ -16,6 +16,10 @@ contents_with registers processes clauses = record { registers = registers; proc
 abbrev pub contents_of : Source → Contents
 contents_of source = contents_with source.registers source.processes.items source.clauses
 
+-- the lines of its checks in the text that it was read from, in the order of its clauses
+abbrev pub check_lines_of : Source → List ℕ
+check_lines_of source = source.check_lines.items
+
 -- how many registers it has
 abbrev pub registers_of : Source → ℕ
 registers_of source = source.registers

@@ -10,6 +10,7 @@ use crate::open_process::OpenProcess;
 use crate::parts::Parts;
 use crate::refusals::{LineRefusal, MISPLACED, NO_REGISTERS, PAST_LIMIT};
 use crate::source::Source;
+use arrayvec::ArrayVec;
 use regmodel::limits::MOST_REGISTERS;
 use std::alloc::Global;
 use uses::Use;
@@ -41,14 +42,14 @@ impl Draft {
         }
     }
 
-    /// The source that was read, at the end of the text; or the code of the end's fault.
-    pub fn finish(self) -> Result<Source, u8>
+    /// The source that was read, at the end of the text, whose checks stand on these lines; or the code of the end's fault.
+    pub fn finish(self, check_lines: ArrayVec<u64, 16>) -> Result<Source, u8>
         requires { ReadingFits (reading_of self) }
-        ensures { AnswersAtEnd (reading_of self) result }
+        ensures { AnswersAtEnd (reading_of self) check_lines.items result }
     {
         match self {
             Draft::Empty => Err(NO_REGISTERS),
-            Draft::Between(parts) => parts.finish(),
+            Draft::Between(parts) => parts.finish(check_lines),
             Draft::Inside(_) | Draft::Used(_, _) => Err(MISPLACED),
         }
     }

@@ -1,6 +1,7 @@
 //! Laws of the language, as contracts of functions that do nothing.
 
 ghost use Rattle.std.specs.Prelude.{◌≡◌, ℕ, List, None};
+ghost use Rattle.reglang.specs.Checks.{AreChecksOf};
 ghost use Rattle.reglang.specs.Contents.{Contents};
 ghost use Rattle.reglang.specs.Faults.{first_fault};
 ghost use Rattle.reglang.specs.Grammar.{Spells};
@@ -17,4 +18,10 @@ pub fn a_text_spells_at_most_one_source()
 pub fn what_is_spelled_is_known()
     ensures { (text : List ℕ) (source : Source) → ∥ Spells text (contents_of source) ∥₁
         → Spells text (contents_of source) }
+{}
+
+/// The checks of a text that spells a source are those of its clauses, one after another.
+pub fn each_check_is_that_of_its_clause()
+    ensures { (text : List ℕ) (source : Contents) → Spells text source
+        → AreChecksOf text source.clauses }
 {}

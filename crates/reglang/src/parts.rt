@@ -96,10 +96,10 @@ impl Parts {
         Ok(Draft::Between(self))
     }
 
-    /// The source of these parts.
-    pub fn finish(self) -> Result<Source, u8>
+    /// The source of these parts, whose checks stand on these lines.
+    pub fn finish(self, check_lines: ArrayVec<u64, 16>) -> Result<Source, u8>
         requires { ReadingFits (Between (contents_before self)) }
-        ensures { AnswersAtEnd (Between (contents_before self)) result }
+        ensures { AnswersAtEnd (Between (contents_before self)) check_lines.items result }
     {
         let Parts {
             registers,
@@ -109,7 +109,12 @@ impl Parts {
         if processes.is_empty() {
             return Err(PAST_LIMIT);
         }
-        Ok(Source::new(registers, processes, Clauses::new(clauses)))
+        Ok(Source::new(
+            registers,
+            processes,
+            Clauses::new(clauses),
+            check_lines,
+        ))
     }
 
     /// Takes a line after a use line.

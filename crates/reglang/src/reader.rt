@@ -1,17 +1,19 @@
 //! The reader of texts.
 
-ghost use Rattle.std.specs.Prelude.{◌<◌, ◌≤◌, IfErr, IfOk};
-ghost use Rattle.reglang.specs.Drafts.{AnswersLine, IsFaultOf, ReadingFits, reading_of, take_if_said};
+ghost use Rattle.std.specs.Prelude.{◌≡◌, ◌<◌, ◌≤◌, ◌++◌, IfErr, IfOk, length};
+ghost use Rattle.reglang.specs.Checks.{check_lines, number_of_check};
+ghost use Rattle.reglang.specs.Drafts.{AnswersLine, IsFaultOf, ReadingFits, checks_in, reading_of, take_if_said};
 ghost use Rattle.reglang.specs.Faults.{HasNoneBefore, IsFirst, IsUnspelled, TellsEnd, TellsMemory, WantsMemory, asks, last_line};
 ghost use Rattle.reglang.specs.Forms as forms;
 ghost use Rattle.reglang.specs.Grammar.{Spells};
-ghost use Rattle.reglang.specs.Sources.{contents_of};
+ghost use Rattle.reglang.specs.Sources.{check_lines_of, contents_of};
 
 use crate::draft::Draft;
-use crate::forms::read_line;
+use crate::forms::{Line, read_line};
 use crate::lines::split_line;
 use crate::refusals::{LineRefusal, NO_MEMORY};
 use crate::source::Source;
+use arrayvec::ArrayVec;
 use std::alloc::Global;
 use thiserror::Error;
 
@@ -41,6 +43,7 @@ pub struct Rejection {
 /// ends a block or ends a process. Neither it nor a line before it has a fault then.
 pub fn read_source(alloc: Global, text: &[u8]) -> Result<Source, ReadFault>
     ensures spelled { IfOk result (λ source. Spells text.now (contents_of source)) }
+    ensures lines { IfOk result (λ source. check_lines_of source ≡ check_lines text.now) }
     ensures first_fault { IfErr result (IsFirst text.now) }
     ensures not_spelled { IfErr result (IsUnspelled text.now) }
     ensures no_fault_before { IfErr result (HasNoneBefore text.now) }
@@ -58,6 +61,7 @@ pub fn read_source(alloc: Global, text: &[u8]) -> Result<Source, ReadFault>
 /// at fault where no line is; it never is where memory was refused.
 pub fn read_text(alloc: Global, text: &[u8]) -> Result<Source, Rejection>
     ensures spelled { IfOk result (λ source. Spells text.now (contents_of source)) }
+    ensures lines { IfOk result (λ source. check_lines_of source ≡ check_lines text.now) }
     ensures first_fault { IfErr result (λ rejection. IsFirst text.now rejection.fault) }
     ensures not_spelled { IfErr result (λ rejection. IsUnspelled text.now rejection.fault) }
     ensures no_fault_before { IfErr result (λ rejection. HasNoneBefore text.now rejection.fault) }
@@ -68,11 +72,12 @@ pub fn read_text(alloc: Global, text: &[u8]) -> Result<Source, Rejection>
     ensures memory { IfErr result (λ rejection. WantsMemory text.now rejection.fault) }
 {
     let mut draft = Draft::Empty;
+    let mut check_lines = ArrayVec::new();
     let mut rest = text;
     let mut line = 0u64;
     while let Some((bytes, after)) = split_line(rest) {
         line += 1;
-        draft = match next(alloc, draft, bytes) {
+        draft = match next(alloc, draft, bytes, line, &mut check_lines) {
             Ok(draft) => draft,
             Err(refusal) => {
                 return Err(Rejection {
@@ -83,7 +88,7 @@ pub fn read_text(alloc: Global, text: &[u8]) -> Result<Source, Rejection>
         };
         rest = after;
     }
-    match draft.finish() {
+    match draft.finish(check_lines) {
         Ok(source) => Ok(source),
         Err(code) => Err(Rejection {
             fault: ReadFault {
@@ -95,13 +100,28 @@ pub fn read_text(alloc: Global, text: &[u8]) -> Result<Source, Rejection>
     }
 }
 
-/// Takes the next line of the text.
-fn next(alloc: Global, draft: Draft, line: &[u8]) -> Result<Draft, LineRefusal>
-    requires { ReadingFits (reading_of draft) }
-    ensures { AnswersLine (asks (forms.read_line line.now))
+/// Takes the next line of the text, and keeps its number where it is a check.
+fn next(
+    alloc: Global,
+    draft: Draft,
+    line: &[u8],
+    number: u64,
+    check_lines: &mut ArrayVec<u64, 16>,
+) -> Result<Draft, LineRefusal>
+    requires fits { ReadingFits (reading_of draft) }
+    requires counted { length check_lines.old.items ≡ checks_in (reading_of draft) }
+    ensures taken { AnswersLine (asks (forms.read_line line.now))
         (take_if_said (reading_of draft) (forms.read_line line.now)) result }
+    ensures kept { IfOk result
+        (λ _. check_lines.new.items
+        ≡ check_lines.old.items ++ number_of_check number (forms.read_line line.now)) }
 {
     match read_line(line) {
+        Ok(Some(Line::Check(clause))) => {
+            let draft = draft.take(alloc, Line::Check(clause))?;
+            check_lines.push(number);
+            Ok(draft)
+        }
         Ok(Some(line)) => draft.take(alloc, line),
         Ok(None) => Ok(draft),
         Err(code) => Err(LineRefusal::Fault(code)),

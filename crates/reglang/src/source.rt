@@ -5,6 +5,7 @@ ghost use Rattle.regmodel.specs.declared.limits.TheConstants.{MOST_CHECKS, MOST_
 ghost use Rattle.reglang.specs.Contents.{clause_fits, is_over};
 
 use crate::copies::copy_block;
+use arrayvec::ArrayVec;
 use regmodel::{Clause, Clauses, OutOfMemory, Prog};
 use std::alloc::Global;
 use uses::{Use, expand};
@@ -47,6 +48,8 @@ pub struct Source {
     registers: u32,
     processes: Vec<Process>,
     clauses: Clauses,
+    /// The line of each clause in the text that was read.
+    check_lines: ArrayVec<u64, 16>,
     ghost some_register: { 0 < registers },
     ghost few_registers: { registers ≤ MOST_REGISTERS },
     ghost some_process: { 0 < length processes.items },
@@ -62,11 +65,16 @@ impl Source {
     ghost use Rattle.regmodel.specs.Limits.{IsWithin};
     ghost use Rattle.std.specs.Prelude.{map};
     ghost use Rattle.reglang.specs.Contents.{IsSourceWithin, body_of};
-    ghost use Rattle.reglang.specs.Sources.{IsUseOf, body_at, contents_of, contents_with, registers_of};
+    ghost use Rattle.reglang.specs.Sources.{IsUseOf, body_at, check_lines_of, contents_of, contents_with, registers_of};
     ghost use Rattle.reglang.specs.Sources.{source_programs};
 
-    /// The source of these processes and clauses.
-    pub(crate) fn new(registers: u32, processes: Vec<Process>, clauses: Clauses) -> Source
+    /// The source of these processes and clauses, which stand on these lines.
+    pub(crate) fn new(
+        registers: u32,
+        processes: Vec<Process>,
+        clauses: Clauses,
+        check_lines: ArrayVec<u64, 16>,
+    ) -> Source
         requires some_register { 0 < registers }
         requires few_registers { registers ≤ MOST_REGISTERS }
         requires some { 0 < length processes.items }
@@ -74,12 +82,15 @@ impl Source {
         requires few_clauses { length clauses ≤ MOST_CHECKS }
         requires clauses_fit { All (λ clause. clause_fits clause ≡ true) clauses }
         requires fit { All (λ p. is_over registers p ≡ true) processes.items }
-        ensures { contents_of result ≡ contents_with registers processes.items clauses }
+        ensures contents { contents_of result
+            ≡ contents_with registers processes.items clauses }
+        ensures lines { check_lines_of result ≡ check_lines.items }
     {
         Source {
             registers,
             processes,
             clauses,
+            check_lines,
         }
     }
 
@@ -116,6 +127,13 @@ impl Source {
         ensures within { IsSourceWithin (contents_of self.now) }
     {
         &self.clauses
+    }
+
+    /// The numbers of the lines that are the checks of the text that was read, counted from 1: that of each clause, in their order.
+    pub fn check_lines(&self) -> &[u64]
+        ensures { result.now ≡ check_lines_of self.now }
+    {
+        self.check_lines.as_slice()
     }
 
     /// The use line of process p, counted from 0. None where it has statements of its own.

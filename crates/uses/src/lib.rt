@@ -4,5 +4,5 @@
 mod expansions;
 mod kinds;
 
-pub use expansions::{ExpandFault, expand};
+pub use expansions::{ExpandFault, PAST_LIMIT, expand};
 pub use kinds::{Use, vertices};

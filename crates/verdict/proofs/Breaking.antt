@@ -12,9 +12,7 @@ use Rattle.regmodel.specs.declared.letters.Letter.TheVariants.{Run}
 use Rattle.regmodel.specs.declared.outcomes.ProcEnd.{ProcEnd}
 use Rattle.regmodel.specs.Program.{Program}
 use Rattle.regmodel.specs.Schedules.{IsSchedule, is_possible}
-use Rattle.explanations.specs.Checks.{ChecksAt, check_lines}
-use Rattle.reglang.specs.Contents.{Contents}
-use Rattle.reglang.specs.Grammar.{Spells}
+use Rattle.reglang.specs.Checks.{AreChecksOf, ChecksAt, check_lines}
 use Rattle.world.specs.Stops.{IsStopped}
 use Rattle.world.specs.declared.BadLetter.{BadLetter}
 use Rattle.verdict.specs.Breaches.{IsBrokenLine}
@@ -24,28 +22,23 @@ first_there : (t : Bool) (i n place : ℕ) → nat_lt i n ≡ t → Some place �
 first_there true i n place h e = let same : place ≡ i = cc in subst (λ k. k < n) (sym same) (ltb-true i n h)
 first_there false i n place h e = absurd cc
 
-place_there : {X : Type 0} (test : X → Bool) (xs : List X) (place : ℕ) → Some place ≡ position test xs → place < length xs
+pub place_there : {X : Type 0} (test : X → Bool) (xs : List X) (place : ℕ) → Some place ≡ position test xs → place < length xs
 place_there test xs place e = first_there (nat_lt (position_or_len test xs) (length xs)) (position_or_len test xs) (length xs) place refl e
 
-line_is : (text : List ℕ) (clauses : List Clause) (asks : Bool) (ends : List ProcEnd) (place : ℕ) (own : Clause) (line : Option ℕ) → Some place ≡ position (breaks asks ends) clauses → line ≡ slice_get (check_lines text) place → slice_get clauses place ≡ Some own →
-    MatchOption line ⊥ (ChecksAt text own) → MatchOption line ⊥ (IsBrokenLine text clauses asks ends)
-line_is text clauses asks ends place own None first number there none = none
-line_is text clauses asks ends place own (Some line) first number there says = record {
-  place = place;
-  first = sym first;
-  number = sym number;
-  clause = own;
-  broken = there;
-  says = says;
-}
-
--- the line of the first clause asked that is broken, in a text that spells a source
-pub broken_line_is : (text : List ℕ) (source : Contents) (asks : Bool) (ends : List ProcEnd) (place : ℕ) (line : Option ℕ) → Some place ≡ position (breaks asks ends) source.clauses → line ≡ slice_get (check_lines text) place → Spells text source →
-    ((s : Contents) → Spells text s → IfSome (slice_get s.clauses place) (λ own. MatchOption line ⊥ (ChecksAt text own))) → MatchOption line ⊥ (IsBrokenLine text source.clauses asks ends)
-broken_line_is text source asks ends place line first number spelled says =
-    let there = slice_get-get_or source.clauses place clause.NoFault (place_there (breaks asks ends) source.clauses place first) in
-    line_is text source.clauses asks ends place (get_or source.clauses place clause.NoFault) line first number there
-    (subst (λ found. IfSome found (λ own. MatchOption line ⊥ (ChecksAt text own))) there (says source spelled))
+-- the line of the first clause asked that is broken
+pub broken_line_is : (text : List ℕ) (clauses : List Clause) (asks : Bool) (ends : List ProcEnd) (place line : ℕ) → Some place ≡ position (breaks asks ends) clauses → slice_get (check_lines text) place ≡ Some line → AreChecksOf text clauses → IsBrokenLine text clauses asks ends line
+broken_line_is text clauses asks ends place line first number checks =
+    let own = get_or clauses place clause.NoFault in
+    let there = slice_get-get_or clauses place clause.NoFault (place_there (breaks asks ends) clauses place first) in
+    let says = subst (λ found. IfSome found (λ clause. MatchOption (slice_get (check_lines text) place) ⊥ (ChecksAt text clause))) there (checks place) in
+    record {
+      place = place;
+      first = sym first;
+      number = number;
+      clause = own;
+      broken = there;
+      says = subst (λ told. MatchOption told ⊥ (ChecksAt text own)) number says;
+    }
 
 -- a schedule has no letter that is not possible after those before it
 pub never_stopped : (programs others : List Program) (crashes budget : ℕ) (w before : List Letter) (bad : BadLetter) → IsSchedule programs crashes w → others ≡ programs → budget ≡ crashes → IsStopped others budget w before bad → ⊥

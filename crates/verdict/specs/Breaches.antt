@@ -5,7 +5,7 @@ use Rattle.regmodel.specs.declared.clauses.Clause.{Clause}
 use Rattle.regmodel.specs.declared.outcomes.ProcEnd.{ProcEnd}
 use Rattle.regmodel.specs.Judging.{meets_all}
 use Rattle.regmodel.specs.Letters.{Schedule}
-use Rattle.explanations.specs.Checks.{ChecksAt, check_lines}
+use Rattle.reglang.specs.Checks.{ChecksAt, check_lines}
 use Rattle.reglang.specs.Contents.{Contents, programs_in}
 use Rattle.drawing.specs.Pictures.{IsPictureOf}
 use Rattle.verdict.specs.Demands.{breaks, clauses_asked, meets_demands}

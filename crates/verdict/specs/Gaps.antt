@@ -6,7 +6,7 @@ use Rattle.regmodel.specs.declared.clauses.Clause.{Clause}
 use Rattle.regmodel.specs.declared.clauses.Subject.{Subject}
 use Rattle.regmodel.specs.declared.outcomes.ProcEnd.{ProcEnd}
 use Rattle.regmodel.specs.Judging.{includes, subject_of}
-use Rattle.explanations.specs.Checks.{check_lines}
+use Rattle.reglang.specs.Checks.{check_lines}
 use Rattle.verdict.specs.declared.gaps.Gap.{Gap}
 
 -- one of these outcomes has such a process

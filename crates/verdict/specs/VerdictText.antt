@@ -9,7 +9,7 @@ use Rattle.regmodel.specs.Letters.{Schedule}
 use Rattle.report.specs.PlainReport.{Findings}
 use Rattle.regmodel.specs.ScheduleText.{schedule_text}
 use Rattle.reglang.specs.Lines.{without_indent}
-use Rattle.explanations.specs.Checks.{line_at}
+use Rattle.reglang.specs.Checks.{line_at}
 use Rattle.drawing.specs.DrawingText.{drawing_text}
 use Rattle.explanations.specs.Origins.{line_told, path_told}
 use Rattle.explanations.specs.Shown.{shown}

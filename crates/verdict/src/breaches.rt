@@ -19,7 +19,6 @@ use crate::onsets::onset_of;
 use crate::spellings::Spelling;
 use arrayvec::ArrayVec;
 use drawing::{Drawing, draw};
-use explanations::check_line;
 use machine::Machine;
 use regmodel::laws::the_first_refused_is_a_schedule;
 use regmodel::{Outcome, Prefix, Settings};
@@ -114,7 +113,7 @@ pub fn verdict_on(
             let clauses = spelling.source.clauses().list();
             Verdict::Holds(Held {
                 asked: asked_of(clauses, allows_faults),
-                gaps: gaps_of(spelling.text, clauses, &exploration),
+                gaps: gaps_of(spelling, &exploration),
                 exploration,
             })
         }
@@ -178,14 +177,8 @@ fn broken_line(spelling: &Spelling<'_>, asks_ended: bool, outcome: &Outcome) -> 
         → meets_all (clauses_asked asks_ended (contents_of spelling.now.source.now).clauses)
         outcome.now ≡ true }
 {
-    spelling.spells();
-    let Some(place) = first_broken(spelling.source.clauses().list(), asks_ended, outcome) else {
-        return None;
-    };
-    let Some(line) = check_line(spelling.text, place) else {
-        unreachable!()
-    };
-    Some(line)
+    let place = first_broken(spelling.source.clauses().list(), asks_ended, outcome)?;
+    Some(spelling.check_line(place))
 }
 
 /// What is drawn of a schedule. The world stands there then.

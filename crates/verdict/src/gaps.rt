@@ -1,13 +1,13 @@
 //! Checks that no outcome could break, for want of a process of which they speak.
 
-ghost use Rattle.std.specs.Prelude.{◌≡◌, ◌≤◌, length};
+ghost use Rattle.std.specs.Prelude.{◌≡◌};
 ghost use Rattle.std.specs.List.{list_any};
-ghost use Rattle.regmodel.specs.declared.limits.TheConstants.{MOST_CHECKS};
 ghost use Rattle.regmodel.specs.Judging.{includes};
+ghost use Rattle.reglang.specs.Sources.{contents_of};
 ghost use Rattle.verdict.specs.Gaps as spec;
 
+use crate::spellings::Spelling;
 use arrayvec::ArrayVec;
-use explanations::check_line;
 use regmodel::{Clause, Subject};
 use report::Exploration;
 use tallies::{Ends, Outcomes};
@@ -21,14 +21,15 @@ pub struct Gap {
     pub want: Subject,
 }
 
-/// The checks of a text with these clauses that no outcome of an exploration could break.
-pub fn gaps_of(text: &[u8], clauses: &[Clause], found: &Exploration) -> ArrayVec<Gap, 16>
-    requires { length clauses.now ≤ MOST_CHECKS }
-    ensures { result.items ≡ spec.gaps_of text.now clauses.now found.now.outcomes }
+/// The checks of a text that no outcome of an exploration could break.
+pub fn gaps_of(spelling: &Spelling<'_>, found: &Exploration) -> ArrayVec<Gap, 16>
+    ensures { result.items
+        ≡ spec.gaps_of spelling.now.text.now (contents_of spelling.now.source.now).clauses
+        found.now.outcomes }
 {
     let mut gaps = ArrayVec::new();
-    for i in 0..clauses.len() {
-        if let Some(gap) = gap_at(text, clauses, found, i) {
+    for i in 0..spelling.source.clauses().list().len() {
+        if let Some(gap) = gap_at(spelling, found, i) {
             gaps.push(gap);
         }
     }
@@ -36,12 +37,14 @@ pub fn gaps_of(text: &[u8], clauses: &[Clause], found: &Exploration) -> ArrayVec
 }
 
 /// The check of clause i, where no outcome could break it.
-fn gap_at(text: &[u8], clauses: &[Clause], found: &Exploration, i: usize) -> Option<Gap>
-    ensures { result ≡ spec.gap_at text.now clauses.now found.now.outcomes i }
+fn gap_at(spelling: &Spelling<'_>, found: &Exploration, i: usize) -> Option<Gap>
+    ensures { result
+        ≡ spec.gap_at spelling.now.text.now (contents_of spelling.now.source.now).clauses
+        found.now.outcomes i }
 {
-    let clause = clauses.get(i)?;
+    let clause = spelling.source.clauses().list().get(i)?;
     let want = want_of(clause, found)?;
-    let line = check_line(text, i)?;
+    let line = spelling.check_line(i);
     Some(Gap { line, want })
 }
 

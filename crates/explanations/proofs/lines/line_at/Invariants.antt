@@ -1,5 +1,5 @@
 use Rattle.std.proofs.Common.{◌≡◌, length, slice_get}
-use Rattle.explanations.specs.Checks.{line_at}
+use Rattle.reglang.specs.Checks.{line_at}
 use Rattle.reglang.specs.Lines.{lines}
 use Rattle.explanations.proofs.lines.line_at.Given as goal
 

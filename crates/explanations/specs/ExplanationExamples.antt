@@ -1,6 +1,5 @@
--- Where checks stand in a text, and the words at fault of lines.
+-- The words at fault of lines, and what is told of them.
 use Rattle.std.specs.Prelude.{◌≡◌, ℕ, List, [], ◌∷◌, Option, Some, None, map, refl, codes}
-use Rattle.explanations.specs.Checks.{line_at, check_lines}
 use Rattle.explanations.specs.ClauseForms.{clauses_listed}
 use Rattle.explanations.specs.Hints.{hint_of}
 use Rattle.explanations.specs.LineForms.{form_of}
@@ -9,14 +8,6 @@ use Rattle.explanations.specs.OpenBlocks.{innermost, open_after}
 use Rattle.explanations.specs.declared.open_blocks.Block.TheVariants as block
 use Rattle.reglang.specs.Lines.{words}
 use Rattle.reglang.specs.declared.vocabulary.Property.TheVariants as property
-
--- the second of three lines, which is the first check
-pub second_line : line_at 2 (codes "registers 1\n check ended\ncheck nofault") ≡ Some (codes " check ended")
-second_line = refl
-
--- a check in a comment is none, one without a clause is one
-pub checks : check_lines (codes "# check ended\ncheck\nprocess\nend\n\ncheck ended\n") ≡ 2 ∷ 6 ∷ []
-checks = refl
 
 -- the code of a fault, a line, and the word of it that is at fault
 abbrev faulty : List (ℕ × List ℕ × Option (List ℕ))

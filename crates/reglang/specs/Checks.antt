@@ -1,8 +1,6 @@
 -- Where a line stands in a text, and which lines are checks.
-use Rattle.std.specs.Prelude.{◌≡◌, ℕ, zero, suc, Bool, true, false, if◌then◌else◌, List, [], ◌∷◌, Option, Some, None, Result, Ok, IfSome, MatchOption, slice_get}
+use Rattle.std.specs.Prelude.{◌≡◌, ℕ, zero, suc, List, [], ◌∷◌, ◌++◌, Option, Some, None, Result, Ok, IfSome, MatchOption, slice_get}
 use Rattle.regmodel.specs.declared.clauses.Clause.{Clause}
-use Rattle.reglang.specs.Contents.{Contents}
-use Rattle.reglang.specs.Grammar.{Spells}
 use Rattle.reglang.specs.Lines.{lines}
 use Rattle.reglang.specs.Forms.{read_line}
 use Rattle.reglang.specs.declared.forms.Line.{Line}
@@ -13,15 +11,15 @@ abbrev pub line_at : ℕ → List ℕ → Option (List ℕ)
 line_at zero text = None
 line_at (suc before) text = slice_get (lines text) before
 
--- whether what a line says is a check
-abbrev pub is_check : Result (Option Line) ℕ → Bool
-is_check (Ok (Some (line.Check clause))) = true
-is_check _ = false
+-- the number of a line, where what it says is a check
+abbrev pub number_of_check : ℕ → Result (Option Line) ℕ → List ℕ
+number_of_check number (Ok (Some (line.Check clause))) = number ∷ []
+number_of_check number _ = []
 
 -- the numbers of the checks among these lines, which come after so many others
 abbrev pub checks_after : ℕ → List (List ℕ) → List ℕ
 checks_after before [] = []
-checks_after before (line ∷ lines) = if is_check (read_line line) then suc before ∷ checks_after (suc before) lines else checks_after (suc before) lines
+checks_after before (line ∷ lines) = number_of_check (suc before) (read_line line) ++ checks_after (suc before) lines
 
 -- the numbers of the lines of a text that are checks, rising
 abbrev pub check_lines : List ℕ → List ℕ
@@ -33,6 +31,6 @@ pub record ChecksAt (text : List ℕ) (clause : Clause) (number : ℕ) : Type 0 
   pub there : line_at number text ≡ Some bytes
   pub says : read_line bytes ≡ Ok (Some (line.Check (Some clause)))
 
--- where the text spells a source that has a clause i, counted from 0, the line with this number is the check of that clause
-abbrev pub IsCheckOf : List ℕ → ℕ → Option ℕ → Type 0
-IsCheckOf text i number = (source : Contents) → Spells text source → IfSome (slice_get source.clauses i) (λ clause. MatchOption number ⊥ (ChecksAt text clause))
+-- the check of a clause i, counted from 0, is on check line i
+abbrev pub AreChecksOf : List ℕ → List Clause → Type 0
+AreChecksOf text clauses = (i : ℕ) → IfSome (slice_get clauses i) (λ clause. MatchOption (slice_get (check_lines text) i) ⊥ (ChecksAt text clause))

@@ -1,19 +1,23 @@
--- The checks of a text that spells a source are the lines of its clauses, one after another.
-use Rattle.std.proofs.Common.{◌≡◌, ℕ, zero, suc, ◌+◌, ◌-◌, true, List, [], ◌∷◌, ◌++◌, map, Option, Some, None, Result, Ok, Err, inl, inr, refl, ap, sym, subst, ◌∙◌, arith, slice_get, MatchOption, IfSome}
-use Rattle.std.specs.Prelude.{if◌then◌else◌, option_map}
+-- The checks of a text that spells a source are the lines of its clauses, one after another; and the reader keeps their numbers.
+use Rattle.std.proofs.Common.{◌≡◌, ℕ, zero, suc, ◌+◌, ◌<◌, Bool, true, false, List, [], ◌∷◌, ◌++◌, length, length-append, map, append_assoc, append-nil, Option, Some, None, Result, Ok, Err, inl, inr, refl, ap, sym, subst, ◌∙◌, arith, slice_get, MatchOption, IfSome}
+use Rattle.std.specs.Prelude.{if◌then◌else◌, ◌&&◌, nat_lt, option_map}
 use Rattle.std.specs.List.{flat_map}
+use Rattle.std.proofs.lemmas.Bool.{ltb-true}
 use Rattle.std.proofs.lemmas.Grind.{flat_map-append}
 use Rattle.std.proofs.lemmas.Option.{slice_get-map}
 use Rattle.regmodel.specs.declared.clauses.Clause.{Clause}
 use Rattle.regmodel.specs.Program as program
 use Rattle.regmodel.specs.Program.{Block}
-use Rattle.explanations.specs.Checks.{is_check, checks_after, check_lines, ChecksAt}
+use Rattle.reglang.specs.Checks.{AreChecksOf, ChecksAt, checks_after, check_lines, number_of_check}
 use Rattle.reglang.specs.Contents.{Contents, Body, Text, Kind}
+use Rattle.reglang.specs.Drafts.{Reading, Empty, Between, Inside, Used, checks_in, take_if_said, take_line}
+use Rattle.reglang.specs.Faults.{Context, context_after_lines}
 use Rattle.reglang.specs.Forms.{read_line}
 use Rattle.reglang.specs.Grammar.{BlockSays, ElseSays, BodySays, Part, Process, Check, PartsSay, clauses_in, LinesSay, line_said, lines_said, Spells}
 use Rattle.reglang.specs.Lines.{lines}
 use Rattle.reglang.specs.declared.forms.Line.{Line}
 use Rattle.reglang.specs.declared.forms.Line.TheVariants as line
+use Rattle.reglang.proofs.Contexts.{StepsRead, context_of, steps_read}
 
 -- what a check asks, or nothing of another line
 abbrev asked_by : Line → List (Option Clause)
@@ -119,64 +123,59 @@ at_check before (suc i) l rest own clause read find h = later before i l _ rest 
 
 -- by what the line says
 at_line : (before i : ℕ) (l : List ℕ) (lines : List (List ℕ)) (clause : Option Clause) (said : Result (Option Line) ℕ) → read_line l ≡ said → Finds lines → slice_get (asked (line_said said ++ lines_said lines)) i ≡ Some clause →
-    Found before i (if is_check said then suc before ∷ checks_after (suc before) lines else checks_after (suc before) lines) (l ∷ lines) clause
+    Found before i (number_of_check (suc before) said ++ checks_after (suc before) lines) (l ∷ lines) clause
 at_line before i l lines clause (Ok (Some (line.Check own))) read find h = at_check before i l lines own clause read find h
-at_line before i l lines clause (Ok (Some (line.Registers n))) read find h = later before i l _ lines clause i _ refl (find (suc before) i clause h)
-at_line before i l lines clause (Ok (Some line.Process)) read find h = later before i l _ lines clause i _ refl (find (suc before) i clause h)
-at_line before i l lines clause (Ok (Some line.End)) read find h = later before i l _ lines clause i _ refl (find (suc before) i clause h)
-at_line before i l lines clause (Ok (Some (line.Set to value))) read find h = later before i l _ lines clause i _ refl (find (suc before) i clause h)
-at_line before i l lines clause (Ok (Some (line.Read to from))) read find h = later before i l _ lines clause i _ refl (find (suc before) i clause h)
-at_line before i l lines clause (Ok (Some (line.Write to value))) read find h = later before i l _ lines clause i _ refl (find (suc before) i clause h)
-at_line before i l lines clause (Ok (Some (line.Scan cell first count))) read find h = later before i l _ lines clause i _ refl (find (suc before) i clause h)
-at_line before i l lines clause (Ok (Some (line.If test))) read find h = later before i l _ lines clause i _ refl (find (suc before) i clause h)
-at_line before i l lines clause (Ok (Some line.Else)) read find h = later before i l _ lines clause i _ refl (find (suc before) i clause h)
-at_line before i l lines clause (Ok (Some line.Fi)) read find h = later before i l _ lines clause i _ refl (find (suc before) i clause h)
-at_line before i l lines clause (Ok (Some (line.Repeat count))) read find h = later before i l _ lines clause i _ refl (find (suc before) i clause h)
-at_line before i l lines clause (Ok (Some line.Done)) read find h = later before i l _ lines clause i _ refl (find (suc before) i clause h)
-at_line before i l lines clause (Ok (Some (line.Emit value))) read find h = later before i l _ lines clause i _ refl (find (suc before) i clause h)
-at_line before i l lines clause (Ok (Some line.Halt)) read find h = later before i l _ lines clause i _ refl (find (suc before) i clause h)
-at_line before i l lines clause (Ok (Some (line.Use kind))) read find h = later before i l _ lines clause i _ refl (find (suc before) i clause h)
-at_line before i l lines clause (Ok None) read find h = later before i l _ lines clause i _ refl (find (suc before) i clause h)
-at_line before i l lines clause (Err code) read find h = later before i l _ lines clause i _ refl (find (suc before) i clause h)
+at_line before i l lines clause _ read find h = later before i l _ lines clause i _ refl (find (suc before) i clause h)
 
 finds : (lines : List (List ℕ)) → Finds lines
 finds [] before i clause h = absurd cc
 finds (l ∷ lines) before i clause h = at_line before i l lines clause (read_line l) refl (finds lines) h
 
-clause_stands : (text : List ℕ) (clauses : List Clause) (i : ℕ) (result : Option ℕ) → result ≡ slice_get (check_lines text) i → asked (lines_said (lines text)) ≡ map Some clauses → (found : Option Clause) → slice_get clauses i ≡ found →
-    IfSome found (λ clause. MatchOption result ⊥ (ChecksAt text clause))
-clause_stands text clauses i result told all None h = tt
-clause_stands text clauses i result told all (Some clause) h =
+clause_stands : (text : List ℕ) (clauses : List Clause) (i : ℕ) → asked (lines_said (lines text)) ≡ map Some clauses → (found : Option Clause) → slice_get clauses i ≡ found →
+    IfSome found (λ clause. MatchOption (slice_get (check_lines text) i) ⊥ (ChecksAt text clause))
+clause_stands text clauses i all None h = tt
+clause_stands text clauses i all (Some clause) h =
     let f = finds (lines text) 0 i (Some clause) (ap (λ cs. slice_get cs i) all ∙ (slice_get-map Some clauses i ∙ ap (option_map Some) h)) in
     let s = f.stands in
     let number : f.number ≡ suc s.place = s.counted ∙ omega arith in
-    subst (λ r. MatchOption r ⊥ (ChecksAt text clause)) (sym (told ∙ (f.is ∙ ap Some number))) (record { bytes = s.bytes; there = s.there; says = s.says })
+    subst (λ r. MatchOption r ⊥ (ChecksAt text clause)) (sym (f.is ∙ ap Some number)) (record { bytes = s.bytes; there = s.there; says = s.says })
 
 -- of a text that spells a source, check i is that of clause i
-pub checks_stand : (text : List ℕ) (i : ℕ) (result : Option ℕ) → result ≡ slice_get (check_lines text) i → (source : Contents) → Spells text source → IfSome (slice_get source.clauses i) (λ clause. MatchOption result ⊥ (ChecksAt text clause))
-checks_stand text i result told source spells = clause_stands text source.clauses i result told (source_asks source (lines_said (lines text)) spells.says) (slice_get source.clauses i) refl
+pub checks_stand : (text : List ℕ) (source : Contents) → Spells text source → AreChecksOf text source.clauses
+checks_stand text source spells i = clause_stands text source.clauses i (source_asks source (lines_said (lines text)) spells.says) (slice_get source.clauses i) refl
 
-first_check : (before : ℕ) (l : List ℕ) (lines : List (List ℕ)) → is_check (read_line l) ≡ true → checks_after before (l ∷ lines) ≡ suc before ∷ checks_after (suc before) lines
-first_check before l lines h = ap (λ t. if t then suc before ∷ checks_after (suc before) lines else checks_after (suc before) lines) h
+-- ---- the reader's loop: the numbers that are kept are those of the checks so far
 
--- the first check, on a line that is one
-pub first_found : (before i : ℕ) (all : List (List ℕ)) (l : List ℕ) (lines : List (List ℕ)) (told : Option ℕ) → all ≡ l ∷ lines → is_check (read_line l) ≡ true → i ≡ 0 → slice_get (checks_after before all) i ≡ told → Some (before + 1) ≡ told
-first_found before i all l lines told cut check zero_th h =
-    let same : before + 1 ≡ suc before = omega arith in
-    ap Some same ∙ (sym (ap (λ ls. slice_get (checks_after before ls) i) cut ∙ (ap (λ ns. slice_get ns i) (first_check before l lines check) ∙ ap (slice_get (suc before ∷ checks_after (suc before) lines)) zero_th)) ∙ h)
+checks_told : (reading : Reading) → checks_in reading ≡ (context_of reading).checks
+checks_told Empty = refl
+checks_told (Between before) = refl
+checks_told (Inside before frames block n) = refl
+checks_told (Used before kind) = refl
 
-one_fewer : (n i : ℕ) (numbers : List ℕ) (told : Option ℕ) → (i ≡ 0 → ⊥) → slice_get (n ∷ numbers) i ≡ told → slice_get numbers (i - 1) ≡ told
-one_fewer n zero numbers told some h = absurd (some refl)
-one_fewer n (suc i) numbers told some h = let same : suc i - 1 ≡ i = omega arith in ap (slice_get numbers) same ∙ h
+one_line : (number : ℕ) (said : Result (Option Line) ℕ) (context : Context) → (context_after_lines (line_said said) context).checks ≡ context.checks + length (number_of_check number said)
+one_line number (Ok (Some (line.Check clause))) context = omega arith
+one_line number _ context = omega arith
 
--- the checks past a line that is one
-pub check_passed : (before i : ℕ) (all : List (List ℕ)) (l : List ℕ) (lines : List (List ℕ)) (told : Option ℕ) → all ≡ l ∷ lines → is_check (read_line l) ≡ true → (i ≡ 0 → ⊥) → slice_get (checks_after before all) i ≡ told →
-    slice_get (checks_after (before + 1) lines) (i - 1) ≡ told
-check_passed before i all l lines told cut check some h =
-    let same : before + 1 ≡ suc before = omega arith in
-    ap (λ n. slice_get (checks_after n lines) (i - 1)) same
-    ∙ one_fewer (suc before) i (checks_after (suc before) lines) told some (sym (ap (λ ls. slice_get (checks_after before ls) i) cut ∙ ap (λ ns. slice_get ns i) (first_check before l lines check)) ∙ h)
+-- a line that is taken is one more check, or none
+taken_counted : (reading next : Reading) (number : ℕ) (bytes : List ℕ) → take_if_said reading (read_line bytes) ≡ Ok next → checks_in next ≡ checks_in reading + length (number_of_check number (read_line bytes))
+taken_counted reading next number bytes e =
+    let steps = subst (StepsRead reading (read_line bytes)) e (steps_read reading (read_line bytes)) in
+    checks_told next ∙ (ap (λ context. context.checks) steps.1 ∙ (one_line number (read_line bytes) (context_of reading) ∙ ap (λ n. n + length (number_of_check number (read_line bytes))) (sym (checks_told reading))))
 
--- no check, past the last line
-pub no_more : (before i : ℕ) (all : List (List ℕ)) (told : Option ℕ) → all ≡ [] → slice_get (checks_after before all) i ≡ told → None ≡ told
-no_more before i all told end h = sym (ap (λ ls. slice_get (checks_after before ls) i) end) ∙ h
+-- as many numbers are kept as checks were read
+pub checks_counted : (bytes : List ℕ) (number : ℕ) (kept more : List ℕ) (reading next : Reading) → length kept ≡ checks_in reading → take_if_said reading (read_line bytes) ≡ Ok next → more ≡ kept ++ number_of_check number (read_line bytes) → length more ≡ checks_in next
+checks_counted bytes number kept more reading next so_far e adds =
+    ap length adds ∙ (length-append kept (number_of_check number (read_line bytes)) ∙ (ap (λ n. n + length (number_of_check number (read_line bytes))) so_far ∙ sym (taken_counted reading next number bytes e)))
+
+-- with the numbers that a line adds, those to come are fewer
+pub kept_on : (all kept more : List ℕ) (n : ℕ) (rest bytes after : List ℕ) → lines rest ≡ bytes ∷ lines after → more ≡ kept ++ number_of_check (n + 1) (read_line bytes) → kept ++ checks_after n (lines rest) ≡ all → more ++ checks_after (n + 1) (lines after) ≡ all
+kept_on all kept more n rest bytes after cut adds so_far =
+    let next : n + 1 ≡ suc n = omega arith in
+    ap (λ ns. ns ++ checks_after (n + 1) (lines after)) adds
+    ∙ (append_assoc kept (number_of_check (n + 1) (read_line bytes)) (checks_after (n + 1) (lines after))
+    ∙ (ap (λ m. kept ++ (number_of_check m (read_line bytes) ++ checks_after m (lines after))) next
+    ∙ (ap (λ ls. kept ++ checks_after n ls) (sym cut) ∙ so_far)))
+
+-- past the last line there are none to come
+pub all_kept : (all kept : List ℕ) (n : ℕ) (rest : List ℕ) → lines rest ≡ [] → kept ++ checks_after n (lines rest) ≡ all → kept ≡ all
+all_kept all kept n rest end so_far = sym (append-nil kept) ∙ (ap (λ ls. kept ++ checks_after n ls) (sym end) ∙ so_far)
