@@ -1,8 +1,7 @@
 -- What is wrong with a source that is refused, in words.
-use Rattle.std.specs.Prelude.{ℕ, ◌+◌, ◌-◌, ◌==◌, not, if◌then◌else◌, List, [], ◌++◌, Option, Some, None, codes, decimal, is_some, slice_index}
+use Rattle.std.specs.Prelude.{ℕ, ◌+◌, ◌-◌, not, if◌then◌else◌, List, [], ◌++◌, Option, Some, None, codes, decimal, is_some, slice_index}
 use Rattle.std.specs.List.{position}
 use Rattle.explanations.specs.Advice.{advice_text}
-use Rattle.reglang.specs.Checks.{line_at}
 use Rattle.explanations.specs.OpenBlocks.{innermost, open_after}
 use Rattle.explanations.specs.Origins.{line_told, path_told}
 use Rattle.explanations.specs.Wording.{wrong_text}
@@ -10,13 +9,16 @@ use Rattle.explanations.specs.declared.open_blocks.Opened.{Opened}
 use Rattle.explanations.specs.Misfits.{word_at_fault}
 use Rattle.explanations.specs.declared.wording.Culprit.{Culprit}
 use Rattle.explanations.specs.declared.wording.Culprit.TheVariants.{End, Line, Word}
-use Rattle.reglang.specs.declared.refusals.TheConstants.{NOT_PRINTABLE}
+use Rattle.reglang.specs.Checks.{line_at}
+use Rattle.reglang.specs.declared.refusals.LineFault.TheVariants as fault
+use Rattle.reglang.specs.declared.refusals.LineRefusal.{LineRefusal}
+use Rattle.reglang.specs.declared.refusals.LineRefusal.TheVariants.{Fault, Memory}
 use Rattle.reglang.specs.declared.reader.Rejection.{Rejection}
 use Rattle.explanations.specs.Shown.{is_shown, printable_text, shown}
 
 -- what is at fault: the end of the text where it is told to be, else a word of the line where there is one, else the line
 abbrev pub culprit_of : Rejection → List ℕ → Culprit
-culprit_of rejection line = if rejection.is_of_end then End else (if is_some (word_at_fault rejection.fault.code line) then Word else Line)
+culprit_of rejection line = if rejection.is_of_end then End else (if is_some (word_at_fault rejection.refusal line) then Word else Line)
 
 -- a word, where there is one
 abbrev pub maybe_word_text : Option (List ℕ) → List ℕ
@@ -32,15 +34,19 @@ maybe_byte_text line None = []
 abbrev pub byte_text : List ℕ → List ℕ
 byte_text line = maybe_byte_text line (position (λ b. not (is_shown b)) line)
 
--- the word or byte of the line that is at fault, where the end of the text is not
+-- the word or byte that is at fault of a line that is refused so
+abbrev pub refused_text : LineRefusal → List ℕ → List ℕ
+refused_text (Fault fault.NotPrintable) line = byte_text line
+refused_text refusal line = maybe_word_text (word_at_fault refusal line)
+
+-- the same where the end of the text is not at fault
 abbrev pub word_text : Rejection → List ℕ → List ℕ
 word_text rejection line =
-    if rejection.is_of_end then [] else
-    (if rejection.fault.code == NOT_PRINTABLE then byte_text line else maybe_word_text (word_at_fault rejection.fault.code line))
+    if rejection.is_of_end then [] else refused_text rejection.refusal line
 
 -- what is wrong, and the word or byte at fault
 abbrev pub fault_text : Rejection → List ℕ → List ℕ
-fault_text rejection line = wrong_text rejection.fault.code (culprit_of rejection line) ++ word_text rejection line
+fault_text rejection line = wrong_text rejection.refusal (culprit_of rejection line) ++ word_text rejection line
 
 -- where the line comes from, and what is wrong
 abbrev pub heading : List ℕ → ℕ → Rejection → List ℕ → List ℕ
@@ -50,11 +56,11 @@ heading path number rejection line = path ++ codes ":" ++ decimal number ++ code
 -- is open
 abbrev pub line_explained : List ℕ → ℕ → Rejection → List ℕ → Option Opened → List ℕ
 line_explained path number rejection line opened =
-    heading path number rejection line ++ printable_text line ++ codes "\n" ++ advice_text rejection.fault.code (culprit_of rejection line) line opened ++ codes "\n"
+    heading path number rejection line ++ printable_text line ++ codes "\n" ++ advice_text rejection.refusal (culprit_of rejection line) line opened ++ codes "\n"
 
 -- how many lines stand before the fault: all where the end of the text is at fault
 abbrev pub lines_before : Rejection → ℕ
-lines_before rejection = if rejection.is_of_end then rejection.fault.line else rejection.fault.line - 1
+lines_before rejection = if rejection.is_of_end then rejection.line else rejection.line - 1
 
 -- a block of a text, with the number that is told of its line
 abbrev pub block_told : List ℕ → Option Opened → Option Opened
@@ -64,4 +70,4 @@ block_told text None = None
 -- what is wrong with a text that is refused, in the file of this path
 abbrev pub explained : List ℕ → List ℕ → Rejection → List ℕ
 explained path text rejection =
-    line_explained (path_told path text rejection.fault.line) (line_told text rejection.fault.line) rejection (shown (line_at rejection.fault.line text)) (block_told text (innermost (open_after (lines_before rejection) text)))
+    line_explained (path_told path text rejection.line) (line_told text rejection.line) rejection (shown (line_at rejection.line text)) (block_told text (innermost (open_after (lines_before rejection) text)))

@@ -1,8 +1,11 @@
 -- Which word of a refused line is at fault.
-use Rattle.std.specs.Prelude.{ℕ, ◌==◌, ◌||◌, Bool, true, false, not, if◌then◌else◌, List, [], ◌∷◌, Option, Some, None, is_some, nat_lt, option_map}
+use Rattle.std.specs.Prelude.{ℕ, Bool, true, false, not, if◌then◌else◌, List, [], ◌∷◌, Option, Some, None, is_some, nat_lt, option_map}
 use Rattle.regmodel.specs.declared.limits.TheConstants.{GREATEST_VALUE}
 use Rattle.regmodel.specs.declared.programs.Operand.TheVariants as operand
-use Rattle.reglang.specs.declared.refusals.TheConstants.{NO_CLAUSE, NO_FORM, NO_NUMBER, PAST_LIMIT, UNKNOWN_WORD}
+use Rattle.reglang.specs.declared.refusals.LineFault.{LineFault}
+use Rattle.reglang.specs.declared.refusals.LineFault.TheVariants as fault
+use Rattle.reglang.specs.declared.refusals.LineRefusal.{LineRefusal}
+use Rattle.reglang.specs.declared.refusals.LineRefusal.TheVariants.{Fault, Memory}
 use Rattle.reglang.specs.Forms.{argument_of, is_known, is_no_number, kind_of, operator_of, property_of}
 use Rattle.reglang.specs.Lines.{words}
 use Rattle.reglang.specs.Sorts.{kind_sorts, property_sorts, sorts_after}
@@ -79,16 +82,22 @@ misfit_after (word.Keyword keyword.Check) more = named_misfit keyword.Check more
 misfit_after (word.Keyword key) more = misfit_of (sorts_after key) more
 misfit_after _ more = None
 
--- the word at fault, by the code: the first unknown one, the first that is no number although it begins with a digit, the first that has
--- no place in its line, or the first number that is past the greatest one
-abbrev pub at_fault : ℕ → List (List ℕ) → Option (List ℕ)
-at_fault code [] = None
-at_fault code (first ∷ more) =
-    if code == UNKNOWN_WORD then (if is_keyword (word_of first) then first_that is_unknown more else Some first) else
-    (if code == NO_NUMBER then first_that is_no_number more else
-    (if code == PAST_LIMIT then first_that is_past more else
-    (if code == NO_FORM || code == NO_CLAUSE then misfit_after (word_of first) more else None)))
+-- the word at fault of a line with this fault, by its first word and those behind: the first unknown one, the first that is no number
+-- although it begins with a digit, the first that has no place in its line, or the first number that is past the greatest one
+abbrev pub at_fault : LineFault → List ℕ → List (List ℕ) → Option (List ℕ)
+at_fault fault.UnknownWord first more = if is_keyword (word_of first) then first_that is_unknown more else Some first
+at_fault fault.NoNumber first more = first_that is_no_number more
+at_fault fault.NoForm first more = misfit_after (word_of first) more
+at_fault fault.PastLimit first more = first_that is_past more
+at_fault fault.NoClause first more = misfit_after (word_of first) more
+at_fault _ first more = None
 
--- the word of a line that is at fault, where its fault has this code and is one of its words
-abbrev pub word_at_fault : ℕ → List ℕ → Option (List ℕ)
-word_at_fault code line = at_fault code (words line)
+-- the same of its words; a line without words has none
+abbrev pub fault_among : LineFault → List (List ℕ) → Option (List ℕ)
+fault_among fault [] = None
+fault_among fault (first ∷ more) = at_fault fault first more
+
+-- the word at fault of a line that is refused so, where there is one
+abbrev pub word_at_fault : LineRefusal → List ℕ → Option (List ℕ)
+word_at_fault (Fault fault) line = fault_among fault (words line)
+word_at_fault Memory line = None

@@ -7,6 +7,7 @@ use Rattle.reglang.specs.Lines.{lines}
 use Rattle.reglang.specs.Forms.{read_line}
 use Rattle.reglang.specs.declared.forms.Line.{Line}
 use Rattle.reglang.specs.declared.forms.Line.TheVariants as line
+use Rattle.reglang.specs.declared.refusals.LineFault.{LineFault}
 
 -- one more block inside those that are open; a text that is read has no more than so many
 abbrev pub with_one : List Opened → Opened → List Opened
@@ -17,7 +18,7 @@ abbrev pub without_one : List Opened → List Opened
 without_one blocks = take (length blocks - 1) blocks
 
 -- what is open behind a line with this number that says this, the innermost block last
-abbrev pub open_past : ℕ → Result (Option Line) ℕ → List Opened → List Opened
+abbrev pub open_past : ℕ → Result (Option Line) LineFault → List Opened → List Opened
 open_past number (Ok (Some line.Process)) blocks = with_one blocks (record { block = block.Process; line = number })
 open_past number (Ok (Some (line.If test))) blocks = with_one blocks (record { block = block.If; line = number })
 open_past number (Ok (Some (line.Repeat count))) blocks = with_one blocks (record { block = block.Repeat; line = number })

@@ -9,8 +9,8 @@ use crate::hints::hint_of;
 use crate::line_forms::{first_of, form_of};
 use crate::open_blocks::{Block as Inside, Opened};
 use crate::passed_limits::limit_of;
-use crate::wording::{Change, Culprit, what_to_change};
-use reglang::{Keyword, MISPLACED, NO_CLAUSE, NO_FORM, PAST_LIMIT, UNKNOWN_WORD, Word};
+use crate::wording::{Change, Culprit};
+use reglang::{Keyword, LineFault, LineRefusal, Word};
 use std::io::Write;
 use texts::{Block, Text, WriteFault};
 
@@ -85,13 +85,16 @@ fn stay_words(culprit: Culprit, line: &[u8]) -> &'static str
     if culprit.is_line() {
         return limit_of(line);
     }
-    what_to_change(PAST_LIMIT, culprit)
+    if culprit.is_end() {
+        return "write at least one process";
+    }
+    "write a number up to 1000000000"
 }
 
-/// What to change in a line whose fault has this code, where this is at fault and this block is open.
+/// What to change in a line that is refused so, where this is at fault and this block is open.
 #[derive(Clone, Copy)]
 pub(crate) struct Advice<'a> {
-    pub(crate) code: u8,
+    pub(crate) refusal: LineRefusal,
     pub(crate) culprit: Culprit,
     pub(crate) line: &'a [u8],
     pub(crate) opened: Option<Opened>,
@@ -106,46 +109,52 @@ impl Advice<'_> {
 
     /// With what it begins.
     fn lead(&self) -> &'static str
-        ensures { result.now ≡ spec.advice_lead self.now.code }
+        ensures { result.now ≡ spec.advice_lead self.now.refusal }
     {
-        if self.code == NO_FORM || self.code == NO_CLAUSE {
-            return "give the line its form: ";
+        match self.refusal {
+            LineRefusal::Fault(LineFault::NoForm | LineFault::NoClause) => {
+                "give the line its form: "
+            }
+            _ => "",
         }
-        ""
     }
 
     /// What to change, if not the block that is open.
     fn change(&self) -> Change
         ensures { told_text result
-            ≡ spec.advice_words self.now.code self.now.culprit (words self.now.line.now)
+            ≡ spec.advice_words self.now.refusal self.now.culprit (words self.now.line.now)
             self.now.opened }
     {
         let line = self.line;
-        if self.code == UNKNOWN_WORD {
-            return hint_of(line);
+        let LineRefusal::Fault(fault) = self.refusal else {
+            return Change::Words("try again with more memory");
+        };
+        match fault {
+            LineFault::NotPrintable => Change::Words(
+                "use spaces, and no other bytes than those from space to ~; end each line with a line feed alone",
+            ),
+            LineFault::UnknownWord => hint_of(line),
+            LineFault::NoNumber => Change::Words(
+                "write a number with digits alone, and without a 0 before others",
+            ),
+            LineFault::NoForm | LineFault::NoClause => Change::Form(form_of(line)),
+            LineFault::Misplaced => {
+                Change::Words(move_words(self.culprit, first_of(line), self.opened))
+            }
+            LineFault::PastLimit => Change::Words(stay_words(self.culprit, line)),
+            LineFault::NoRegisters => Change::Words("begin with a line registers NUMBER"),
         }
-        if self.code == NO_FORM || self.code == NO_CLAUSE {
-            return Change::Form(form_of(line));
-        }
-        if self.code == MISPLACED {
-            let words = move_words(self.culprit, first_of(line), self.opened);
-            return Change::Words(words);
-        }
-        if self.code == PAST_LIMIT {
-            return Change::Words(stay_words(self.culprit, line));
-        }
-        Change::Words(what_to_change(self.code, self.culprit))
     }
 
     /// The block to close, where a line that opens or closes one is misplaced, or the end of the text.
     fn block_to_close(&self) -> Option<Opened>
         ensures { result
-            ≡ spec.block_to_close self.now.code self.now.culprit
+            ≡ spec.block_to_close self.now.refusal self.now.culprit
             (forms.first_of (words self.now.line.now)) self.now.opened }
     {
-        if self.code != MISPLACED {
+        let LineRefusal::Fault(LineFault::Misplaced) = self.refusal else {
             return None;
-        }
+        };
         if self.culprit.is_end() || is_outer(first_of(self.line)) {
             return self.opened;
         }
@@ -154,7 +163,7 @@ impl Advice<'_> {
 }
 
 impl Text for Advice<'_> {
-    ghost text = { λ a. spec.advice_text a.code a.culprit a.line.now a.opened };
+    ghost text = { λ a. spec.advice_text a.refusal a.culprit a.line.now a.opened };
 
     fn put<W: Write>(&self, out: &mut W, block: &mut Block) -> Result<(), WriteFault> {
         (self.lead(), self.change(), self.block_to_close()).put(out, block)

@@ -7,37 +7,32 @@ ghost use Rattle.reglang.specs.declared.sorts.Sort.TheVariants as sort;
 ghost use Rattle.explanations.specs.Misfits as spec;
 
 use reglang::{
-    Keyword, NO_CLAUSE, NO_FORM, NO_NUMBER, PAST_LIMIT, Sort, UNKNOWN_WORD, Word, argument_of,
-    is_known, kind_of, kind_sorts, operator_of, property_of, property_sorts, sorts_after,
-    split_word, word_of,
+    Keyword, LineFault, LineRefusal, Sort, Word, argument_of, is_known, kind_of, kind_sorts,
+    operator_of, property_of, property_sorts, sorts_after, split_word, word_of,
 };
 use regmodel::Operand;
 use regmodel::limits::GREATEST_VALUE;
 
-/// The word of a line that is at fault, where the fault of the line has this code: for code 2 the first unknown one, for code 3 the first
-/// that begins with a digit and is no number word, for codes 4 and 8 the first that has no place in a line with its first word, and for code 6
-/// the first number that is past the greatest one. None for another code, where the line wants another word at its end, and where another
-/// limit is passed.
-pub(crate) fn word_at_fault(line: &[u8], code: u8) -> Option<&[u8]>
-    ensures { option_copied result ≡ spec.word_at_fault code line.now }
+/// The word of a line that is at fault, where it is refused so: the first unknown one, the first that begins with a digit and is no number
+/// word, the first that has no place in a line with its first word, or the first number that is past the greatest one. None for another
+/// fault, where the line wants another word at its end, and where another limit is passed.
+pub(crate) fn word_at_fault(line: &[u8], refusal: LineRefusal) -> Option<&[u8]>
+    ensures { option_copied result ≡ spec.word_at_fault refusal line.now }
 {
+    let LineRefusal::Fault(fault) = refusal else {
+        return None;
+    };
     let (first, rest) = split_word(line)?;
-    if code == UNKNOWN_WORD {
-        return match word_of(first) {
+    match fault {
+        LineFault::UnknownWord => match word_of(first) {
             Word::Keyword(_) => first_unknown(rest),
             _ => Some(first),
-        };
+        },
+        LineFault::NoNumber => first_no_number(rest),
+        LineFault::PastLimit => first_past(rest),
+        LineFault::NoForm | LineFault::NoClause => misfit_after(word_of(first), rest),
+        LineFault::NotPrintable | LineFault::Misplaced | LineFault::NoRegisters => None,
     }
-    if code == NO_NUMBER {
-        return first_no_number(rest);
-    }
-    if code == PAST_LIMIT {
-        return first_past(rest);
-    }
-    if code == NO_FORM || code == NO_CLAUSE {
-        return misfit_after(word_of(first), rest);
-    }
-    None
 }
 
 /// The first word that may not stand after a first word.

@@ -1,12 +1,10 @@
 //! The words in which a refused source is explained.
 
 ghost use Rattle.std.specs.Prelude.{◌≡◌};
-ghost use Rattle.explanations.specs.Wording.{change_text, wrong_text};
+ghost use Rattle.explanations.specs.Wording.{fault_words, wrong_text};
 
 use crate::line_forms::Form;
-use reglang::{
-    MISPLACED, NO_CLAUSE, NO_FORM, NO_NUMBER, NO_REGISTERS, NOT_PRINTABLE, PAST_LIMIT, UNKNOWN_WORD,
-};
+use reglang::{LineFault, LineRefusal};
 use std::io::Write;
 use texts::{Block, Text, WriteFault};
 
@@ -68,45 +66,37 @@ impl Text for Change {
     }
 }
 
-/// What is wrong with a text whose first fault has this code, 1 to 9.
-pub(crate) fn what_is_wrong(code: u8, culprit: Culprit) -> &'static str
-    ensures { result.now ≡ wrong_text code culprit }
+/// What is wrong with a text that is refused so.
+pub(crate) fn what_is_wrong(refusal: LineRefusal, culprit: Culprit) -> &'static str
+    ensures { result.now ≡ wrong_text refusal culprit }
 {
-    let named = culprit.is_word();
-    let ended = culprit.is_end();
-    match code {
-        NOT_PRINTABLE => {
-            "a byte that is not printable ASCII, such as a tab or the carriage return of a Windows line end"
-        }
-        UNKNOWN_WORD => "an unknown word",
-        NO_NUMBER => "a word that begins with a digit and is no number",
-        NO_FORM if named => "a word that has no place here",
-        NO_FORM => "a word is missing at the end",
-        MISPLACED if ended => "the text ends within a process",
-        MISPLACED => "the line cannot stand here",
-        PAST_LIMIT if ended => "the text has no process",
-        PAST_LIMIT => "a limit is passed",
-        NO_REGISTERS if ended => "the text has no registers line",
-        NO_REGISTERS => "no registers line comes first",
-        NO_CLAUSE if named => "a word that no clause has here",
-        NO_CLAUSE => "a word is missing at the end of the clause",
-        _ => "memory ran out at this line",
+    match refusal {
+        LineRefusal::Fault(fault) => fault_words(fault, culprit),
+        LineRefusal::Memory => "memory ran out at this line",
     }
 }
 
-/// What to change in a text whose first fault has this code, where that is the same in each line: 1, 3, 6 for a number and at the end of the
-/// text, 7 and 9.
-pub(crate) fn what_to_change(code: u8, culprit: Culprit) -> &'static str
-    ensures { result.now ≡ change_text code culprit }
+/// What is wrong with a line or an end that has this fault.
+fn fault_words(fault: LineFault, culprit: Culprit) -> &'static str
+    ensures { result.now ≡ fault_words fault culprit }
 {
-    match code {
-        NOT_PRINTABLE => {
-            "use spaces, and no other bytes than those from space to ~; end each line with a line feed alone"
+    let named = culprit.is_word();
+    let ended = culprit.is_end();
+    match fault {
+        LineFault::NotPrintable => {
+            "a byte that is not printable ASCII, such as a tab or the carriage return of a Windows line end"
         }
-        NO_NUMBER => "write a number with digits alone, and without a 0 before others",
-        PAST_LIMIT if culprit.is_end() => "write at least one process",
-        PAST_LIMIT => "write a number up to 1000000000",
-        NO_REGISTERS => "begin with a line registers NUMBER",
-        _ => "try again with more memory",
+        LineFault::UnknownWord => "an unknown word",
+        LineFault::NoNumber => "a word that begins with a digit and is no number",
+        LineFault::NoForm if named => "a word that has no place here",
+        LineFault::NoForm => "a word is missing at the end",
+        LineFault::Misplaced if ended => "the text ends within a process",
+        LineFault::Misplaced => "the line cannot stand here",
+        LineFault::PastLimit if ended => "the text has no process",
+        LineFault::PastLimit => "a limit is passed",
+        LineFault::NoRegisters if ended => "the text has no registers line",
+        LineFault::NoRegisters => "no registers line comes first",
+        LineFault::NoClause if named => "a word that no clause has here",
+        LineFault::NoClause => "a word is missing at the end of the clause",
     }
 }

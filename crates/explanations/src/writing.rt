@@ -13,7 +13,7 @@ use crate::misfits::word_at_fault;
 use crate::open_blocks::{Opened, open_block};
 use crate::origins::origin_of;
 use crate::wording::{Culprit, what_is_wrong};
-use reglang::{NOT_PRINTABLE, Rejection};
+use reglang::{LineFault, LineRefusal, Rejection};
 use std::io::Write;
 use texts::{Block, Text, WriteFault, write};
 
@@ -29,9 +29,9 @@ pub fn write_explanation<W: Write>(
 ) -> Result<(), WriteFault>
     ensures { Wrote W.contents out.old out.new (explained path.now text.now rejection.now) result }
 {
-    let line = shown_line(text, rejection.fault.line);
+    let line = shown_line(text, rejection.line);
     let opened = block_told(text, open_block(text, lines_before(rejection)));
-    let origin = origin_of(path, text, rejection.fault.line);
+    let origin = origin_of(path, text, rejection.line);
     let explanation = Explanation {
         path: origin.path,
         number: origin.line,
@@ -46,7 +46,7 @@ pub fn write_explanation<W: Write>(
 fn lines_before(rejection: &Rejection) -> u64
     ensures { result ≡ spec.lines_before rejection.now }
 {
-    let line = rejection.fault.line;
+    let line = rejection.line;
     if rejection.is_of_end {
         line
     } else {
@@ -82,11 +82,11 @@ impl Text for Explanation<'_> {
     ghost text = { λ e. line_explained e.path.now e.number e.rejection.now e.line.now e.opened };
 
     fn put<W: Write>(&self, out: &mut W, block: &mut Block) -> Result<(), WriteFault> {
-        let fault = self.rejection.fault;
+        let refusal = self.rejection.refusal;
         let culprit = culprit_of(self.rejection, self.line);
-        let wrong = what_is_wrong(fault.code, culprit);
+        let wrong = what_is_wrong(refusal, culprit);
         let advice = Advice {
-            code: fault.code,
+            refusal,
             culprit,
             line: self.line,
             opened: self.opened,
@@ -115,10 +115,10 @@ impl Text for WordAtFault<'_> {
         if self.rejection.is_of_end {
             return Ok(());
         }
-        if self.rejection.fault.code == NOT_PRINTABLE {
+        if let LineRefusal::Fault(LineFault::NotPrintable) = self.rejection.refusal {
             return ByteAtFault(self.line).put(out, block);
         }
-        match word_at_fault(self.line, self.rejection.fault.code) {
+        match word_at_fault(self.line, self.rejection.refusal) {
             Some(word) => (": ", word).put(out, block),
             None => Ok(()),
         }
@@ -156,7 +156,7 @@ fn culprit_of(rejection: &Rejection, line: &[u8]) -> Culprit
     if rejection.is_of_end {
         return Culprit::End;
     }
-    match word_at_fault(line, rejection.fault.code) {
+    match word_at_fault(line, rejection.refusal) {
         Some(_) => Culprit::Word,
         None => Culprit::Line,
     }

@@ -1,8 +1,7 @@
 -- The checks of a text that spells a source are the lines of its clauses, one after another; and the reader keeps their numbers.
-use Rattle.std.proofs.Common.{◌≡◌, ℕ, zero, suc, ◌+◌, ◌<◌, Bool, true, false, List, [], ◌∷◌, ◌++◌, length, length-append, map, append_assoc, append-nil, Option, Some, None, Result, Ok, Err, inl, inr, refl, ap, sym, subst, ◌∙◌, arith, slice_get, MatchOption, IfSome}
-use Rattle.std.specs.Prelude.{if◌then◌else◌, ◌&&◌, nat_lt, option_map}
+use Rattle.std.proofs.Common.{◌≡◌, ℕ, zero, suc, ◌+◌, List, [], ◌∷◌, ◌++◌, length, length-append, map, append_assoc, append-nil, Option, Some, None, Result, Ok, inl, inr, refl, ap, sym, subst, ◌∙◌, arith, slice_get, MatchOption, IfSome}
+use Rattle.std.specs.Prelude.{option_map}
 use Rattle.std.specs.List.{flat_map}
-use Rattle.std.proofs.lemmas.Bool.{ltb-true}
 use Rattle.std.proofs.lemmas.Grind.{flat_map-append}
 use Rattle.std.proofs.lemmas.Option.{slice_get-map}
 use Rattle.regmodel.specs.declared.clauses.Clause.{Clause}
@@ -10,13 +9,14 @@ use Rattle.regmodel.specs.Program as program
 use Rattle.regmodel.specs.Program.{Block}
 use Rattle.reglang.specs.Checks.{AreChecksOf, ChecksAt, checks_after, check_lines, number_of_check}
 use Rattle.reglang.specs.Contents.{Contents, Body, Text, Kind}
-use Rattle.reglang.specs.Drafts.{Reading, Empty, Between, Inside, Used, checks_in, take_if_said, take_line}
+use Rattle.reglang.specs.Drafts.{Reading, Empty, Between, Inside, Used, checks_in, take_if_said}
 use Rattle.reglang.specs.Faults.{Context, context_after_lines}
 use Rattle.reglang.specs.Forms.{read_line}
 use Rattle.reglang.specs.Grammar.{BlockSays, ElseSays, BodySays, Part, Process, Check, PartsSay, clauses_in, LinesSay, line_said, lines_said, Spells}
 use Rattle.reglang.specs.Lines.{lines}
 use Rattle.reglang.specs.declared.forms.Line.{Line}
 use Rattle.reglang.specs.declared.forms.Line.TheVariants as line
+use Rattle.reglang.specs.declared.refusals.LineFault.{LineFault}
 use Rattle.reglang.proofs.Contexts.{StepsRead, context_of, steps_read}
 
 -- what a check asks, or nothing of another line
@@ -122,7 +122,7 @@ at_check before zero l rest own clause read find h = record {
 at_check before (suc i) l rest own clause read find h = later before i l _ rest clause (suc i) _ refl (find (suc before) i clause h)
 
 -- by what the line says
-at_line : (before i : ℕ) (l : List ℕ) (lines : List (List ℕ)) (clause : Option Clause) (said : Result (Option Line) ℕ) → read_line l ≡ said → Finds lines → slice_get (asked (line_said said ++ lines_said lines)) i ≡ Some clause →
+at_line : (before i : ℕ) (l : List ℕ) (lines : List (List ℕ)) (clause : Option Clause) (said : Result (Option Line) LineFault) → read_line l ≡ said → Finds lines → slice_get (asked (line_said said ++ lines_said lines)) i ≡ Some clause →
     Found before i (number_of_check (suc before) said ++ checks_after (suc before) lines) (l ∷ lines) clause
 at_line before i l lines clause (Ok (Some (line.Check own))) read find h = at_check before i l lines own clause read find h
 at_line before i l lines clause _ read find h = later before i l _ lines clause i _ refl (find (suc before) i clause h)
@@ -152,7 +152,7 @@ checks_told (Between before) = refl
 checks_told (Inside before frames block n) = refl
 checks_told (Used before kind) = refl
 
-one_line : (number : ℕ) (said : Result (Option Line) ℕ) (context : Context) → (context_after_lines (line_said said) context).checks ≡ context.checks + length (number_of_check number said)
+one_line : (number : ℕ) (said : Result (Option Line) LineFault) (context : Context) → (context_after_lines (line_said said) context).checks ≡ context.checks + length (number_of_check number said)
 one_line number (Ok (Some (line.Check clause))) context = omega arith
 one_line number _ context = omega arith
 

@@ -27,16 +27,18 @@ use Rattle.reglang.specs.declared.vocabulary.Property.{Property}
 use Rattle.reglang.specs.declared.vocabulary.Property.TheVariants as property
 use Rattle.reglang.specs.declared.words.Word.{Word}
 use Rattle.reglang.specs.declared.words.Word.TheVariants as word
+use Rattle.reglang.specs.declared.refusals.LineFault.{LineFault}
+use Rattle.reglang.specs.declared.refusals.LineFault.TheVariants.{NoForm, NoNumber, NotPrintable, UnknownWord}
 
 -- the clause of a check is within its limits
 abbrev pub IsLineFit : Line → Type 0
 IsLineFit (line.Check (Some c)) = clause_fits c ≡ true
 IsLineFit _ = Unit {0}
 
-abbrev pub IsReadFit : Result (Option Line) ℕ → Type 0
+abbrev pub IsReadFit : Result (Option Line) LineFault → Type 0
 IsReadFit (Ok (Some l)) = IsLineFit l
 IsReadFit (Ok None) = Unit {0}
-IsReadFit (Err code) = Unit {0}
+IsReadFit (Err wrong) = Unit {0}
 
 -- ---- arguments are of their sorts
 
@@ -151,17 +153,17 @@ form_fits : (key : Keyword) (ws : List Word) → IsFormFit (form_of key ws)
 form_fits keyword.Use ws = use_form_fits ws
 form_fits key ws = made_fits key (arguments (sorts_after key) ws)
 
-or_fits : (code : ℕ) (o : Option Line) → IsFormFit o → IsReadFit (or_fault code o)
-or_fits code (Some l) h = h
-or_fits code None h = tt
+or_fits : (wrong : LineFault) (o : Option Line) → IsFormFit o → IsReadFit (or_fault wrong o)
+or_fits wrong (Some l) h = h
+or_fits wrong None h = tt
 
-tested : (known bad : Bool) (result : Result (Option Line) ℕ) → IsReadFit result → IsReadFit (if not known then Err 2 else (if bad then Err 3 else result))
+tested : (known bad : Bool) (result : Result (Option Line) LineFault) → IsReadFit result → IsReadFit (if not known then Err UnknownWord else (if bad then Err NoNumber else result))
 tested true true result h = tt
 tested true false result h = h
 tested false bad result h = tt
 
 keyword_line_fits : (key : Keyword) (ws : List Word) → IsReadFit (keyword_line key ws)
-keyword_line_fits key ws = tested (list_all is_known ws) (list_any is_no_number ws) (or_fault 4 (form_of key ws)) (or_fits 4 (form_of key ws) (form_fits key ws))
+keyword_line_fits key ws = tested (list_all is_known ws) (list_any is_no_number ws) (or_fault NoForm (form_of key ws)) (or_fits NoForm (form_of key ws) (form_fits key ws))
 
 words_fit : (ws : List Word) → IsReadFit (line_of ws)
 words_fit [] = tt
@@ -169,7 +171,7 @@ words_fit (word.Keyword keyword.Check ∷ ws) = check_is_fit (clause_of ws) (cla
 words_fit (word.Keyword key ∷ ws) = keyword_line_fits key ws
 words_fit (_ ∷ ws) = tt
 
-printed : (t : Bool) (result : Result (Option Line) ℕ) → IsReadFit result → IsReadFit (if t then result else Err 1)
+printed : (t : Bool) (result : Result (Option Line) LineFault) → IsReadFit result → IsReadFit (if t then result else Err NotPrintable)
 printed true result h = h
 printed false result h = tt
 

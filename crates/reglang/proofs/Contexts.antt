@@ -19,6 +19,8 @@ use Rattle.reglang.specs.declared.forms.Line.{Line}
 use Rattle.reglang.specs.declared.forms.Line.TheVariants as line
 use Rattle.reglang.specs.declared.reader.ReadFault.{ReadFault}
 use Rattle.uses.specs.declared.kinds.Use.{Use}
+use Rattle.reglang.specs.declared.refusals.LineFault.{LineFault}
+use Rattle.reglang.specs.declared.refusals.LineFault.TheVariants.{Misplaced, NoClause, PastLimit}
 
 -- where the next line stands
 abbrev pub context_of : Reading → Context
@@ -28,11 +30,11 @@ context_of (Inside before frames block n) = record { registers = Some before.reg
 context_of (Used before kind) = record { registers = Some before.registers; processes = suc (length before.processes); checks = length before.clauses; place = faults.Used }
 
 -- what was taken had no fault, and leads where its line leads; what was not had just this fault
-abbrev Steps : Reading → Line → Result Reading ℕ → Type 0
+abbrev Steps : Reading → Line → Result Reading LineFault → Type 0
 Steps reading line (Ok next) = (line_fault (context_of reading) line ≡ None) × (context_of next ≡ context_after_line line (context_of reading))
-Steps reading line (Err code) = line_fault (context_of reading) line ≡ Some code
+Steps reading line (Err wrong) = line_fault (context_of reading) line ≡ Some wrong
 
-limited : (reading : Reading) (line : Line) (next : Reading) (t : Bool) → line_fault (context_of reading) line ≡ (if not t then Some 6 else None) → context_of next ≡ context_after_line line (context_of reading) → Steps reading line (if t then Ok next else Err 6)
+limited : (reading : Reading) (line : Line) (next : Reading) (t : Bool) → line_fault (context_of reading) line ≡ (if not t then Some PastLimit else None) → context_of next ≡ context_after_line line (context_of reading) → Steps reading line (if t then Ok next else Err PastLimit)
 limited reading line next true f s = (f, s)
 limited reading line next false f s = f
 
@@ -46,9 +48,9 @@ begins _ = refl
 abbrev outside : ℕ → ℕ → ℕ → Context
 outside registers processes checks = record { registers = Some registers; processes = processes; checks = checks; place = faults.Outside }
 
-no_clause : (before : Contents) (t : Bool) → nat_lt (length before.clauses) 16 ≡ t → Steps (Between before) (line.Check None) (if t then Err 8 else Err 6)
-no_clause before true h = ap (λ t. if not t then Some 6 else Some 8) h
-no_clause before false h = ap (λ t. if not t then Some 6 else Some 8) h
+no_clause : (before : Contents) (t : Bool) → nat_lt (length before.clauses) 16 ≡ t → Steps (Between before) (line.Check None) (if t then Err NoClause else Err PastLimit)
+no_clause before true h = ap (λ t. if not t then Some PastLimit else Some NoClause) h
+no_clause before false h = ap (λ t. if not t then Some PastLimit else Some NoClause) h
 
 checked : (before : Contents) (clause : Option Clause) → Steps (Between before) (line.Check clause) (take_line (Between before) (line.Check clause))
 checked before (Some clause) =
@@ -62,12 +64,12 @@ between before (line.Check clause) = checked before clause
 between before _ = refl
 
 entered : (before : Contents) (frames : List Frame) (block : Block) (n : ℕ) (l : Line) (frame : Frame) (fits : Bool) →
-    line_fault (context_of (Inside before frames block n)) l ≡ (if not (nat_lt n 200 && fits && nat_lt (length (map opened_of frames)) 16) then Some 6 else None) →
+    line_fault (context_of (Inside before frames block n)) l ≡ (if not (nat_lt n 200 && fits && nat_lt (length (map opened_of frames)) 16) then Some PastLimit else None) →
     context_of (Inside before (frame ∷ frames) program.Stop (suc n)) ≡ context_after_line l (context_of (Inside before frames block n)) →
     Steps (Inside before frames block n) l (enter before frame frames n fits)
 entered before frames block n l frame fits f s =
     limited (Inside before frames block n) l _ (nat_lt n 200 && fits && nat_lt (length frames) 16)
-    (f ∙ ap (λ m. if not (nat_lt n 200 && fits && nat_lt m 16) then Some 6 else None) (length-map frames opened_of)) s
+    (f ∙ ap (λ m. if not (nat_lt n 200 && fits && nat_lt m 16) then Some PastLimit else None) (length-map frames opened_of)) s
 
 elsed : (before : Contents) (frames : List Frame) (block : Block) (n : ℕ) → Steps (Inside before frames block n) line.Else (enter_else before frames block n)
 elsed before [] block n = refl
@@ -89,17 +91,17 @@ done_left before (Turn count outer ∷ frames) block n = (refl, refl)
 
 ended : (before : Contents) (frames : List Frame) (block : Block) (n : ℕ) → Steps (Inside before frames block n) line.End (leave before frames block)
 ended before [] block n = (refl, ap (λ m. outside before.registers m (length before.clauses)) (one_more before.processes (Text block)))
-ended before (frame ∷ frames) block n = ap (λ t. if t then Some 5 else None) (lt-ltb 0 (suc (length (map opened_of frames))) (omega arith))
+ended before (frame ∷ frames) block n = ap (λ t. if t then Some Misplaced else None) (lt-ltb 0 (suc (length (map opened_of frames))) (omega arith))
 
-stood : (before : Contents) (frames : List Frame) (block : Block) (n : ℕ) (kind : Use) (t : Bool) → nat_lt 0 n ≡ t → Steps (Inside before frames block n) (line.Use kind) (if t then Err 5 else (if use_fits kind before.registers then Ok (Used before kind) else Err 6))
-stood before frames block n kind true h = ap (λ t. if t then Some 5 else (if not (use_fits kind before.registers) then Some 6 else None)) h
+stood : (before : Contents) (frames : List Frame) (block : Block) (n : ℕ) (kind : Use) (t : Bool) → nat_lt 0 n ≡ t → Steps (Inside before frames block n) (line.Use kind) (if t then Err Misplaced else (if use_fits kind before.registers then Ok (Used before kind) else Err PastLimit))
+stood before frames block n kind true h = ap (λ t. if t then Some Misplaced else (if not (use_fits kind before.registers) then Some PastLimit else None)) h
 stood before frames block n kind false h =
     limited (Inside before frames block n) (line.Use kind) _ (use_fits kind before.registers)
-    (ap (λ t. if t then Some 5 else (if not (use_fits kind before.registers) then Some 6 else None)) h) refl
+    (ap (λ t. if t then Some Misplaced else (if not (use_fits kind before.registers) then Some PastLimit else None)) h) refl
 
-halted : (before : Contents) (frames : List Frame) (block : Block) (n : ℕ) (t : Bool) → nat_lt n 200 ≡ t → Steps (Inside before frames block n) line.Halt (if t && true then Ok (Inside before frames (block ⊕ program.Halt program.Stop) (suc n)) else Err 6)
-halted before frames block n true h = (ap (λ t. if not t then Some 6 else None) h, refl)
-halted before frames block n false h = ap (λ t. if not t then Some 6 else None) h
+halted : (before : Contents) (frames : List Frame) (block : Block) (n : ℕ) (t : Bool) → nat_lt n 200 ≡ t → Steps (Inside before frames block n) line.Halt (if t && true then Ok (Inside before frames (block ⊕ program.Halt program.Stop) (suc n)) else Err PastLimit)
+halted before frames block n true h = (ap (λ t. if not t then Some PastLimit else None) h, refl)
+halted before frames block n false h = ap (λ t. if not t then Some PastLimit else None) h
 
 inside : (before : Contents) (frames : List Frame) (block : Block) (n : ℕ) (l : Line) → Steps (Inside before frames block n) l (take_line (Inside before frames block n) l)
 inside before frames block n (line.Set to value) = limited (Inside before frames block n) (line.Set to value) _ (nat_lt n 200 && (target_fits to && expr_fits value)) refl refl
@@ -128,18 +130,18 @@ steps (Inside before frames block n) l = inside before frames block n l
 steps (Used before kind) l = used before kind l
 
 -- the same of a line as it was read
-abbrev pub StepsRead : Reading → Result (Option Line) ℕ → Result Reading ℕ → Type 0
+abbrev pub StepsRead : Reading → Result (Option Line) LineFault → Result Reading LineFault → Type 0
 StepsRead reading read (Ok next) = (fault_of_line (context_of reading) read ≡ None) × (context_of next ≡ context_after_lines (line_said read) (context_of reading))
-StepsRead reading read (Err code) = fault_of_line (context_of reading) read ≡ Some code
+StepsRead reading read (Err wrong) = fault_of_line (context_of reading) read ≡ Some wrong
 
-read_as : (reading : Reading) (l : Line) (result : Result Reading ℕ) → Steps reading l result → StepsRead reading (Ok (Some l)) result
+read_as : (reading : Reading) (l : Line) (result : Result Reading LineFault) → Steps reading l result → StepsRead reading (Ok (Some l)) result
 read_as reading l (Ok next) h = h
-read_as reading l (Err code) h = h
+read_as reading l (Err wrong) h = h
 
-pub steps_read : (reading : Reading) (read : Result (Option Line) ℕ) → StepsRead reading read (take_if_said reading read)
+pub steps_read : (reading : Reading) (read : Result (Option Line) LineFault) → StepsRead reading read (take_if_said reading read)
 steps_read reading (Ok (Some l)) = read_as reading l (take_line reading l) (steps reading l)
 steps_read reading (Ok None) = (refl, refl)
-steps_read reading (Err code) = refl
+steps_read reading (Err wrong) = refl
 
 after_append : (xs ys : List Line) (context : Context) → context_after_lines (xs ++ ys) context ≡ context_after_lines ys (context_after_lines xs context)
 after_append [] ys context = refl
@@ -153,13 +155,13 @@ context_more before l =
     ∙ ap (λ lines. context_after_lines lines (context_after before)) (append-nil (line_said (read_line l))))
 
 -- what was read at the end, or the end's fault
-abbrev Ends : Reading → Result Contents ℕ → Type 0
+abbrev Ends : Reading → Result Contents LineFault → Type 0
 Ends reading (Ok contents) = end_fault (context_of reading) ≡ None
-Ends reading (Err code) = end_fault (context_of reading) ≡ Some code
+Ends reading (Err wrong) = end_fault (context_of reading) ≡ Some wrong
 
-ends_between : (before : Contents) (t : Bool) → nat_lt 0 (length before.processes) ≡ t → Ends (Between before) (if t then Ok before else Err 6)
-ends_between before true h = ap (λ t. if t then None else Some 6) h
-ends_between before false h = ap (λ t. if t then None else Some 6) h
+ends_between : (before : Contents) (t : Bool) → nat_lt 0 (length before.processes) ≡ t → Ends (Between before) (if t then Ok before else Err PastLimit)
+ends_between before true h = ap (λ t. if t then None else Some PastLimit) h
+ends_between before false h = ap (λ t. if t then None else Some PastLimit) h
 
 ends : (reading : Reading) → Ends reading (contents_at_end reading)
 ends Empty = refl
@@ -172,17 +174,17 @@ abbrev pub Agrees : Result Contents ReadFault → Option ReadFault → Type 0
 Agrees (Ok contents) fault = fault ≡ None
 Agrees (Err f) fault = fault ≡ Some f
 
-end_agrees : (reading : Reading) (n number : ℕ) (context : Context) → context_of reading ≡ context → n ≡ number → (result : Result Contents ℕ) → Ends reading result → Agrees (faulty_at (max 1 n) result) (at_line (max 1 number) (end_fault context))
+end_agrees : (reading : Reading) (n number : ℕ) (context : Context) → context_of reading ≡ context → n ≡ number → (result : Result Contents LineFault) → Ends reading result → Agrees (faulty_at (max 1 n) result) (at_line (max 1 number) (end_fault context))
 end_agrees reading n number context s e (Ok contents) h = rw (← s, h) refl
-end_agrees reading n number context s e (Err code) h = rw (← s, h, ← e) refl
+end_agrees reading n number context s e (Err wrong) h = rw (← s, h, ← e) refl
 
 reads_on : (reading : Reading) (before : List (List ℕ)) (n : ℕ) (l : List ℕ) (lines : List (List ℕ)) → context_of reading ≡ context_after before → n ≡ length before →
     ((next : Reading) → context_of next ≡ context_after (before ++ l ∷ []) → Agrees (read_from next (suc n) lines) (fault_from (before ++ l ∷ []) lines)) →
-    (result : Result Reading ℕ) → StepsRead reading (read_line l) result →
+    (result : Result Reading LineFault) → StepsRead reading (read_line l) result →
     Agrees (goes_on (faulty_at (suc n) result) (λ next. read_from next (suc n) lines)) (or_later (at_line (suc (length before)) (fault_of_line (context_after before) (read_line l))) (fault_from (before ++ l ∷ []) lines))
 reads_on reading before n l lines s e later (Ok next) h =
     rw (← s, h.0) (later next (h.1 ∙ (ap (context_after_lines (line_said (read_line l))) s ∙ sym (context_more before l))))
-reads_on reading before n l lines s e later (Err code) h = rw (← s, h, ← e) refl
+reads_on reading before n l lines s e later (Err wrong) h = rw (← s, h, ← e) refl
 
 -- reading by whole values finds the first fault, where it stands as the lines before say
 pub reads_first : (reading : Reading) (before : List (List ℕ)) (n : ℕ) (lines : List (List ℕ)) → context_of reading ≡ context_after before → n ≡ length before → Agrees (read_from reading n lines) (fault_from before lines)

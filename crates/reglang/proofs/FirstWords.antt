@@ -21,6 +21,7 @@ use Rattle.reglang.specs.declared.vocabulary.Property.{Property}
 use Rattle.reglang.specs.declared.vocabulary.Property.TheVariants as property
 use Rattle.reglang.specs.declared.words.Word.{Word}
 use Rattle.reglang.specs.declared.words.Word.TheVariants as word
+use Rattle.reglang.specs.declared.refusals.LineFault.TheVariants.{NoForm, NotPrintable}
 
 -- ---- arguments, from more words than they are
 
@@ -82,13 +83,13 @@ pub clause_of-take : (words : List Word) → clause_of (take 6 words) ≡ clause
 clause_of-take [] = refl
 clause_of-take (w ∷ ws) = property_clause-take (property_of w) ws
 
-pub keyword_line_from : (key : Keyword) (more : List Word) → list_all is_known more ≡ true → list_any is_no_number more ≡ false → keyword_line key more ≡ or_fault 4 (form_of key more)
+pub keyword_line_from : (key : Keyword) (more : List Word) → list_all is_known more ≡ true → list_any is_no_number more ≡ false → keyword_line key more ≡ or_fault NoForm (form_of key more)
 keyword_line_from key more known numbers = rw (known, numbers) refl
 
 -- what the first six of the words behind a keyword tell, where none of the words counts before its form
-pub keyword_line_told : (key : Keyword) (more first : List Word) (form : Option Line) → form ≡ form_of key first → first ≡ take 6 more → list_all is_known more ≡ true → list_any is_no_number more ≡ false → or_fault 4 form ≡ keyword_line key more
-keyword_line_told key more first form told six known numbers = ap (or_fault 4) (told ∙ ap (form_of key) six ∙ form_of-take key more) ∙ sym (keyword_line_from key more known numbers)
+pub keyword_line_told : (key : Keyword) (more first : List Word) (form : Option Line) → form ≡ form_of key first → first ≡ take 6 more → list_all is_known more ≡ true → list_any is_no_number more ≡ false → or_fault NoForm form ≡ keyword_line key more
+keyword_line_told key more first form told six known numbers = ap (or_fault NoForm) (told ∙ ap (form_of key) six ∙ form_of-take key more) ∙ sym (keyword_line_from key more known numbers)
 
 pub read_check : (bytes first rest : List ℕ) → is_printable bytes ≡ true → words bytes ≡ first ∷ words rest → word_of first ≡ word.Keyword keyword.Check → read_line bytes ≡ Ok (Some (line.Check (clause_of (map word_of (words rest)))))
 read_check bytes first rest printable cut key =
-    cond-true _ _ (Err 1) printable ∙ ap (λ ws. line_of (map word_of ws)) cut ∙ ap (λ f. line_of (f ∷ map word_of (words rest))) key
+    cond-true _ _ (Err NotPrintable) printable ∙ ap (λ ws. line_of (map word_of ws)) cut ∙ ap (λ f. line_of (f ∷ map word_of (words rest))) key

@@ -14,6 +14,8 @@ use Rattle.uses.specs.Uses.{is_between, use_fits}
 use Rattle.reglang.specs.declared.forms.Line.{Line}
 use Rattle.reglang.specs.declared.forms.Line.TheVariants as line
 use Rattle.uses.specs.declared.kinds.Use.{Use}
+use Rattle.reglang.specs.declared.refusals.LineFault.{LineFault}
+use Rattle.reglang.specs.declared.refusals.LineFault.TheVariants.{Misplaced, NoClause, PastLimit}
 use Rattle.reglang.proofs.ClausesFit.{IsLineFit, IsReadFit, read_fits}
 
 -- ---- blocks one after another
@@ -91,17 +93,17 @@ nothing_fits registers blocks repeats h k = record { operands = refl; depth = om
 
 -- ---- one line more
 
-abbrev Fitting : Result Reading ℕ → Type 0
+abbrev Fitting : Result Reading LineFault → Type 0
 Fitting (Ok next) = ReadingFits next
-Fitting (Err code) = Unit {0}
+Fitting (Err wrong) = Unit {0}
 
-chosen : (next : Reading) (t : Bool) (code : ℕ) → (t ≡ true → ReadingFits next) → Fitting (if t then Ok next else Err code)
-chosen next true code k = k refl
-chosen next false code k = tt
+chosen : (next : Reading) (t : Bool) (wrong : LineFault) → (t ≡ true → ReadingFits next) → Fitting (if t then Ok next else Err wrong)
+chosen next true wrong k = k refl
+chosen next false wrong k = tt
 
-added : (before : Contents) (frames : List Frame) (block : Block) (n : ℕ) (fits : Bool) (statement : Block) → InsideFits before frames block n → (fits ≡ true → operands_fit before.registers statement ≡ true) → open_blocks statement ≡ 0 → open_repeats statement ≡ 0 → statements statement ≡ 1 → Fitting (if nat_lt n 200 && fits then Ok (Inside before frames (block ⊕ statement) (suc n)) else Err 6)
+added : (before : Contents) (frames : List Frame) (block : Block) (n : ℕ) (fits : Bool) (statement : Block) → InsideFits before frames block n → (fits ≡ true → operands_fit before.registers statement ≡ true) → open_blocks statement ≡ 0 → open_repeats statement ≡ 0 → statements statement ≡ 1 → Fitting (if nat_lt n 200 && fits then Ok (Inside before frames (block ⊕ statement) (suc n)) else Err PastLimit)
 added before frames block n fits statement h operands blocks repeats one =
-    chosen (Inside before frames (block ⊕ statement) (suc n)) (nat_lt n 200 && fits) 6 (λ t.
+    chosen (Inside before frames (block ⊕ statement) (suc n)) (nat_lt n 200 && fits) PastLimit (λ t.
     let parts = and_parts (nat_lt n 200) fits t in
     let room = ltb-true n 200 parts.0 in
     let inner = innermost before.registers frames block h.nested in
@@ -118,7 +120,7 @@ added before frames block n fits statement h operands blocks repeats one =
 
 entered : (before : Contents) (frame : Frame) (frames : List Frame) (block : Block) (n : ℕ) (fits : Bool) → InsideFits before frames block n → (fits ≡ true → length frames < 16 → FramesFit before.registers (frame ∷ frames) Stop) → statements_around (frame ∷ frames) ≡ suc (statements block + statements_around frames) → Fitting (enter before frame frames n fits)
 entered before frame frames block n fits h nested around =
-    chosen (Inside before (frame ∷ frames) Stop (suc n)) (nat_lt n 200 && fits && nat_lt (length frames) 16) 6 (λ t.
+    chosen (Inside before (frame ∷ frames) Stop (suc n)) (nat_lt n 200 && fits && nat_lt (length frames) 16) PastLimit (λ t.
     let parts = and_parts (nat_lt n 200 && fits) (nat_lt (length frames) 16) t in
     let inner = and_parts (nat_lt n 200) fits parts.0 in
     let room = ltb-true n 200 inner.0 in
@@ -217,10 +219,10 @@ ended before [] block n h =
     (record { some_register = h.contents.some_register; registers = h.contents.few_registers; operands = nested.operands; statements = omega arith; open_blocks = omega arith; open_repeats = omega arith })
 ended before (frame ∷ frames) block n h = tt
 
-stood : (before : Contents) (frames : List Frame) (block : Block) (n : ℕ) (kind : Use) (t : Bool) → InsideFits before frames block n → Fitting (if t then Err 5 else (if use_fits kind before.registers then Ok (Used before kind) else Err 6))
+stood : (before : Contents) (frames : List Frame) (block : Block) (n : ℕ) (kind : Use) (t : Bool) → InsideFits before frames block n → Fitting (if t then Err Misplaced else (if use_fits kind before.registers then Ok (Used before kind) else Err PastLimit))
 stood before frames block n kind true h = tt
 stood before frames block n kind false h =
-    chosen (Used before kind) (use_fits kind before.registers) 6 (λ k. record { contents = h.contents; room = h.room; fits = k })
+    chosen (Used before kind) (use_fits kind before.registers) PastLimit (λ k. record { contents = h.contents; room = h.room; fits = k })
 
 turned : (before : Contents) (frames : List Frame) (block : Block) (n : ℕ) (count : Expr) → InsideFits before frames block n → expr_fits count && nat_lt (turns frames) 3 ≡ true → length frames < 16 → FramesFit before.registers (Turn count block ∷ frames) Stop
 turned before frames block n count h k deep =
@@ -254,7 +256,7 @@ inside before frames block n _ h = tt
 
 begins : (l : Line) → Fitting (take_line Empty l)
 begins (line.Registers n) =
-    chosen (Between (record { registers = n; processes = []; clauses = [] })) (is_between 1 64 n) 6 (λ t.
+    chosen (Between (record { registers = n; processes = []; clauses = [] })) (is_between 1 64 n) PastLimit (λ t.
     let parts = and_parts (leb 1 n) (leb n 64) t in
     let low = leb-true 1 n parts.0 in
     let high = leb-true n 64 parts.1 in
@@ -268,16 +270,16 @@ begins (line.Registers n) =
     })
 begins _ = tt
 
-refused : (t : Bool) → Fitting (if t then Err 8 else Err 6)
+refused : (t : Bool) → Fitting (if t then Err NoClause else Err PastLimit)
 refused true = tt
 refused false = tt
 
 between : (before : Contents) (l : Line) → ContentsFit before → IsLineFit l → Fitting (take_line (Between before) l)
 between before line.Process h k =
-    chosen (Inside before [] Stop 0) (nat_lt (length before.processes) 8) 6 (λ t.
+    chosen (Inside before [] Stop 0) (nat_lt (length before.processes) 8) PastLimit (λ t.
     record { contents = h; room = ltb-true _ 8 t; nested = nothing_fits _ 0 0 (omega arith) (omega arith); count = omega arith; few = omega arith })
 between before (line.Check (Some clause)) h k =
-    chosen (Between (record before { clauses = before.clauses ++ clause ∷ [] })) (nat_lt (length before.clauses) 16) 6 (λ t.
+    chosen (Between (record before { clauses = before.clauses ++ clause ∷ [] })) (nat_lt (length before.clauses) 16) PastLimit (λ t.
     let room = ltb-true (length before.clauses) 16 t in
     let count = length-append before.clauses (clause ∷ []) in
     record {
@@ -301,10 +303,10 @@ line_fits (Between before) l h k = between before l h k
 line_fits (Inside before frames block n) l h k = inside before frames block n l h
 line_fits (Used before kind) l h k = used before kind l h
 
-taken_fits : (reading : Reading) (read : Result (Option Line) ℕ) → ReadingFits reading → IsReadFit read → Fitting (take_if_said reading read)
+taken_fits : (reading : Reading) (read : Result (Option Line) LineFault) → ReadingFits reading → IsReadFit read → Fitting (take_if_said reading read)
 taken_fits reading (Ok (Some l)) h k = line_fits reading l h k
 taken_fits reading (Ok None) h k = h
-taken_fits reading (Err code) h k = tt
+taken_fits reading (Err wrong) h k = tt
 
 -- what was taken is within the limits
 pub read_on_fits : (reading next : Reading) (bytes : List ℕ) → ReadingFits reading → take_if_said reading (read_line bytes) ≡ Ok next → ReadingFits next

@@ -15,29 +15,30 @@ use Rattle.reglang.specs.Drafts.{Frame, First, Second, Turn, Reading, Empty, Bet
 use Rattle.reglang.specs.Grammar.{Begins, Then, BlockSays, ElseSays, BodySays, Part, Process, Check, PartSays, PartsSay, processes_in, clauses_in, LinesSay}
 use Rattle.reglang.specs.declared.forms.Line.{Line}
 use Rattle.reglang.specs.declared.forms.Line.TheVariants as line
+use Rattle.reglang.specs.declared.refusals.LineFault.{LineFault}
 use Rattle.reglang.proofs.Joins.{join-stop, join-assoc}
 
-abbrev pub then_take : Result Reading ℕ → (Reading → Result Reading ℕ) → Result Reading ℕ
+abbrev pub then_take : Result Reading LineFault → (Reading → Result Reading LineFault) → Result Reading LineFault
 then_take (Ok next) f = f next
-then_take (Err code) f = Err code
+then_take (Err wrong) f = Err wrong
 
 -- lines taken one after another
-abbrev pub takes : Reading → List Line → Result Reading ℕ
+abbrev pub takes : Reading → List Line → Result Reading LineFault
 takes reading [] = Ok reading
 takes reading (l ∷ lines) = then_take (take_line reading l) (λ next. takes next lines)
 
-appended : (result : Result Reading ℕ) (xs ys : List Line) → ((next : Reading) → takes next (xs ++ ys) ≡ then_take (takes next xs) (λ last. takes last ys)) → then_take result (λ next. takes next (xs ++ ys)) ≡ then_take (then_take result (λ next. takes next xs)) (λ last. takes last ys)
+appended : (result : Result Reading LineFault) (xs ys : List Line) → ((next : Reading) → takes next (xs ++ ys) ≡ then_take (takes next xs) (λ last. takes last ys)) → then_take result (λ next. takes next (xs ++ ys)) ≡ then_take (then_take result (λ next. takes next xs)) (λ last. takes last ys)
 appended (Ok next) xs ys h = h next
-appended (Err code) xs ys h = refl
+appended (Err wrong) xs ys h = refl
 
 takes_append : (reading : Reading) (xs ys : List Line) → takes reading (xs ++ ys) ≡ then_take (takes reading xs) (λ next. takes next ys)
 takes_append reading [] ys = refl
 takes_append reading (x ∷ xs) ys = appended (take_line reading x) xs ys (λ next. takes_append next xs ys)
 
-pub then_lead : (reading middle : Reading) (xs ys : List Line) (result : Result Reading ℕ) → takes reading xs ≡ Ok middle → takes middle ys ≡ result → takes reading (xs ++ ys) ≡ result
+pub then_lead : (reading middle : Reading) (xs ys : List Line) (result : Result Reading LineFault) → takes reading xs ≡ Ok middle → takes middle ys ≡ result → takes reading (xs ++ ys) ≡ result
 then_lead reading middle xs ys result h k = takes_append reading xs ys ∙ (ap (λ r. then_take r (λ next. takes next ys)) h ∙ k)
 
-first_lead : (reading middle : Reading) (l : Line) (ys : List Line) (result : Result Reading ℕ) → take_line reading l ≡ Ok middle → takes middle ys ≡ result → takes reading (l ∷ ys) ≡ result
+first_lead : (reading middle : Reading) (l : Line) (ys : List Line) (result : Result Reading LineFault) → take_line reading l ≡ Ok middle → takes middle ys ≡ result → takes reading (l ∷ ys) ≡ result
 first_lead reading middle l ys result h k = ap (λ r. then_take r (λ next. takes next ys)) h ∙ k
 
 -- ---- a block
@@ -65,7 +66,7 @@ entered before frame frames n fits room h deep = rw (lt-ltb n 200 room, h, lt-lt
 
 -- the second part of an `if`, and its end
 second_part : (second : Block) → BlockLeads second → (test : Expr) (first : Block) (lines more : List Line) → ElseSays second (BlockSays second) lines → (before : Contents) (frames : List Frame) (outer : Block) (n : ℕ) →
-    BlockFits before.registers (suc (length frames)) (turns frames) second → statements second + n ≤ 200 → (result : Result Reading ℕ) →
+    BlockFits before.registers (suc (length frames)) (turns frames) second → statements second + n ≤ 200 → (result : Result Reading LineFault) →
     takes (Inside before frames (outer ⊕ program.If test first second Stop) (n + statements second)) more ≡ result →
     takes (Inside before (First test outer ∷ frames) first n) (lines ++ line.Fi ∷ more) ≡ result
 second_part second leads test first lines more (inl none) before frames outer n fits few result k =

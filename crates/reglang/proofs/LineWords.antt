@@ -30,6 +30,7 @@ use Rattle.reglang.specs.declared.vocabulary.Property.TheVariants as property
 use Rattle.reglang.specs.declared.words.Word.{Word}
 use Rattle.reglang.specs.declared.forms.Line.{Line}
 use Rattle.reglang.specs.declared.forms.Line.TheVariants as line
+use Rattle.reglang.specs.declared.refusals.LineFault.TheVariants.{NoForm}
 use Rattle.reglang.proofs.FirstWords.{keyword_line_from}
 use Rattle.reglang.proofs.WordTexts.{word_fits}
 
@@ -150,7 +151,7 @@ arguments_follow (a ∷ more) =
     list_all-append may_follow (argument_words a) (arguments_words more)
     ∙ and_from (list_all may_follow (argument_words a)) (list_all may_follow (arguments_words more)) (argument_follows a) (arguments_follow more)
 
-keyword_line_again : (key : Keyword) (more : List Word) → list_all may_follow more ≡ true → keyword_line key more ≡ or_fault 4 (form_of key more)
+keyword_line_again : (key : Keyword) (more : List Word) → list_all may_follow more ≡ true → keyword_line key more ≡ or_fault NoForm (form_of key more)
 keyword_line_again key more h = keyword_line_from key more (all_known more h) (all_numbers more h)
 
 -- ---- the words make the arguments
@@ -196,9 +197,9 @@ clause_again c h = ap (option_and_then (clause_with (clause_parts c).0)) (argume
 pub line_again : (l : Line) → line_fits l ≡ true → line_of (line_words l) ≡ Ok (Some l)
 line_again (line.Use kind) h =
     keyword_line_again keyword.Use (use_words kind) (arguments_follow (use_parts kind).1)
-    ∙ ap (λ o. or_fault 4 (option_map line.Use o)) (use_again kind)
+    ∙ ap (λ o. or_fault NoForm (option_map line.Use o)) (use_again kind)
 line_again (line.Check (Some clause)) h = ap (λ c. Ok (Some (line.Check c))) (clause_again clause h)
 line_again (line.Check None) h = cc
 line_again l h =
     keyword_line_again (line_parts l).0 (arguments_words (line_parts l).1) (arguments_follow (line_parts l).1)
-    ∙ ap (λ o. or_fault 4 (option_and_then (line_with (line_parts l).0) o)) (arguments_again (sorts_after (line_parts l).0) (line_parts l).1 refl)
+    ∙ ap (λ o. or_fault NoForm (option_and_then (line_with (line_parts l).0) o)) (arguments_again (sorts_after (line_parts l).0) (line_parts l).1 refl)

@@ -14,6 +14,7 @@ use Rattle.reglang.specs.Words.{word_of}
 use Rattle.reglang.specs.Writing.{line_text, line_words, lines_text, word_text, words_text}
 use Rattle.reglang.specs.declared.forms.Line.{Line}
 use Rattle.reglang.specs.declared.words.Word.{Word}
+use Rattle.reglang.specs.declared.refusals.LineFault.TheVariants.{NotPrintable}
 use Rattle.reglang.proofs.LineWords.{line_again, line_fits, words_fit}
 use Rattle.reglang.proofs.WordTexts.{is_plain, plain_word, word_again, word_fits}
 
@@ -98,7 +99,7 @@ line_printable l h = printable (line_words l) (words_fit l h)
 pub read_again : (l : Line) → line_fits l ≡ true → read_line (line_text l) ≡ Ok (Some l)
 read_again l h =
     let fits = words_fit l h in
-    cond-true _ _ (Err 1) (line_printable l h)
+    cond-true _ _ (Err NotPrintable) (line_printable l h)
     ∙ ap (λ ws. line_of (map word_of ws)) (cut (line_words l) fits)
     ∙ ap line_of (words_again (line_words l) fits)
     ∙ line_again l h

@@ -1,11 +1,11 @@
 -- Reading by whole values answers just the source that a text spells, or its first fault.
-use Rattle.std.proofs.Common.{◌≡◌, ◌≢◌, ℕ, suc, ◌+◌, Bool, true, false, List, [], ◌∷◌, ◌++◌, length, get_or, take, Option, Some, None, Result, Ok, Err, refl, ap, sym, subst, ◌∙◌, arith}
-use Rattle.std.specs.Prelude.{◌≤◌, ◌&&◌, if◌then◌else◌, IfSome, max, is_none, IsOk}
+use Rattle.std.proofs.Common.{◌≡◌, ◌≢◌, ℕ, suc, ◌+◌, true, false, List, [], ◌∷◌, ◌++◌, length, get_or, take, Option, Some, None, Result, Ok, Err, refl, ap, sym, subst, ◌∙◌, arith}
+use Rattle.std.specs.Prelude.{◌≤◌, ◌&&◌, IfSome, max, is_none, IsOk}
 use Rattle.std.specs.List.{AllByRecursion}
 use Rattle.std.proofs.lemmas.Bool.{lt-ltb}
 use Rattle.std.proofs.lemmas.List.Elements.{All-from_recursion, recursion_from_All}
 use Rattle.reglang.specs.Contents.{Contents}
-use Rattle.reglang.specs.Drafts.{Reading, Empty, Between, Inside, Used, take_line, take_if_said, contents_at_end, read_from, faulty_at, goes_on, IsRefusalOf, IsFaultOf}
+use Rattle.reglang.specs.Drafts.{Reading, Empty, Between, take_line, take_if_said, contents_at_end, read_from, faulty_at, goes_on, IsRefusalOf}
 use Rattle.reglang.specs.Faults.{are_faultless, at_start, context_after_lines, first_fault}
 use Rattle.reglang.specs.Forms.{read_line}
 use Rattle.reglang.specs.Grammar.{Spells, lines_said, line_said}
@@ -14,24 +14,27 @@ use Rattle.reglang.specs.declared.forms.Line.{Line}
 use Rattle.reglang.specs.declared.reader.ReadFault.{ReadFault}
 use Rattle.reglang.specs.declared.refusals.LineRefusal.{LineRefusal}
 use Rattle.reglang.specs.declared.refusals.LineRefusal.TheVariants as refusal
+use Rattle.reglang.specs.LineFaults.{code_of, refusal_code}
+use Rattle.reglang.specs.declared.refusals.LineFault.{LineFault}
+use Rattle.reglang.specs.declared.refusals.LineFault.TheVariants.{Misplaced, NoClause, NoForm, NoNumber, NoRegisters, NotPrintable, PastLimit, UnknownWord}
 use Rattle.reglang.proofs.Leads.{takes, then_take, source_leads}
 use Rattle.reglang.proofs.Says.{reads_spelled}
 use Rattle.reglang.proofs.Contexts.{Agrees, StepsRead, context_of, reads_first, steps_read}
 
-took : (last : Reading) (source : Contents) (n : ℕ) (rest : List (List ℕ)) (result : Result Reading ℕ) →
+took : (last : Reading) (source : Contents) (n : ℕ) (rest : List (List ℕ)) (result : Result Reading LineFault) →
     ((next : Reading) → takes next (lines_said rest) ≡ Ok last → read_from next (suc n) rest ≡ Ok source) →
     then_take result (λ next. takes next (lines_said rest)) ≡ Ok last →
     goes_on (faulty_at (suc n) result) (λ next. read_from next (suc n) rest) ≡ Ok source
 took last source n rest (Ok next) later h = later next h
-took last source n rest (Err code) later h = absurd cc
+took last source n rest (Err wrong) later h = absurd cc
 
-took_read : (reading last : Reading) (source : Contents) (n : ℕ) (rest : List (List ℕ)) (read : Result (Option Line) ℕ) →
+took_read : (reading last : Reading) (source : Contents) (n : ℕ) (rest : List (List ℕ)) (read : Result (Option Line) LineFault) →
     ((next : Reading) → takes next (lines_said rest) ≡ Ok last → read_from next (suc n) rest ≡ Ok source) →
     IsOk read → takes reading (line_said read ++ lines_said rest) ≡ Ok last →
     goes_on (faulty_at (suc n) (take_if_said reading read)) (λ next. read_from next (suc n) rest) ≡ Ok source
 took_read reading last source n rest (Ok (Some l)) later formed h = took last source n rest (take_line reading l) later h
 took_read reading last source n rest (Ok None) later formed h = later reading h
-took_read reading last source n rest (Err code) later formed h = absurd cc
+took_read reading last source n rest (Err wrong) later formed h = absurd cc
 
 -- lines that are taken one after another are read
 reads_taken : (reading last : Reading) (n : ℕ) (rest : List (List ℕ)) (source : Contents) → AllByRecursion (λ l. IsOk (read_line l)) rest → takes reading (lines_said rest) ≡ Ok last → contents_at_end last ≡ Ok source → read_from reading n rest ≡ Ok source
@@ -78,8 +81,8 @@ line_taken reading next line more h =
     ∙ ap (λ context. are_faultless context more) (sym h.1)
 
 -- one that is not taken has one
-line_not_taken : (reading : Reading) (code : ℕ) (line : List ℕ) (more : List (List ℕ)) → StepsRead reading (read_line line) (Err code) → are_faultless (context_of reading) (line ∷ more) ≡ false
-line_not_taken reading code line more h =
+line_not_taken : (reading : Reading) (wrong : LineFault) (line : List ℕ) (more : List (List ℕ)) → StepsRead reading (read_line line) (Err wrong) → are_faultless (context_of reading) (line ∷ more) ≡ false
+line_not_taken reading wrong line more h =
     ap (λ fault. is_none fault && are_faultless (context_after_lines (line_said (read_line line)) (context_of reading)) more) h
 
 pub record IsLeft (text : List ℕ) (reading : Reading) (n : ℕ) (rest : List ℕ) : Type 0 where
@@ -111,49 +114,49 @@ left_next text rest line after reading next n h c e = record {
       ap (λ m. get_or (lines text) m []) further ∙ (h.there (suc k) ∙ ap (λ ls. get_or ls (suc k) []) c.cut);
 }
 
-pub left_refused : (text rest line after : List ℕ) (reading : Reading) (n : ℕ) (refusal : LineRefusal) (fault : ReadFault) → IsLeft text reading n rest → IsCut rest line after → IsRefusalOf (take_if_said reading (read_line line)) refusal → IsFaultOf (n + 1) refusal fault → fault.code ≢ 9 → read_from Empty 0 (lines text) ≡ Err fault
-left_refused text rest line after reading n (refusal.Fault code) fault h c e told other =
+pub left_refused : (text rest line after : List ℕ) (reading : Reading) (n : ℕ) (refusal : LineRefusal) → IsLeft text reading n rest → IsCut rest line after → IsRefusalOf (take_if_said reading (read_line line)) refusal → refusal_code refusal ≢ 9 → read_from Empty 0 (lines text) ≡ Err (record { line = n + 1; code = refusal_code refusal })
+left_refused text rest line after reading n (refusal.Fault wrong) h c e other =
     h.same ∙ (ap (read_from reading n) c.cut
     ∙ (ap (λ r. goes_on (faulty_at (suc n) r) (λ next. read_from next (suc n) (lines after))) e
-    ∙ (ap (λ m. Err (record { line = m; code = code })) (omega arith) ∙ ap Err (sym told))))
-left_refused text rest line after reading n refusal.Memory fault h c e told other = absurd (other (ap (λ f. f.code) told))
+    ∙ ap (λ m. Err (record { line = m; code = code_of wrong })) (omega arith)))
+left_refused text rest line after reading n refusal.Memory h c e other = absurd (other refl)
 
-pub left_ended : (text rest : List ℕ) (reading : Reading) (n : ℕ) (result : Result Contents ℕ) → IsLeft text reading n rest → lines rest ≡ [] → contents_at_end reading ≡ result → read_from Empty 0 (lines text) ≡ faulty_at (max 1 n) result
+pub left_ended : (text rest : List ℕ) (reading : Reading) (n : ℕ) (result : Result Contents LineFault) → IsLeft text reading n rest → lines rest ≡ [] → contents_at_end reading ≡ result → read_from Empty 0 (lines text) ≡ faulty_at (max 1 n) result
 left_ended text rest reading n result h none e = h.same ∙ (ap (read_from reading n) none ∙ ap (faulty_at (max 1 n)) e)
 
 -- ---- whether the end is at fault
 
-pub line_at_fault : (text rest line after : List ℕ) (reading : Reading) (n : ℕ) (refusal : LineRefusal) (fault : ReadFault) → IsLeft text reading n rest → IsCut rest line after → IsRefusalOf (take_if_said reading (read_line line)) refusal → IsFaultOf (n + 1) refusal fault → fault.code ≢ 9 → are_faultless at_start (lines text) ≡ false
-line_at_fault text rest line after reading n (refusal.Fault code) fault h c e told other =
+pub line_at_fault : (text rest line after : List ℕ) (reading : Reading) (n : ℕ) (refusal : LineRefusal) → IsLeft text reading n rest → IsCut rest line after → IsRefusalOf (take_if_said reading (read_line line)) refusal → refusal_code refusal ≢ 9 → are_faultless at_start (lines text) ≡ false
+line_at_fault text rest line after reading n (refusal.Fault wrong) h c e other =
     h.faultless ∙ (ap (are_faultless (context_of reading)) c.cut
-    ∙ line_not_taken reading code line (lines after) (subst (StepsRead reading (read_line line)) e (steps_read reading (read_line line))))
-line_at_fault text rest line after reading n refusal.Memory fault h c e told other = absurd (other (ap (λ f. f.code) told))
+    ∙ line_not_taken reading wrong line (lines after) (subst (StepsRead reading (read_line line)) e (steps_read reading (read_line line))))
+line_at_fault text rest line after reading n refusal.Memory h c e other = absurd (other refl)
 
 pub end_at_fault : (text rest : List ℕ) (reading : Reading) (n : ℕ) → IsLeft text reading n rest → lines rest ≡ [] → are_faultless at_start (lines text) ≡ true
 end_at_fault text rest reading n h none = h.faultless ∙ ap (are_faultless (context_of reading)) none
 
-few_processes : (before : Contents) (t : Bool) (code : ℕ) → (if t then Ok before else Err 6) ≡ Err code → code ≢ 9
-few_processes before true code h = λ e. absurd cc
-few_processes before false code h = λ e. absurd cc
-
--- the end never wants memory
-pub end_without_memory : (reading : Reading) (code : ℕ) → contents_at_end reading ≡ Err code → code ≢ 9
-end_without_memory Empty code h = λ e. absurd cc
-end_without_memory (Between before) code h = few_processes before _ code h
-end_without_memory (Inside before frames block n) code h = λ e. absurd cc
-end_without_memory (Used before kind) code h = λ e. absurd cc
+-- no fault has memory's code
+pub not_memory : (wrong : LineFault) → code_of wrong ≢ 9
+not_memory NotPrintable = λ e. absurd cc
+not_memory UnknownWord = λ e. absurd cc
+not_memory NoNumber = λ e. absurd cc
+not_memory NoForm = λ e. absurd cc
+not_memory Misplaced = λ e. absurd cc
+not_memory PastLimit = λ e. absurd cc
+not_memory NoRegisters = λ e. absurd cc
+not_memory NoClause = λ e. absurd cc
 
 -- ---- no line that was taken has a fault
 
 -- what is told of the fault of a line, and of the lines after it, where they are read on
-fault_on : (n : ℕ) (result : Result Reading ℕ) (more : Reading → Result Contents ReadFault) (fault : ReadFault) → ((next : Reading) → more next ≡ Err fault → suc n ≤ fault.line) → goes_on (faulty_at (suc n) result) more ≡ Err fault → suc n ≤ fault.line
+fault_on : (n : ℕ) (result : Result Reading LineFault) (more : Reading → Result Contents ReadFault) (fault : ReadFault) → ((next : Reading) → more next ≡ Err fault → suc n ≤ fault.line) → goes_on (faulty_at (suc n) result) more ≡ Err fault → suc n ≤ fault.line
 fault_on n (Ok next) more fault later h = later next h
-fault_on n (Err code) more fault later h = let same : record { line = suc n; code = code } ≡ fault = cc in let number = ap (λ f. f.line) same in omega arith
+fault_on n (Err wrong) more fault later h = let same : record { line = suc n; code = code_of wrong } ≡ fault = cc in let number = ap (λ f. f.line) same in omega arith
 
 -- the fault of the end, where there is one
-fault_at_end : (n : ℕ) (result : Result Contents ℕ) (fault : ReadFault) → faulty_at (max 1 n) result ≡ Err fault → n ≤ fault.line
+fault_at_end : (n : ℕ) (result : Result Contents LineFault) (fault : ReadFault) → faulty_at (max 1 n) result ≡ Err fault → n ≤ fault.line
 fault_at_end n (Ok source) fault h = absurd cc
-fault_at_end n (Err code) fault h = let same : record { line = max 1 n; code = code } ≡ fault = cc in let number = ap (λ f. f.line) same in omega arith
+fault_at_end n (Err wrong) fault h = let same : record { line = max 1 n; code = code_of wrong } ≡ fault = cc in let number = ap (λ f. f.line) same in omega arith
 
 -- after so many lines the fault is on none of them, unless at the end on the last one
 fault_after : (reading : Reading) (n : ℕ) (rest : List (List ℕ)) (fault : ReadFault) → read_from reading n rest ≡ Err fault → n ≤ fault.line
@@ -176,8 +179,3 @@ no_fault_before text rest line after reading n h c =
     let read = sym (h.same ∙ ap (read_from reading n) c.cut) ∙ e in
     let later = fault_on n (take_if_said reading (read_line line)) (λ next. read_from next (suc n) (lines after)) fault (λ next k. fault_after next (suc n) (lines after) fault k) read in
     omega arith)
-
--- the line of a refusal, whatever its code
-pub line_refused : (number : ℕ) (refusal : LineRefusal) (fault : ReadFault) → IsFaultOf number refusal fault → fault.line ≡ number
-line_refused number (refusal.Fault code) fault told = ap (λ f. f.line) told
-line_refused number refusal.Memory fault told = ap (λ f. f.line) told

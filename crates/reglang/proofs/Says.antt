@@ -16,6 +16,8 @@ use Rattle.reglang.specs.declared.forms.Line.{Line}
 use Rattle.reglang.specs.declared.forms.Line.TheVariants as line
 use Rattle.uses.specs.declared.kinds.Use.{Use}
 use Rattle.reglang.specs.Forms.{read_line}
+use Rattle.reglang.specs.declared.refusals.LineFault.{LineFault}
+use Rattle.reglang.specs.declared.refusals.LineFault.TheVariants.{Misplaced, NoClause, PastLimit}
 use Rattle.reglang.proofs.Fits.{read_on_fits, end_fits}
 
 -- open blocks, and the statements of the innermost
@@ -130,26 +132,26 @@ process_closed before body within k x t =
 
 -- ---- one line more
 
-abbrev Keeps : Reading → Line → Result Reading ℕ → Type 0
+abbrev Keeps : Reading → Line → Result Reading LineFault → Type 0
 Keeps reading l (Ok next) = (x : List Line) → Says reading x → Says next (x ++ l ∷ [])
-Keeps reading l (Err code) = Unit {0}
+Keeps reading l (Err wrong) = Unit {0}
 
-kept : (reading : Reading) (l : Line) (next : Reading) (t : Bool) (code : ℕ) → Keeps reading l (Ok next) → Keeps reading l (if t then Ok next else Err code)
-kept reading l next true code k = k
-kept reading l next false code k = tt
+kept : (reading : Reading) (l : Line) (next : Reading) (t : Bool) (wrong : LineFault) → Keeps reading l (Ok next) → Keeps reading l (if t then Ok next else Err wrong)
+kept reading l next true wrong k = k
+kept reading l next false wrong k = tt
 
 -- a line of an open process
 inner : (before : Contents) (frames : List Frame) (block : Block) (n : ℕ) (l : Line) (next : List Frame) (inside : Block) (m : ℕ) → ((x : List Line) → OpenSays frames block x → OpenSays next inside (x ++ l ∷ [])) → Keeps (Inside before frames block n) l (Ok (Inside before next inside m))
 inner before frames block n l next inside m k = λ x h. then_map _ _ _ (l ∷ []) (begins_map _ _ _ (l ∷ []) k) x h
 
-added : (before : Contents) (frames : List Frame) (block : Block) (n : ℕ) (l : Line) (fits : Bool) (statement : Block) → BlockSays statement (l ∷ []) → Keeps (Inside before frames block n) l (if nat_lt n 200 && fits then Ok (Inside before frames (block ⊕ statement) (suc n)) else Err 6)
+added : (before : Contents) (frames : List Frame) (block : Block) (n : ℕ) (l : Line) (fits : Bool) (statement : Block) → BlockSays statement (l ∷ []) → Keeps (Inside before frames block n) l (if nat_lt n 200 && fits then Ok (Inside before frames (block ⊕ statement) (suc n)) else Err PastLimit)
 added before frames block n l fits statement k =
-    kept (Inside before frames block n) l _ (nat_lt n 200 && fits) 6
+    kept (Inside before frames block n) l _ (nat_lt n 200 && fits) PastLimit
     (inner before frames block n l frames (block ⊕ statement) (suc n) (open_more frames block statement (l ∷ []) k))
 
 entered : (before : Contents) (frames : List Frame) (block : Block) (n : ℕ) (l : Line) (frame : Frame) (fits : Bool) → ((x : List Line) → OpenSays frames block x → OpenSays (frame ∷ frames) Stop (x ++ l ∷ [])) → Keeps (Inside before frames block n) l (enter before frame frames n fits)
 entered before frames block n l frame fits k =
-    kept (Inside before frames block n) l _ (nat_lt n 200 && fits && nat_lt (length frames) 16) 6
+    kept (Inside before frames block n) l _ (nat_lt n 200 && fits && nat_lt (length frames) 16) PastLimit
     (inner before frames block n l (frame ∷ frames) Stop (suc n) k)
 
 elsed : (before : Contents) (frames : List Frame) (block : Block) (n : ℕ) → Keeps (Inside before frames block n) line.Else (enter_else before frames block n)
@@ -189,21 +191,21 @@ stood_within before kind block frames x h e f =
     then_map _ _ _ (line.Use kind ∷ [])
     (λ y b. ap (λ lines. lines ++ line.Use kind ∷ []) (b.whole ∙ ap (λ more. line.Process ∷ more) (subst (λ fs. OpenSays fs Stop b.more) e (subst (λ c. OpenSays frames c b.more) f b.holds)))) x h
 
-refused : (reading : Reading) (l : Line) (t : Bool) → Keeps reading l (if t then Err 8 else Err 6)
+refused : (reading : Reading) (l : Line) (t : Bool) → Keeps reading l (if t then Err NoClause else Err PastLimit)
 refused reading l true = tt
 refused reading l false = tt
 
 between : (before : Contents) (l : Line) → Keeps (Between before) l (take_line (Between before) l)
 between before line.Process =
-    kept (Between before) line.Process _ (nat_lt (length before.processes) 8) 6 (then_new _ _ (line.Process ∷ []) (alone line.Process))
+    kept (Between before) line.Process _ (nat_lt (length before.processes) 8) PastLimit (then_new _ _ (line.Process ∷ []) (alone line.Process))
 between before (line.Check (Some clause)) =
-    kept (Between before) (line.Check (Some clause)) _ (nat_lt (length before.clauses) 16) 6 (lines_check before clause (line.Check (Some clause) ∷ []) refl)
+    kept (Between before) (line.Check (Some clause)) _ (nat_lt (length before.clauses) 16) PastLimit (lines_check before clause (line.Check (Some clause) ∷ []) refl)
 between before (line.Check None) = refused (Between before) (line.Check None) (nat_lt (length before.clauses) 16)
 between before _ = tt
 
 begins : (l : Line) → Keeps Empty l (take_line Empty l)
 begins (line.Registers n) =
-    kept Empty (line.Registers n) _ (is_between 1 64 n) 6
+    kept Empty (line.Registers n) _ (is_between 1 64 n) PastLimit
     (λ x h. record { parts = []; whole = record { more = []; whole = ap (λ lines. lines ++ line.Registers n ∷ []) h; holds = refl }; processes = refl; clauses = refl })
 begins _ = tt
 
@@ -227,12 +229,12 @@ no_frames (First test outer ∷ frames) h = absurd (omega arith)
 no_frames (Second test first outer ∷ frames) h = absurd (omega arith)
 no_frames (Turn count outer ∷ frames) h = absurd (omega arith)
 
-stood : (before : Contents) (frames : List Frame) (block : Block) (n : ℕ) (kind : Use) → InsideFits before frames block n → (t : Bool) → nat_lt 0 n ≡ t → Keeps (Inside before frames block n) (line.Use kind) (if t then Err 5 else (if use_fits kind before.registers then Ok (Used before kind) else Err 6))
+stood : (before : Contents) (frames : List Frame) (block : Block) (n : ℕ) (kind : Use) → InsideFits before frames block n → (t : Bool) → nat_lt 0 n ≡ t → Keeps (Inside before frames block n) (line.Use kind) (if t then Err Misplaced else (if use_fits kind before.registers then Ok (Used before kind) else Err PastLimit))
 stood before frames block n kind h true e = tt
 stood before frames block n kind h false e =
     let none = ltb-false 0 n e in
     let count = h.count in
-    kept (Inside before frames block n) (line.Use kind) (Used before kind) (use_fits kind before.registers) 6
+    kept (Inside before frames block n) (line.Use kind) (Used before kind) (use_fits kind before.registers) PastLimit
     (λ x s. stood_within before kind block frames x s (no_frames frames (omega arith)) (no_statements block (omega arith)))
 
 inside : (before : Contents) (frames : List Frame) (block : Block) (n : ℕ) (l : Line) → InsideFits before frames block n → Keeps (Inside before frames block n) l (take_line (Inside before frames block n) l)
@@ -257,22 +259,22 @@ line_kept (Between before) l h = between before l
 line_kept (Inside before frames block n) l h = inside before frames block n l h
 line_kept (Used before kind) l h = used before kind l
 
-abbrev KeepsRead : Reading → List Line → Result Reading ℕ → Type 0
+abbrev KeepsRead : Reading → List Line → Result Reading LineFault → Type 0
 KeepsRead reading more (Ok next) = (x : List Line) → Says reading x → Says next (x ++ more)
-KeepsRead reading more (Err code) = Unit {0}
+KeepsRead reading more (Err wrong) = Unit {0}
 
-as_read : (reading : Reading) (l : Line) (result : Result Reading ℕ) → Keeps reading l result → KeepsRead reading (l ∷ []) result
+as_read : (reading : Reading) (l : Line) (result : Result Reading LineFault) → Keeps reading l result → KeepsRead reading (l ∷ []) result
 as_read reading l (Ok next) k = k
-as_read reading l (Err code) k = tt
+as_read reading l (Err wrong) k = tt
 
-read_kept : (reading : Reading) (read : Result (Option Line) ℕ) → ReadingFits reading → KeepsRead reading (line_said read) (take_if_said reading read)
+read_kept : (reading : Reading) (read : Result (Option Line) LineFault) → ReadingFits reading → KeepsRead reading (line_said read) (take_if_said reading read)
 read_kept reading (Ok (Some l)) h = as_read reading l (take_line reading l) (line_kept reading l h)
 read_kept reading (Ok None) h = λ x s. subst (Says reading) (sym (append-nil x)) s
-read_kept reading (Err code) h = tt
+read_kept reading (Err wrong) h = tt
 
-formed : (reading next : Reading) (read : Result (Option Line) ℕ) → take_if_said reading read ≡ Ok next → IsOk read
+formed : (reading next : Reading) (read : Result (Option Line) LineFault) → take_if_said reading read ≡ Ok next → IsOk read
 formed reading next (Ok l) e = refl
-formed reading next (Err code) e = absurd cc
+formed reading next (Err wrong) e = absurd cc
 
 -- what a whole text comes to
 pub record Spelled (source : Contents) (before : List Line) (lines : List (List ℕ)) : Type 0 where
@@ -280,7 +282,7 @@ pub record Spelled (source : Contents) (before : List Line) (lines : List (List 
   pub within : IsSourceWithin source
   pub formed : AllByRecursion (λ l. IsOk (read_line l)) lines
 
-spelled_between : (before : Contents) (n : ℕ) (x : List Line) (source : Contents) → ContentsFit before → LinesSay before x → (t : Bool) → nat_lt 0 (length before.processes) ≡ t → faulty_at (max 1 n) (if t then Ok before else Err 6) ≡ Ok source → Spelled source x []
+spelled_between : (before : Contents) (n : ℕ) (x : List Line) (source : Contents) → ContentsFit before → LinesSay before x → (t : Bool) → nat_lt 0 (length before.processes) ≡ t → faulty_at (max 1 n) (if t then Ok before else Err PastLimit) ≡ Ok source → Spelled source x []
 spelled_between before n x source h s true t e =
     let same : before ≡ source = cc in
     record {
@@ -298,7 +300,7 @@ spelled_end (Used before kind) n x source h s e = absurd cc
 
 spelled_on : (reading : Reading) (n : ℕ) (l : List ℕ) (lines : List (List ℕ)) (x : List Line) (source : Contents) →
     ((next : Reading) (y : List Line) → ReadingFits next → Says next y → read_from next (suc n) lines ≡ Ok source → Spelled source y lines) →
-    ReadingFits reading → Says reading x → (result : Result Reading ℕ) → take_if_said reading (read_line l) ≡ result →
+    ReadingFits reading → Says reading x → (result : Result Reading LineFault) → take_if_said reading (read_line l) ≡ result →
     goes_on (faulty_at (suc n) result) (λ next. read_from next (suc n) lines) ≡ Ok source → Spelled source x (l ∷ lines)
 spelled_on reading n l lines x source later h s (Ok next) t e =
     let kept : KeepsRead reading (line_said (read_line l)) (Ok next) = subst (KeepsRead reading (line_said (read_line l))) t (read_kept reading (read_line l) h) in
@@ -308,7 +310,7 @@ spelled_on reading n l lines x source later h s (Ok next) t e =
       within = rest.within;
       formed = (formed reading next (read_line l) t, rest.formed);
     }
-spelled_on reading n l lines x source later h s (Err code) t e = absurd cc
+spelled_on reading n l lines x source later h s (Err wrong) t e = absurd cc
 
 -- reading by whole values answers only what the text spells
 pub reads_spelled : (reading : Reading) (n : ℕ) (lines : List (List ℕ)) (x : List Line) (source : Contents) → ReadingFits reading → Says reading x → read_from reading n lines ≡ Ok source → Spelled source x lines

@@ -10,6 +10,8 @@ use Rattle.regmodel.specs.Program as program
 use Rattle.regmodel.specs.Program.{Block, Stop}
 use Rattle.reglang.specs.Contents.{Contents}
 use Rattle.reglang.specs.Drafts.{Frame, First, Second, Turn, Inside, Reading, Answers, add, enter, leave_if, leave_repeat, turns, frame_of, frames_of, is_turn, ◌⊕◌}
+use Rattle.reglang.specs.declared.refusals.LineFault.{LineFault}
+use Rattle.reglang.specs.declared.refusals.LineFault.TheVariants.{PastLimit}
 use Rattle.reglang.proofs.Frames.{turns-held}
 use Rattle.reglang.specs.declared.draft.Draft.{Draft}
 use Rattle.reglang.specs.declared.open_process.Open.{Open}
@@ -19,8 +21,8 @@ pub added : (before : Contents) (frames : List Frame) (block : Block) (n : ℕ) 
 added before frames block n fits statement next room h told = rw (room, h, told) (ap (λ m. Ok (Inside before frames (block ⊕ statement) m)) (omega arith))
 
 -- an answer that only memory may refuse
-pub answered : (expected : Result Reading ℕ) (next : Reading) (result : Result Draft LineRefusal) → Answers (Ok next) result → expected ≡ Ok next → Answers expected result
-answered expected next result answers e = subst (λ (x : Result Reading ℕ). Answers x result) (sym e) answers
+pub answered : (expected : Result Reading LineFault) (next : Reading) (result : Result Draft LineRefusal) → Answers (Ok next) result → expected ≡ Ok next → Answers expected result
+answered expected next result answers e = subst (λ (x : Result Reading LineFault). Answers x result) (sym e) answers
 
 pub left_repeat : (before : Contents) (frames outside : List Frame) (block : Block) (n : ℕ) (count : Expr) (outer ended : Block) → frames ≡ Turn count outer ∷ outside → ended ≡ program.Repeat count block Stop → leave_repeat before frames block n ≡ Ok (Inside before outside (outer ⊕ ended) n)
 left_repeat before frames outside block n count outer ended e h = rw h (ap (λ fs. leave_repeat before fs block n) e)
@@ -40,7 +42,7 @@ entered_repeat before opens block n count room h few =
     let parts = and_parts (nat_lt n 200) (nat_lt (length opens) 16) room in
     rw (parts.0, h, turns-held opens, length-frames opens, lt-ltb (count_by is_turn opens) 3 few, parts.1) refl
 
-pub no_more_turns : (before : Contents) (opens : List Open) (block : Block) (n : ℕ) (count : Expr) → nat_lt n 200 && nat_lt (length opens) 16 ≡ true → expr_fits count ≡ true → 3 ≤ count_by is_turn opens → enter before (Turn count block) (frames_of opens) n (expr_fits count && nat_lt (turns (frames_of opens)) 3) ≡ Err 6
+pub no_more_turns : (before : Contents) (opens : List Open) (block : Block) (n : ℕ) (count : Expr) → nat_lt n 200 && nat_lt (length opens) 16 ≡ true → expr_fits count ≡ true → 3 ≤ count_by is_turn opens → enter before (Turn count block) (frames_of opens) n (expr_fits count && nat_lt (turns (frames_of opens)) 3) ≡ Err PastLimit
 no_more_turns before opens block n count room h many =
     let parts = and_parts (nat_lt n 200) (nat_lt (length opens) 16) room in
     rw (parts.0, h, turns-held opens, le-ltb (count_by is_turn opens) 3 many) refl

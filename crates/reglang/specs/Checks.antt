@@ -4,6 +4,7 @@ use Rattle.regmodel.specs.declared.clauses.Clause.{Clause}
 use Rattle.reglang.specs.Lines.{lines}
 use Rattle.reglang.specs.Forms.{read_line}
 use Rattle.reglang.specs.declared.forms.Line.{Line}
+use Rattle.reglang.specs.declared.refusals.LineFault.{LineFault}
 use Rattle.reglang.specs.declared.forms.Line.TheVariants as line
 
 -- the line with this number, counted from 1
@@ -12,7 +13,7 @@ line_at zero text = None
 line_at (suc before) text = slice_get (lines text) before
 
 -- the number of a line, where what it says is a check
-abbrev pub number_of_check : ℕ → Result (Option Line) ℕ → List ℕ
+abbrev pub number_of_check : ℕ → Result (Option Line) LineFault → List ℕ
 number_of_check number (Ok (Some (line.Check clause))) = number ∷ []
 number_of_check number _ = []
 

@@ -3,7 +3,9 @@ use Rattle.std.specs.Prelude.{◌≡◌, ℕ, suc, ◌+◌, ◌<◌, ◌≤◌, 
 use Rattle.regmodel.specs.declared.clauses.Clause.{Clause}
 use Rattle.regmodel.specs.declared.programs.Expr.{Expr}
 use Rattle.regmodel.specs.declared.limits.TheConstants.{MOST_CHECKS, MOST_OPEN_BLOCKS, MOST_OPEN_REPEATS, MOST_PROCESSES, MOST_REGISTERS, MOST_STATEMENTS}
-use Rattle.reglang.specs.declared.refusals.TheConstants.{MISPLACED, NO_CLAUSE, NO_MEMORY, NO_REGISTERS, PAST_LIMIT}
+use Rattle.reglang.specs.LineFaults.{code_of}
+use Rattle.reglang.specs.declared.refusals.LineFault.{LineFault}
+use Rattle.reglang.specs.declared.refusals.LineFault.TheVariants.{Misplaced, NoClause, NoRegisters, PastLimit}
 use Rattle.regmodel.specs.Limits.{target_fits, operand_fits, expr_fits, scan_fits, operands_fit, statements, open_blocks, open_repeats}
 use Rattle.regmodel.specs.Program as program
 use Rattle.regmodel.specs.Program.{Block, Stop, block_of, with_stmt}
@@ -73,62 +75,62 @@ abbrev pub with_clause : Contents → Clause → Contents
 with_clause before clause = record before { clauses = before.clauses ++ clause ∷ [] }
 
 -- one statement more
-abbrev pub add : Contents → List Frame → Block → ℕ → Bool → Block → Result Reading ℕ
-add before frames block n fits statement = if nat_lt n MOST_STATEMENTS && fits then Ok (Inside before frames (block ⊕ statement) (suc n)) else Err PAST_LIMIT
+abbrev pub add : Contents → List Frame → Block → ℕ → Bool → Block → Result Reading LineFault
+add before frames block n fits statement = if nat_lt n MOST_STATEMENTS && fits then Ok (Inside before frames (block ⊕ statement) (suc n)) else Err PastLimit
 
 -- one open block more
-abbrev pub enter : Contents → Frame → List Frame → ℕ → Bool → Result Reading ℕ
-enter before frame frames n fits = if nat_lt n MOST_STATEMENTS && fits && nat_lt (length frames) MOST_OPEN_BLOCKS then Ok (Inside before (frame ∷ frames) Stop (suc n)) else Err PAST_LIMIT
+abbrev pub enter : Contents → Frame → List Frame → ℕ → Bool → Result Reading LineFault
+enter before frame frames n fits = if nat_lt n MOST_STATEMENTS && fits && nat_lt (length frames) MOST_OPEN_BLOCKS then Ok (Inside before (frame ∷ frames) Stop (suc n)) else Err PastLimit
 
 -- the `else` of the innermost block, an `if` without one
-abbrev pub enter_else : Contents → List Frame → Block → ℕ → Result Reading ℕ
+abbrev pub enter_else : Contents → List Frame → Block → ℕ → Result Reading LineFault
 enter_else before (First test outer ∷ frames) block n = Ok (Inside before (Second test block outer ∷ frames) Stop n)
-enter_else before frames block n = Err MISPLACED
+enter_else before frames block n = Err Misplaced
 
 -- the `fi` of the innermost block, an `if`, which is now a statement of the block around it
-abbrev pub leave_if : Contents → List Frame → Block → ℕ → Result Reading ℕ
+abbrev pub leave_if : Contents → List Frame → Block → ℕ → Result Reading LineFault
 leave_if before (First test outer ∷ frames) block n = Ok (Inside before frames (outer ⊕ program.If test block Stop Stop) n)
 leave_if before (Second test first outer ∷ frames) block n = Ok (Inside before frames (outer ⊕ program.If test first block Stop) n)
-leave_if before frames block n = Err MISPLACED
+leave_if before frames block n = Err Misplaced
 
 -- the `done` of the innermost block, a `repeat`
-abbrev pub leave_repeat : Contents → List Frame → Block → ℕ → Result Reading ℕ
+abbrev pub leave_repeat : Contents → List Frame → Block → ℕ → Result Reading LineFault
 leave_repeat before (Turn count outer ∷ frames) block n = Ok (Inside before frames (outer ⊕ program.Repeat count block Stop) n)
-leave_repeat before frames block n = Err MISPLACED
+leave_repeat before frames block n = Err Misplaced
 
 -- the `end` of a process without open blocks
-abbrev pub leave : Contents → List Frame → Block → Result Reading ℕ
+abbrev pub leave : Contents → List Frame → Block → Result Reading LineFault
 leave before [] block = Ok (Between (with_body before (Text block)))
-leave before (frame ∷ frames) block = Err MISPLACED
+leave before (frame ∷ frames) block = Err Misplaced
 
 -- a use line, which stands alone
-abbrev pub stand_for : Contents → ℕ → Use → Result Reading ℕ
-stand_for before n kind = if nat_lt 0 n then Err MISPLACED else (if use_fits kind before.registers then Ok (Used before kind) else Err PAST_LIMIT)
+abbrev pub stand_for : Contents → ℕ → Use → Result Reading LineFault
+stand_for before n kind = if nat_lt 0 n then Err Misplaced else (if use_fits kind before.registers then Ok (Used before kind) else Err PastLimit)
 
 -- one clause more, where there is one and room for it
-abbrev pub add_clause : Contents → Option Clause → Result Reading ℕ
-add_clause before (Some clause) = if nat_lt (length before.clauses) MOST_CHECKS then Ok (Between (with_clause before clause)) else Err PAST_LIMIT
-add_clause before None = if nat_lt (length before.clauses) MOST_CHECKS then Err NO_CLAUSE else Err PAST_LIMIT
+abbrev pub add_clause : Contents → Option Clause → Result Reading LineFault
+add_clause before (Some clause) = if nat_lt (length before.clauses) MOST_CHECKS then Ok (Between (with_clause before clause)) else Err PastLimit
+add_clause before None = if nat_lt (length before.clauses) MOST_CHECKS then Err NoClause else Err PastLimit
 
 -- so many registers, and nothing after them
 abbrev pub begun : ℕ → Contents
 begun registers = record { registers = registers; processes = []; clauses = [] }
 
--- the first line, one between processes, one of a process, and one after a use line; or the code of its fault
-abbrev pub begin : Line → Result Reading ℕ
-begin (line.Registers n) = if is_between 1 MOST_REGISTERS n then Ok (Between (begun n)) else Err PAST_LIMIT
-begin line.Process = Err NO_REGISTERS
-begin (line.Check clause) = Err NO_REGISTERS
-begin _ = Err MISPLACED
+-- the first line, one between processes, one of a process, and one after a use line; or its fault
+abbrev pub begin : Line → Result Reading LineFault
+begin (line.Registers n) = if is_between 1 MOST_REGISTERS n then Ok (Between (begun n)) else Err PastLimit
+begin line.Process = Err NoRegisters
+begin (line.Check clause) = Err NoRegisters
+begin _ = Err Misplaced
 
 -- a line between processes
-abbrev pub take_between : Contents → Line → Result Reading ℕ
-take_between before line.Process = if nat_lt (length before.processes) MOST_PROCESSES then Ok (Inside before [] Stop 0) else Err PAST_LIMIT
+abbrev pub take_between : Contents → Line → Result Reading LineFault
+take_between before line.Process = if nat_lt (length before.processes) MOST_PROCESSES then Ok (Inside before [] Stop 0) else Err PastLimit
 take_between before (line.Check clause) = add_clause before clause
-take_between before _ = Err MISPLACED
+take_between before _ = Err Misplaced
 
 -- a line of a process
-abbrev pub take_inside : Contents → List Frame → Block → ℕ → Line → Result Reading ℕ
+abbrev pub take_inside : Contents → List Frame → Block → ℕ → Line → Result Reading LineFault
 take_inside before frames block n (line.Set to value) = add before frames block n (target_fits to && expr_fits value) (program.Assign to value Stop)
 take_inside before frames block n (line.Read to from) = add before frames block n (target_fits to && operand_fits from) (program.Read to from Stop)
 take_inside before frames block n (line.Write to value) = add before frames block n (operand_fits to && expr_fits value) (program.Write to value Stop)
@@ -142,15 +144,15 @@ take_inside before frames block n line.Fi = leave_if before frames block n
 take_inside before frames block n line.Done = leave_repeat before frames block n
 take_inside before frames block n line.End = leave before frames block
 take_inside before frames block n (line.Use kind) = stand_for before n kind
-take_inside before frames block n _ = Err MISPLACED
+take_inside before frames block n _ = Err Misplaced
 
 -- a line after a use line
-abbrev pub take_used : Contents → Use → Line → Result Reading ℕ
+abbrev pub take_used : Contents → Use → Line → Result Reading LineFault
 take_used before kind line.End = Ok (Between (with_body before (Kind kind)))
-take_used before kind _ = Err MISPLACED
+take_used before kind _ = Err Misplaced
 
--- what one line more makes of what was read, or the code of its fault
-abbrev pub take_line : Reading → Line → Result Reading ℕ
+-- what one line more makes of what was read, or its fault
+abbrev pub take_line : Reading → Line → Result Reading LineFault
 take_line Empty line = begin line
 take_line (Between before) line = take_between before line
 take_line (Inside before frames block n) line = take_inside before frames block n line
@@ -163,23 +165,23 @@ checks_in (Between before) = length before.clauses
 checks_in (Inside before frames block n) = length before.clauses
 checks_in (Used before kind) = length before.clauses
 
--- takes what a line of the text says, if it says something; or keeps the code of its fault
-abbrev pub take_if_said : Reading → Result (Option Line) ℕ → Result Reading ℕ
+-- takes what a line of the text says, if it says something; or keeps its fault
+abbrev pub take_if_said : Reading → Result (Option Line) LineFault → Result Reading LineFault
 take_if_said reading (Ok (Some line)) = take_line reading line
 take_if_said reading (Ok None) = Ok reading
-take_if_said reading (Err code) = Err code
+take_if_said reading (Err fault) = Err fault
 
--- what was read, at the end of a text; or the code of its fault
-abbrev pub contents_at_end : Reading → Result Contents ℕ
-contents_at_end Empty = Err NO_REGISTERS
-contents_at_end (Between before) = if nat_lt 0 (length before.processes) then Ok before else Err PAST_LIMIT
-contents_at_end (Inside before frames block n) = Err MISPLACED
-contents_at_end (Used before kind) = Err MISPLACED
+-- what was read, at the end of a text; or its fault
+abbrev pub contents_at_end : Reading → Result Contents LineFault
+contents_at_end Empty = Err NoRegisters
+contents_at_end (Between before) = if nat_lt 0 (length before.processes) then Ok before else Err PastLimit
+contents_at_end (Inside before frames block n) = Err Misplaced
+contents_at_end (Used before kind) = Err Misplaced
 
 -- a result whose fault is on this line
-abbrev pub faulty_at : {A : Type 0} → ℕ → Result A ℕ → Result A ReadFault
+abbrev pub faulty_at : {A : Type 0} → ℕ → Result A LineFault → Result A ReadFault
 faulty_at number (Ok x) = Ok x
-faulty_at number (Err code) = Err (record { line = number; code = code })
+faulty_at number (Err fault) = Err (record { line = number; code = code_of fault })
 
 -- goes on with a value, or keeps the fault
 abbrev pub goes_on : {A B : Type 0} → Result A ReadFault → (A → Result B ReadFault) → Result B ReadFault
@@ -274,7 +276,7 @@ abbrev pub inside_of : OpenProcess → Reading
 inside_of process = open_with process.before process.blocks.items (block_of process.block.items) process.statements
 
 -- one statement more in it, where its operands are within their limits
-abbrev pub add_to : OpenProcess → Bool → Stmt → Result Reading ℕ
+abbrev pub add_to : OpenProcess → Bool → Stmt → Result Reading LineFault
 add_to process fits stmt =
     add (contents_before process.before) (frames_of process.blocks.items) (block_of process.block.items) process.statements fits (with_stmt stmt Stop)
 
@@ -297,31 +299,26 @@ reading_of (draft.Between parts) = Between (contents_before parts)
 reading_of (draft.Inside process) = inside_of process
 reading_of (draft.Used parts kind) = Used (contents_before parts) kind
 
--- the refusal has the code that is expected; memory is refused only where a line is taken
-abbrev pub IsRefusalOf : Result Reading ℕ → LineRefusal → Type 0
-IsRefusalOf expected (refusal.Fault code) = expected ≡ Err code
+-- the refusal is for the fault that is expected; memory is refused only where a line is taken
+abbrev pub IsRefusalOf : Result Reading LineFault → LineRefusal → Type 0
+IsRefusalOf expected (refusal.Fault fault) = expected ≡ Err fault
 IsRefusalOf expected refusal.Memory = IsOk expected
 
 -- memory is refused only where a line may ask for it
 abbrev pub IsWantOf : Bool → LineRefusal → Type 0
-IsWantOf may_ask (refusal.Fault code) = Unit {0}
+IsWantOf may_ask (refusal.Fault fault) = Unit {0}
 IsWantOf may_ask refusal.Memory = may_ask ≡ true
 
--- the fault of a line that was refused; its own stands for memory
-abbrev pub IsFaultOf : ℕ → LineRefusal → ReadFault → Type 0
-IsFaultOf number (refusal.Fault code) fault = fault ≡ record { line = number; code = code }
-IsFaultOf number refusal.Memory fault = fault ≡ record { line = number; code = NO_MEMORY }
-
 -- the answer is what is expected, unless memory was refused
-abbrev pub Answers : Result Reading ℕ → Result Draft LineRefusal → Type 0
+abbrev pub Answers : Result Reading LineFault → Result Draft LineRefusal → Type 0
 Answers expected result = MatchResult result (λ draft. expected ≡ Ok (reading_of draft)) (IsRefusalOf expected)
 
 -- a line is answered as is expected, and memory is refused only where it may ask for it
-pub record AnswersLine (may_ask : Bool) (expected : Result Reading ℕ) (result : Result Draft LineRefusal) : Type 0 where
+pub record AnswersLine (may_ask : Bool) (expected : Result Reading LineFault) (result : Result Draft LineRefusal) : Type 0 where
   pub answers : Answers expected result
   pub memory : IfErr result (IsWantOf may_ask)
 
 -- the answer at the end of a text whose checks stand on these lines
-abbrev pub AnswersAtEnd : Reading → List ℕ → Result Source ℕ → Type 0
+abbrev pub AnswersAtEnd : Reading → List ℕ → Result Source LineFault → Type 0
 AnswersAtEnd reading numbers result =
-    MatchResult result (λ source. (contents_at_end reading ≡ Ok (contents_of source)) × (check_lines_of source ≡ numbers)) (λ code. contents_at_end reading ≡ Err code)
+    MatchResult result (λ source. (contents_at_end reading ≡ Ok (contents_of source)) × (check_lines_of source ≡ numbers)) (λ fault. contents_at_end reading ≡ Err fault)

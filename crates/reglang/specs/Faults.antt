@@ -1,7 +1,10 @@
 -- The first fault of a text.
 use Rattle.std.specs.Prelude.{◌≡◌, ◌≢◌, ℕ, suc, ◌-◌, ◌≤◌, Bool, true, false, not, ◌&&◌, if◌then◌else◌, List, [], ◌∷◌, ◌++◌, length, max, get_or, take, Option, Some, None, IfSome, is_some, is_none, unwrap_or, option_map, Result, Ok, Err, nat_lt}
 use Rattle.regmodel.specs.declared.limits.TheConstants.{MOST_CHECKS, MOST_OPEN_BLOCKS, MOST_OPEN_REPEATS, MOST_PROCESSES, MOST_REGISTERS, MOST_STATEMENTS}
-use Rattle.reglang.specs.declared.refusals.TheConstants.{MISPLACED, NO_CLAUSE, NO_MEMORY, NO_REGISTERS, PAST_LIMIT}
+use Rattle.reglang.specs.declared.refusals.TheConstants.{NO_MEMORY}
+use Rattle.reglang.specs.LineFaults.{code_of, fault_of}
+use Rattle.reglang.specs.declared.refusals.LineFault.{LineFault}
+use Rattle.reglang.specs.declared.refusals.LineFault.TheVariants.{Misplaced, NoClause, NoRegisters, PastLimit}
 use Rattle.regmodel.specs.Limits.{target_fits, operand_fits, expr_fits, scan_fits}
 use Rattle.reglang.specs.Lines.{lines}
 use Rattle.reglang.specs.Forms.{read_line}
@@ -95,7 +98,7 @@ abbrev pub context_after_lines : List Line → Context → Context
 context_after_lines [] context = context
 context_after_lines (line ∷ lines) context = context_after_lines lines (context_after_line line context)
 
--- ---- the conditions of the codes
+-- ---- the conditions of the faults
 
 -- whether the innermost open block is an `if` without its `else` so far
 abbrev pub is_if : List Opened → Bool
@@ -202,31 +205,31 @@ abbrev pub is_no_clause : Line → Bool
 is_no_clause (line.Check None) = true
 is_no_clause _ = false
 
--- the code of a line's fault where it stands
-abbrev pub line_fault : Context → Line → Option ℕ
+-- a line's fault where it stands
+abbrev pub line_fault : Context → Line → Option LineFault
 line_fault context line =
-    if is_misplaced context line then Some MISPLACED else
-    (if not (is_within context line) then Some PAST_LIMIT else
-    (if is_too_early context line then Some NO_REGISTERS else
-    (if is_no_clause line then Some NO_CLAUSE else None)))
+    if is_misplaced context line then Some Misplaced else
+    (if not (is_within context line) then Some PastLimit else
+    (if is_too_early context line then Some NoRegisters else
+    (if is_no_clause line then Some NoClause else None)))
 
--- the code of the fault of a line that says this, where it stands
-abbrev pub fault_of_line : Context → Result (Option Line) ℕ → Option ℕ
+-- the fault of a line that says this, where it stands
+abbrev pub fault_of_line : Context → Result (Option Line) LineFault → Option LineFault
 fault_of_line context (Ok (Some line)) = line_fault context line
 fault_of_line context (Ok None) = None
-fault_of_line context (Err code) = Some code
+fault_of_line context (Err fault) = Some fault
 
 -- whether a process is open
 abbrev pub is_inside : Place → Bool
 is_inside Outside = false
 is_inside _ = true
 
--- the code of the fault of the end of a text
-abbrev pub end_fault : Context → Option ℕ
+-- the fault of the end of a text
+abbrev pub end_fault : Context → Option LineFault
 end_fault context =
-    if is_none context.registers then Some NO_REGISTERS else
-    (if is_inside context.place then Some MISPLACED else
-    (if nat_lt 0 context.processes then None else Some PAST_LIMIT))
+    if is_none context.registers then Some NoRegisters else
+    (if is_inside context.place then Some Misplaced else
+    (if nat_lt 0 context.processes then None else Some PastLimit))
 
 -- no line has a fault where it stands, of which the first stands in this context
 abbrev pub are_faultless : Context → List (List ℕ) → Bool
@@ -245,10 +248,10 @@ may_ask (line.Check clause) = false
 may_ask _ = true
 
 -- whether it is one that says such a line
-abbrev pub asks : Result (Option Line) ℕ → Bool
+abbrev pub asks : Result (Option Line) LineFault → Bool
 asks (Ok (Some line)) = may_ask line
 asks (Ok None) = false
-asks (Err code) = false
+asks (Err fault) = false
 
 -- the line of a text with this number, counted from 1
 abbrev pub line_at : ℕ → List ℕ → List ℕ
@@ -260,9 +263,9 @@ line_at number text = get_or (lines text) (number - 1) []
 abbrev pub context_after : List (List ℕ) → Context
 context_after before = context_after_lines (lines_said before) at_start
 
--- a code, where there is one, on its line
-abbrev pub at_line : ℕ → Option ℕ → Option ReadFault
-at_line number code = option_map (λ c. record { line = number; code = c }) code
+-- a fault, where there is one, on its line
+abbrev pub at_line : ℕ → Option LineFault → Option ReadFault
+at_line number fault = option_map (λ f. record { line = number; code = code_of f }) fault
 
 -- the first fault, or else the second
 abbrev pub or_later : Option ReadFault → Option ReadFault → Option ReadFault
@@ -308,8 +311,8 @@ WantsMemory text fault = fault.code ≡ NO_MEMORY → RunsOut text fault.line
 
 -- it is told to be that of the end just where no line has one, unless memory was refused
 abbrev pub TellsEnd : List ℕ → Rejection → Type 0
-TellsEnd text rejection = rejection.fault.code ≢ NO_MEMORY → rejection.is_of_end ≡ are_faultless at_start (lines text)
+TellsEnd text rejection = (fault_of rejection).code ≢ NO_MEMORY → rejection.is_of_end ≡ are_faultless at_start (lines text)
 
 -- and never where memory was
 abbrev pub TellsMemory : Rejection → Type 0
-TellsMemory rejection = rejection.fault.code ≡ NO_MEMORY → rejection.is_of_end ≡ false
+TellsMemory rejection = (fault_of rejection).code ≡ NO_MEMORY → rejection.is_of_end ≡ false

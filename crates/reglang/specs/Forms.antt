@@ -1,7 +1,8 @@
 -- What a line says, or the code of its fault.
 use Rattle.std.specs.Prelude.{◌≡◌, ℕ, Bool, true, false, not, if◌then◌else◌, List, [], ◌∷◌, ◌++◌, map, take, Option, Some, None, option_and_then, option_map, Result, Ok, Err, nat_le}
 use Rattle.std.specs.List.{list_all, list_any}
-use Rattle.reglang.specs.declared.refusals.TheConstants.{NO_FORM, NO_NUMBER, NOT_PRINTABLE, UNKNOWN_WORD}
+use Rattle.reglang.specs.declared.refusals.LineFault.{LineFault}
+use Rattle.reglang.specs.declared.refusals.LineFault.TheVariants.{NoForm, NoNumber, NotPrintable, UnknownWord}
 use Rattle.regmodel.specs.declared.programs.Target.{Target}
 use Rattle.regmodel.specs.declared.programs.Target.TheVariants as target
 use Rattle.regmodel.specs.declared.programs.Operand.{Operand}
@@ -135,31 +136,31 @@ is_no_number word.NoNumber = true
 is_no_number _ = false
 
 -- a line that there is, or a fault
-abbrev pub or_fault : ℕ → Option Line → Result (Option Line) ℕ
-or_fault code (Some line) = Ok (Some line)
-or_fault code None = Err code
+abbrev pub or_fault : LineFault → Option Line → Result (Option Line) LineFault
+or_fault fault (Some line) = Ok (Some line)
+or_fault fault None = Err fault
 
--- what a keyword and the words after it say, where it is no check; or the code of an unknown word, of no number word, of no form
-abbrev pub keyword_line : Keyword → List Word → Result (Option Line) ℕ
+-- what a keyword and the words after it say, where it is no check; or an unknown word, no number word, no form
+abbrev pub keyword_line : Keyword → List Word → Result (Option Line) LineFault
 keyword_line key more =
-    if not (list_all is_known more) then Err UNKNOWN_WORD else
-    (if list_any is_no_number more then Err NO_NUMBER else or_fault NO_FORM (form_of key more))
+    if not (list_all is_known more) then Err UnknownWord else
+    (if list_any is_no_number more then Err NoNumber else or_fault NoForm (form_of key more))
 
 -- what words say: nothing where there are none, or the first begins a comment
-abbrev pub line_of : List Word → Result (Option Line) ℕ
+abbrev pub line_of : List Word → Result (Option Line) LineFault
 line_of [] = Ok None
 line_of (word.Comment ∷ more) = Ok None
 line_of (word.Keyword keyword.Check ∷ more) = Ok (Some (Check (clause_of more)))
 line_of (word.Keyword key ∷ more) = keyword_line key more
-line_of _ = Err UNKNOWN_WORD
+line_of _ = Err UnknownWord
 
 -- the words of a line, by what they may stand for
 abbrev pub words_said : List ℕ → List Word
 words_said line = map word_of (words line)
 
--- what a line says, or the code of its fault: a byte that is not in 32 to 126, or one of its words
-abbrev pub read_line : List ℕ → Result (Option Line) ℕ
-read_line line = if is_printable line then line_of (words_said line) else Err NOT_PRINTABLE
+-- what a line says, or its fault: a byte that is not in 32 to 126, or one of its words
+abbrev pub read_line : List ℕ → Result (Option Line) LineFault
+read_line line = if is_printable line then line_of (words_said line) else Err NotPrintable
 
 -- ---- inside the crate: the words that are kept of a line
 

@@ -8,6 +8,7 @@ use Rattle.reglang.specs.Lines.{lines}
 use Rattle.reglang.specs.Forms.{read_line}
 use Rattle.reglang.specs.Contents.{Body, Text, Kind, Contents, IsSourceWithin}
 use Rattle.reglang.specs.declared.forms.Line.{Line}
+use Rattle.reglang.specs.declared.refusals.LineFault.{LineFault}
 use Rattle.reglang.specs.declared.forms.Line.TheVariants as line
 
 -- one line, and after it lines of which `rest` holds
@@ -73,10 +74,10 @@ clauses_in (Process body ∷ parts) = clauses_in parts
 clauses_in (Check clause ∷ parts) = clause ∷ clauses_in parts
 
 -- what one line says, where it is not skipped
-abbrev pub line_said : Result (Option Line) ℕ → List Line
+abbrev pub line_said : Result (Option Line) LineFault → List Line
 line_said (Ok (Some line)) = line ∷ []
 line_said (Ok None) = []
-line_said (Err code) = []
+line_said (Err fault) = []
 
 -- what lines say that are not skipped
 abbrev pub lines_said : List (List ℕ) → List Line

@@ -9,6 +9,7 @@ pub mod Forms
 pub mod Grammar
 pub mod GrammarExamples
 pub mod LineExamples
+pub mod LineFaults
 pub mod Lines
 pub mod Sorts
 pub mod Sources

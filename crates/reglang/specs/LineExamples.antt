@@ -5,6 +5,7 @@ use Rattle.regmodel.specs.declared.programs.Operand.TheVariants as operand
 use Rattle.regmodel.specs.declared.programs.Op.TheVariants as op
 use Rattle.regmodel.specs.declared.programs.Expr.TheVariants as expr
 use Rattle.regmodel.specs.declared.clauses.Clause.TheVariants as clause
+use Rattle.reglang.specs.declared.refusals.LineFault.TheVariants.{NotPrintable, UnknownWord, NoNumber, NoForm}
 use Rattle.reglang.specs.Forms.{arguments, read_line}
 use Rattle.uses.specs.declared.kinds.Use.TheVariants as use_line
 use Rattle.reglang.specs.declared.arguments.Argument.TheVariants as argument
@@ -29,7 +30,7 @@ two_words = refl
 -- ---- lines
 
 -- a tab in a comment
-pub tab : read_line (codes "#" ++ 9 ∷ []) ≡ Err 1
+pub tab : read_line (codes "#" ++ 9 ∷ []) ≡ Err NotPrintable
 tab = refl
 
 -- a comment, and a line of spaces
@@ -37,15 +38,15 @@ pub skipped : map read_line (codes "  # registers 1" ∷ codes "   " ∷ []) ≡
 skipped = refl
 
 -- a number where the line begins, a variable past v15, and an unknown word, which counts before a number that is none
-pub unknown : map read_line (codes "1" ∷ codes "set v16 1" ∷ codes "emit 007 x" ∷ []) ≡ replicate 3 (Err 2)
+pub unknown : map read_line (codes "1" ∷ codes "set v16 1" ∷ codes "emit 007 x" ∷ []) ≡ replicate 3 (Err UnknownWord)
 unknown = refl
 
 -- leading zeros, and a letter in a number, which counts before the form
-pub no_numbers : map read_line (codes "emit 007" ∷ codes "end 1a" ∷ []) ≡ replicate 2 (Err 3)
+pub no_numbers : map read_line (codes "emit 007" ∷ codes "end 1a" ∷ []) ≡ replicate 2 (Err NoNumber)
 no_numbers = refl
 
 -- no value, a number for a target, a word for a scan's cell that is none, and a scan without a count
-pub out_of_form : map read_line (codes "emit" ∷ codes "set 5 v0" ∷ codes "scan [0] 30 2" ∷ codes "scan 0 30" ∷ []) ≡ replicate 4 (Err 4)
+pub out_of_form : map read_line (codes "emit" ∷ codes "set 5 v0" ∷ codes "scan [0] 30 2" ∷ codes "scan 0 30" ∷ []) ≡ replicate 4 (Err NoForm)
 out_of_form = refl
 
 pub set_cell : read_line (codes "set [v0] [31] < 7") ≡ Ok (Some (line.Set (target.CellOf 0) (expr.Two (operand.Cell 31) op.Less (operand.Number 7))))

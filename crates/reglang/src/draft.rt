@@ -8,7 +8,7 @@ ghost use Rattle.reglang.specs.Faults.{may_ask};
 use crate::forms::Line;
 use crate::open_process::OpenProcess;
 use crate::parts::Parts;
-use crate::refusals::{LineRefusal, MISPLACED, NO_REGISTERS, PAST_LIMIT};
+use crate::refusals::{LineFault, LineRefusal};
 use crate::source::Source;
 use arrayvec::ArrayVec;
 use regmodel::limits::MOST_REGISTERS;
@@ -42,15 +42,15 @@ impl Draft {
         }
     }
 
-    /// The source that was read, at the end of the text, whose checks stand on these lines; or the code of the end's fault.
-    pub fn finish(self, check_lines: ArrayVec<u64, 16>) -> Result<Source, u8>
+    /// The source that was read, at the end of the text, whose checks stand on these lines; or the end's fault.
+    pub fn finish(self, check_lines: ArrayVec<u64, 16>) -> Result<Source, LineFault>
         requires { ReadingFits (reading_of self) }
         ensures { AnswersAtEnd (reading_of self) check_lines.items result }
     {
         match self {
-            Draft::Empty => Err(NO_REGISTERS),
+            Draft::Empty => Err(LineFault::NoRegisters),
             Draft::Between(parts) => parts.finish(check_lines),
-            Draft::Inside(_) | Draft::Used(_, _) => Err(MISPLACED),
+            Draft::Inside(_) | Draft::Used(_, _) => Err(LineFault::Misplaced),
         }
     }
 }
@@ -62,12 +62,12 @@ fn begin(alloc: Global, line: Line) -> Result<Draft, LineRefusal>
     match line {
         Line::Registers(n) => {
             if n == 0 || n > MOST_REGISTERS {
-                return Err(LineRefusal::Fault(PAST_LIMIT));
+                return Err(LineRefusal::Fault(LineFault::PastLimit));
             }
             Ok(Draft::Between(Parts::new(alloc, n)))
         }
-        Line::Process => Err(LineRefusal::Fault(NO_REGISTERS)),
-        Line::Check(_) => Err(LineRefusal::Fault(NO_REGISTERS)),
-        _ => Err(LineRefusal::Fault(MISPLACED)),
+        Line::Process => Err(LineRefusal::Fault(LineFault::NoRegisters)),
+        Line::Check(_) => Err(LineRefusal::Fault(LineFault::NoRegisters)),
+        _ => Err(LineRefusal::Fault(LineFault::Misplaced)),
     }
 }

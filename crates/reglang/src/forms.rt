@@ -8,7 +8,7 @@ ghost use Rattle.reglang.specs.Forms.{KeepsFirst, words_said};
 use crate::arguments::{clause_with, line_with, use_with};
 use crate::lines::{is_printable, split_word};
 use crate::operands::{arguments, kind_of, property_of};
-use crate::refusals::{NO_FORM, NO_NUMBER, NOT_PRINTABLE, UNKNOWN_WORD};
+use crate::refusals::LineFault;
 use crate::sorts::{kind_sorts, property_sorts, sorts_after};
 use crate::vocabulary::Keyword;
 use crate::words::{Word, word_of};
@@ -151,32 +151,32 @@ fn form_of(key: Keyword, more: &[Word]) -> Option<Line>
     }
 }
 
-/// What a line says whose first word is this, no check. Code 2 where a later word is unknown, 3 where one begins with a digit
-/// and is no number word, 4 where the words have no form of the first one.
-fn keyword_line(key: Keyword, rest: &[u8]) -> Result<Option<Line>, u8>
+/// What a line says whose first word is this, no check. Its first fault where a later word is unknown, one begins with a digit and is no
+/// number word, or the words have no form of the first one.
+fn keyword_line(key: Keyword, rest: &[u8]) -> Result<Option<Line>, LineFault>
     ensures { result ≡ spec.keyword_line key (words_said rest.now) }
 {
     let later = later_words(rest);
     if !later.known {
-        return Err(UNKNOWN_WORD);
+        return Err(LineFault::UnknownWord);
     }
     if later.no_number {
-        return Err(NO_NUMBER);
+        return Err(LineFault::NoNumber);
     }
     match form_of(key, later.first.as_slice()) {
         Some(line) => Ok(Some(line)),
-        None => Err(NO_FORM),
+        None => Err(LineFault::NoForm),
     }
 }
 
-/// What a line says; none where it has no words or its first word begins with `#`. Code 1 where a byte is not in 32 to 126; 2
-/// where the first word begins no line or, the line being no check, a later word is unknown; 3 where, the line being no check,
-/// a word begins with a digit and is no number word; 4 where the words have no form of the first one.
-pub fn read_line(line: &[u8]) -> Result<Option<Line>, u8>
+/// What a line says; none where it has no words or its first word begins with `#`. Else its first fault: `NotPrintable` where a byte is not
+/// in 32 to 126; `UnknownWord` where the first word begins no line or, the line being no check, a later word is unknown; `NoNumber` where,
+/// the line being no check, a word begins with a digit and is no number word; `NoForm` where the words have no form of the first one.
+pub fn read_line(line: &[u8]) -> Result<Option<Line>, LineFault>
     ensures { result ≡ spec.read_line line.now }
 {
     if !is_printable(line) {
-        return Err(NOT_PRINTABLE);
+        return Err(LineFault::NotPrintable);
     }
     let Some((first, rest)) = split_word(line) else {
         return Ok(None);
@@ -187,6 +187,6 @@ pub fn read_line(line: &[u8]) -> Result<Option<Line>, u8>
             later_words(rest).first.as_slice(),
         )))),
         Word::Keyword(key) => keyword_line(key, rest),
-        _ => Err(UNKNOWN_WORD),
+        _ => Err(LineFault::UnknownWord),
     }
 }

@@ -23,9 +23,7 @@ pub use forms::{Line, is_known, read_line};
 pub use lines::{split_line, split_word, without_indent};
 pub use operands::{argument_of, kind_of, number_in, operator_of, property_of, target_of};
 pub use reader::{ReadFault, Rejection, read_source, read_text};
-pub use refusals::{
-    MISPLACED, NO_CLAUSE, NO_FORM, NO_NUMBER, NO_REGISTERS, NOT_PRINTABLE, PAST_LIMIT, UNKNOWN_WORD,
-};
+pub use refusals::{LineFault, LineRefusal};
 pub use sorts::{MOST_ARGUMENTS, Sort, Sorts, kind_sorts, property_sorts, sorts_after};
 pub use source::Source;
 pub use uses::{ExpandFault, Use, expand};

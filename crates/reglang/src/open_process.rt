@@ -10,7 +10,7 @@ ghost use Rattle.reglang.specs.declared.forms.Line.TheVariants as line;
 use crate::draft::Draft;
 use crate::forms::Line;
 use crate::parts::Parts;
-use crate::refusals::{LineRefusal, MISPLACED, PAST_LIMIT};
+use crate::refusals::{LineFault, LineRefusal};
 use crate::source::Process;
 use regmodel::limits::{MOST_OPEN_BLOCKS, MOST_OPEN_REPEATS, MOST_STATEMENTS};
 use regmodel::{Expr, Prog, Stmt, scan_fits};
@@ -82,14 +82,14 @@ impl OpenProcess {
             Line::Done => self.leave_repeat(),
             Line::End => {
                 if !self.blocks.is_empty() {
-                    return Err(LineRefusal::Fault(MISPLACED));
+                    return Err(LineRefusal::Fault(LineFault::Misplaced));
                 }
                 let prog = Prog::of(self.before.registers(), self.block);
                 self.before.add_process(Process::Text(prog))
             }
             Line::Use(kind) => self.stand_for(kind),
             Line::Registers(_) | Line::Process | Line::Check(_) => Err(LineRefusal::Fault(
-                MISPLACED,
+                LineFault::Misplaced,
             )),
         }
     }
@@ -99,7 +99,7 @@ impl OpenProcess {
         ensures { Answers (add_to self fits stmt) result }
     {
         if self.statements >= MOST_STATEMENTS || !fits {
-            return Err(LineRefusal::Fault(PAST_LIMIT));
+            return Err(LineRefusal::Fault(LineFault::PastLimit));
         }
         self.block.push(stmt)?;
         self.statements += 1;
@@ -126,7 +126,7 @@ impl OpenProcess {
         ensures { Answers (take_line (inside_of self) (line.If test)) result }
     {
         if !self.may_enter() || !test.fits() {
-            return Err(LineRefusal::Fault(PAST_LIMIT));
+            return Err(LineRefusal::Fault(LineFault::PastLimit));
         }
         let outer = replace(&mut self.block, Vec::new(alloc));
         self.enter(Open::First(test, outer))
@@ -137,10 +137,10 @@ impl OpenProcess {
         ensures { Answers (take_line (inside_of self) (line.Repeat count)) result }
     {
         if !self.may_enter() || !count.fits() {
-            return Err(LineRefusal::Fault(PAST_LIMIT));
+            return Err(LineRefusal::Fault(LineFault::PastLimit));
         }
         if open_repeats(self.blocks.as_slice()) >= MOST_OPEN_REPEATS as usize {
-            return Err(LineRefusal::Fault(PAST_LIMIT));
+            return Err(LineRefusal::Fault(LineFault::PastLimit));
         }
         let outer = replace(&mut self.block, Vec::new(alloc));
         self.enter(Open::Turn(count, outer))
@@ -163,7 +163,7 @@ impl OpenProcess {
         ensures { Answers (take_line (inside_of self) line.Else) result }
     {
         let Some(Open::First(test, outer)) = self.blocks.pop() else {
-            return Err(LineRefusal::Fault(MISPLACED));
+            return Err(LineRefusal::Fault(LineFault::Misplaced));
         };
         let first = replace(&mut self.block, Vec::new(alloc));
         self.blocks.push(Open::Second(test, first, outer))?;
@@ -183,7 +183,7 @@ impl OpenProcess {
                 let second = replace(&mut self.block, outer);
                 self.leave(Stmt::If(test, first, second))
             }
-            _ => Err(LineRefusal::Fault(MISPLACED)),
+            _ => Err(LineRefusal::Fault(LineFault::Misplaced)),
         }
     }
 
@@ -196,7 +196,7 @@ impl OpenProcess {
                 let body = replace(&mut self.block, outer);
                 self.leave(Stmt::Repeat(count, body))
             }
-            _ => Err(LineRefusal::Fault(MISPLACED)),
+            _ => Err(LineRefusal::Fault(LineFault::Misplaced)),
         }
     }
 
@@ -215,10 +215,10 @@ impl OpenProcess {
         ensures { AnswersLine false (take_line (inside_of self) (line.Use kind)) result }
     {
         if self.statements > 0 {
-            return Err(LineRefusal::Fault(MISPLACED));
+            return Err(LineRefusal::Fault(LineFault::Misplaced));
         }
         if !kind.fits(self.before.registers()) {
-            return Err(LineRefusal::Fault(PAST_LIMIT));
+            return Err(LineRefusal::Fault(LineFault::PastLimit));
         }
         Ok(Draft::Used(self.before, kind))
     }

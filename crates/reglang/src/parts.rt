@@ -6,7 +6,7 @@ ghost use Rattle.reglang.specs.Contents.{is_over};
 use crate::draft::Draft;
 use crate::forms::Line;
 use crate::open_process::OpenProcess;
-use crate::refusals::{LineRefusal, MISPLACED, NO_CLAUSE, PAST_LIMIT};
+use crate::refusals::{LineFault, LineRefusal};
 use crate::source::{Process, Source};
 use arrayvec::ArrayVec;
 use regmodel::limits::MOST_PROCESSES;
@@ -58,7 +58,7 @@ impl Parts {
         match line {
             Line::Process => self.begin_process(alloc),
             Line::Check(clause) => self.add_clause(clause),
-            _ => Err(LineRefusal::Fault(MISPLACED)),
+            _ => Err(LineRefusal::Fault(LineFault::Misplaced)),
         }
     }
 
@@ -67,7 +67,7 @@ impl Parts {
         ensures { AnswersLine false (spec.take_between (contents_before self) line.Process) result }
     {
         if self.processes.len() >= MOST_PROCESSES {
-            return Err(LineRefusal::Fault(PAST_LIMIT));
+            return Err(LineRefusal::Fault(LineFault::PastLimit));
         }
         Ok(Draft::Inside(OpenProcess::new(alloc, self)))
     }
@@ -77,10 +77,10 @@ impl Parts {
         ensures { AnswersLine false (spec.add_clause (contents_before self) clause) result }
     {
         if self.clauses.is_full() {
-            return Err(LineRefusal::Fault(PAST_LIMIT));
+            return Err(LineRefusal::Fault(LineFault::PastLimit));
         }
         let Some(clause) = clause else {
-            return Err(LineRefusal::Fault(NO_CLAUSE));
+            return Err(LineRefusal::Fault(LineFault::NoClause));
         };
         self.clauses.push(clause);
         Ok(Draft::Between(self))
@@ -97,7 +97,7 @@ impl Parts {
     }
 
     /// The source of these parts, whose checks stand on these lines.
-    pub fn finish(self, check_lines: ArrayVec<u64, 16>) -> Result<Source, u8>
+    pub fn finish(self, check_lines: ArrayVec<u64, 16>) -> Result<Source, LineFault>
         requires { ReadingFits (Between (contents_before self)) }
         ensures { AnswersAtEnd (Between (contents_before self)) check_lines.items result }
     {
@@ -107,14 +107,9 @@ impl Parts {
             clauses,
         } = self;
         if processes.is_empty() {
-            return Err(PAST_LIMIT);
+            return Err(LineFault::PastLimit);
         }
-        Ok(Source::new(
-            registers,
-            processes,
-            Clauses::new(clauses),
-            check_lines,
-        ))
+        Ok(Source::new(registers, processes, Clauses::new(clauses), check_lines))
     }
 
     /// Takes a line after a use line.
@@ -125,7 +120,7 @@ impl Parts {
     {
         match line {
             Line::End => self.add_process(Process::Use(kind)),
-            _ => Err(LineRefusal::Fault(MISPLACED)),
+            _ => Err(LineRefusal::Fault(LineFault::Misplaced)),
         }
     }
 }

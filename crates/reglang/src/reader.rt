@@ -2,16 +2,17 @@
 
 ghost use Rattle.std.specs.Prelude.{◌≡◌, ◌<◌, ◌≤◌, ◌++◌, IfErr, IfOk, length};
 ghost use Rattle.reglang.specs.Checks.{check_lines, number_of_check};
-ghost use Rattle.reglang.specs.Drafts.{AnswersLine, IsFaultOf, ReadingFits, checks_in, reading_of, take_if_said};
+ghost use Rattle.reglang.specs.Drafts.{AnswersLine, ReadingFits, checks_in, reading_of, take_if_said};
 ghost use Rattle.reglang.specs.Faults.{HasNoneBefore, IsFirst, IsUnspelled, TellsEnd, TellsMemory, WantsMemory, asks, last_line};
 ghost use Rattle.reglang.specs.Forms as forms;
 ghost use Rattle.reglang.specs.Grammar.{Spells};
+ghost use Rattle.reglang.specs.LineFaults.{fault_of};
 ghost use Rattle.reglang.specs.Sources.{check_lines_of, contents_of};
 
 use crate::draft::Draft;
 use crate::forms::{Line, read_line};
 use crate::lines::split_line;
-use crate::refusals::{LineRefusal, NO_MEMORY};
+use crate::refusals::LineRefusal;
 use crate::source::Source;
 use arrayvec::ArrayVec;
 use std::alloc::Global;
@@ -30,12 +31,26 @@ pub struct ReadFault {
 }
 
 /// Why a text was not read, and whether its end is at fault in place of a line.
-#[derive(Clone, Copy, PartialEq, Eq, Debug, Error)]
-#[error("{fault}")]
+#[derive(Clone, Copy, PartialEq, Eq, Debug)]
 pub struct Rejection {
-    pub fault: ReadFault,
+    /// The line that was refused, as in a `ReadFault`.
+    pub line: u64,
+    /// Why it was refused.
+    pub refusal: LineRefusal,
     /// Whether no line has a fault, but the text ends too early.
     pub is_of_end: bool,
+}
+
+impl Rejection {
+    /// The line and the code of the refusal.
+    pub fn fault(&self) -> ReadFault
+        ensures { result ≡ fault_of self.now }
+    {
+        ReadFault {
+            line: self.line,
+            code: self.refusal.code(),
+        }
+    }
 }
 
 /// Reads the source of a text, in one pass. A refused text has the code of its first fault, 1 to 8, and its line; code 9 is
@@ -53,7 +68,7 @@ pub fn read_source(alloc: Global, text: &[u8]) -> Result<Source, ReadFault>
 {
     match read_text(alloc, text) {
         Ok(source) => Ok(source),
-        Err(rejection) => Err(rejection.fault),
+        Err(rejection) => Err(rejection.fault()),
     }
 }
 
@@ -62,14 +77,14 @@ pub fn read_source(alloc: Global, text: &[u8]) -> Result<Source, ReadFault>
 pub fn read_text(alloc: Global, text: &[u8]) -> Result<Source, Rejection>
     ensures spelled { IfOk result (λ source. Spells text.now (contents_of source)) }
     ensures lines { IfOk result (λ source. check_lines_of source ≡ check_lines text.now) }
-    ensures first_fault { IfErr result (λ rejection. IsFirst text.now rejection.fault) }
-    ensures not_spelled { IfErr result (λ rejection. IsUnspelled text.now rejection.fault) }
-    ensures no_fault_before { IfErr result (λ rejection. HasNoneBefore text.now rejection.fault) }
-    ensures first_line { IfErr result (λ rejection. 0 < rejection.fault.line) }
-    ensures last_line { IfErr result (λ rejection. rejection.fault.line ≤ last_line text.now) }
+    ensures first_fault { IfErr result (λ rejection. IsFirst text.now (fault_of rejection)) }
+    ensures not_spelled { IfErr result (λ rejection. IsUnspelled text.now (fault_of rejection)) }
+    ensures no_fault_before { IfErr result (λ rejection. HasNoneBefore text.now (fault_of rejection)) }
+    ensures first_line { IfErr result (λ rejection. 0 < rejection.line) }
+    ensures last_line { IfErr result (λ rejection. rejection.line ≤ last_line text.now) }
     ensures of_end { IfErr result (TellsEnd text.now) }
     ensures of_memory { IfErr result TellsMemory }
-    ensures memory { IfErr result (λ rejection. WantsMemory text.now rejection.fault) }
+    ensures memory { IfErr result (λ rejection. WantsMemory text.now (fault_of rejection)) }
 {
     let mut draft = Draft::Empty;
     let mut check_lines = ArrayVec::new();
@@ -81,7 +96,8 @@ pub fn read_text(alloc: Global, text: &[u8]) -> Result<Source, Rejection>
             Ok(draft) => draft,
             Err(refusal) => {
                 return Err(Rejection {
-                    fault: fault(line, refusal),
+                    line,
+                    refusal,
                     is_of_end: false,
                 });
             }
@@ -90,11 +106,9 @@ pub fn read_text(alloc: Global, text: &[u8]) -> Result<Source, Rejection>
     }
     match draft.finish(check_lines) {
         Ok(source) => Ok(source),
-        Err(code) => Err(Rejection {
-            fault: ReadFault {
-                line: line.max(1),
-                code,
-            },
+        Err(fault) => Err(Rejection {
+            line: line.max(1),
+            refusal: LineRefusal::Fault(fault),
             is_of_end: true,
         }),
     }
@@ -124,17 +138,6 @@ fn next(
         }
         Ok(Some(line)) => draft.take(alloc, line),
         Ok(None) => Ok(draft),
-        Err(code) => Err(LineRefusal::Fault(code)),
+        Err(fault) => Err(LineRefusal::Fault(fault)),
     }
-}
-
-/// The fault of a line that was not taken.
-fn fault(line: u64, refusal: LineRefusal) -> ReadFault
-    ensures { IsFaultOf line refusal result }
-{
-    let code = match refusal {
-        LineRefusal::Fault(code) => code,
-        LineRefusal::Memory => NO_MEMORY,
-    };
-    ReadFault { line, code }
 }

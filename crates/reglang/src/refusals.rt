@@ -1,45 +1,74 @@
 //! Why a line of a text is not taken.
 
+ghost use Rattle.std.specs.Prelude.{◌≡◌};
+ghost use Rattle.reglang.specs.LineFaults.{code_of, refusal_code};
+
 use std::alloc::{AllocError, AllocFailed};
-
-/// The code of a line with a byte that is not in 32 to 126.
-pub const NOT_PRINTABLE: u8 = 1;
-
-/// The code of a first word that begins no line, or a later word that is unknown.
-pub const UNKNOWN_WORD: u8 = 2;
-
-/// The code of a word that begins with a digit and is no number word.
-pub const NO_NUMBER: u8 = 3;
-
-/// The code of words that have no form of the first one.
-pub const NO_FORM: u8 = 4;
-
-/// The code of a line that cannot stand where it is.
-pub const MISPLACED: u8 = 5;
-
-/// The code of a limit that is passed.
-pub const PAST_LIMIT: u8 = 6;
-
-/// The code of a line before the `registers` line.
-pub const NO_REGISTERS: u8 = 7;
-
-/// The code of a check without a clause.
-pub const NO_CLAUSE: u8 = 8;
 
 /// The code of a request for memory that was refused.
 pub const NO_MEMORY: u8 = 9;
 
+/// What is wrong with a line, or with the end of a text.
+#[derive(Clone, Copy, PartialEq, Eq, Debug)]
+pub enum LineFault {
+    /// A byte that is not in 32 to 126.
+    NotPrintable,
+    /// A first word that begins no line, or a later word that is unknown.
+    UnknownWord,
+    /// A word that begins with a digit and is no number word.
+    NoNumber,
+    /// Words that have no form of the first one.
+    NoForm,
+    /// A line that cannot stand where it is.
+    Misplaced,
+    /// A limit that is passed.
+    PastLimit,
+    /// A line before the `registers` line.
+    NoRegisters,
+    /// A check without a clause.
+    NoClause,
+}
+
+impl LineFault {
+    /// Its code: 1 to 8, in the order of the faults above.
+    pub fn code(self) -> u8
+        ensures { result ≡ code_of self }
+    {
+        match self {
+            LineFault::NotPrintable => 1,
+            LineFault::UnknownWord => 2,
+            LineFault::NoNumber => 3,
+            LineFault::NoForm => 4,
+            LineFault::Misplaced => 5,
+            LineFault::PastLimit => 6,
+            LineFault::NoRegisters => 7,
+            LineFault::NoClause => 8,
+        }
+    }
+}
+
 /// Why a line was not taken.
-#[derive(Clone, Copy)]
+#[derive(Clone, Copy, PartialEq, Eq, Debug)]
 pub enum LineRefusal {
-    /// Its fault has this code, 1 to 8.
-    Fault(u8),
+    /// It has this fault.
+    Fault(LineFault),
     /// A request for memory was refused.
     Memory,
 }
 
+impl LineRefusal {
+    /// Its code: that of the fault, or 9.
+    pub fn code(self) -> u8
+        ensures { result ≡ refusal_code self }
+    {
+        match self {
+            LineRefusal::Fault(fault) => fault.code(),
+            LineRefusal::Memory => NO_MEMORY,
+        }
+    }
+}
+
 impl From<AllocError> for LineRefusal {
-    ghost use Rattle.std.specs.Prelude.{◌≡◌};
     ghost use Rattle.reglang.specs.declared.refusals.LineRefusal.TheVariants.{Memory};
 
     ghost from_gives = { λ _ refusal. refusal ≡ Memory };
@@ -50,7 +79,6 @@ impl From<AllocError> for LineRefusal {
 }
 
 impl<T: Drop> From<AllocFailed<T>> for LineRefusal {
-    ghost use Rattle.std.specs.Prelude.{◌≡◌};
     ghost use Rattle.reglang.specs.declared.refusals.LineRefusal.TheVariants.{Memory};
 
     ghost from_gives = { λ _ refusal. refusal ≡ Memory };
