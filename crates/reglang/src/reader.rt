@@ -16,6 +16,7 @@ use crate::refusals::LineRefusal;
 use crate::source::Source;
 use arrayvec::ArrayVec;
 use std::alloc::Global;
+use std::fmt;
 use thiserror::Error;
 
 /// Why a text was not read.
@@ -39,6 +40,17 @@ pub struct Rejection {
     pub refusal: LineRefusal,
     /// Whether no line has a fault, but the text ends too early.
     pub is_of_end: bool,
+}
+
+/// As its fault.
+impl fmt::Display for Rejection {
+    ghost use Rattle.std.specs.Prelude.{None};
+
+    ghost output = { λ _. None };
+
+    fn fmt<W: fmt::Write>(&self, f: &mut fmt::Formatter<W>) -> fmt::Result {
+        write!(f, "{}", self.fault())
+    }
 }
 
 impl Rejection {

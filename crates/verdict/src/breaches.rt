@@ -177,7 +177,9 @@ fn broken_line(spelling: &Spelling<'_>, asks_ended: bool, outcome: &Outcome) -> 
         → meets_all (clauses_asked asks_ended (contents_of spelling.now.source.now).clauses)
         outcome.now ≡ true }
 {
-    let place = first_broken(spelling.source.clauses().list(), asks_ended, outcome)?;
+    let Some(place) = first_broken(spelling.source.clauses().list(), asks_ended, outcome) else {
+        return None;
+    };
     Some(spelling.check_line(place))
 }
 

@@ -16,7 +16,7 @@ fn tells_whether_the_end_is_at_fault(rt: HostRuntime) -> Result<(), Fail> {
     for (text, is_of_end) in REFUSED {
         let rejection = read_text(rt.alloc(), text).err().ok_or("taken")?;
         assert!(rt; rejection.is_of_end == is_of_end);
-        assert!(rt; read_source(rt.alloc(), text).err() == Some(rejection.fault));
+        assert!(rt; read_source(rt.alloc(), text).err() == Some(rejection.fault()));
     }
     Ok(())
 }

@@ -1,4 +1,4 @@
-use Rattle.std.proofs.Common.{None, Some, ap, sym, ◌∙◌}
+use Rattle.std.proofs.Common.{ap, sym, ◌∙◌}
 use Rattle.std.specs.List.{position}
 use Rattle.reglang.specs.Sources.{contents_of}
 use Rattle.verdict.specs.Demands.{breaks}
@@ -6,15 +6,10 @@ use Rattle.verdict.proofs.Breaking.{broken_line_is}
 use Rattle.verdict.proofs.Causes.{none_broken}
 use Rattle.verdict.proofs.breaches.broken_line.Goals as goal
 
-pub unreachable-requires : goal.unreachable-requires
-unreachable-requires c =
-    broken_line_is c.args.spelling.now.text.now (contents_of c.args.spelling.now.source.now) c.args.asks_ended c.args.outcome.now c.in-Some.place None
-    (c.in-Some.ensures ∙ ap (position (breaks c.args.asks_ended c.args.outcome.now)) (c.list.ensures.value ∙ c.clauses.ensures.value)) c.in_default-check_line.ensures.number c.spells.ensures c.in_default-check_line.ensures.clause
-
 pub returns-clause-line : goal.returns-clause-line
 returns-clause-line c =
-    broken_line_is c.args.spelling.now.text.now (contents_of c.args.spelling.now.source.now) c.args.asks_ended c.args.outcome.now c.in-Some.place (Some c.in-Some-check_line.line)
-    (c.in-Some.ensures ∙ ap (position (breaks c.args.asks_ended c.args.outcome.now)) (c.list.ensures.value ∙ c.clauses.ensures.value)) c.in-Some-check_line.ensures.number c.spells.ensures c.in-Some-check_line.ensures.clause
+    broken_line_is c.args.spelling.now.text.now (contents_of c.args.spelling.now.source.now).clauses c.args.asks_ended c.args.outcome.now c.in-Some.place c.check_line.result
+    (c.in-Some.ensures ∙ ap (position (breaks c.args.asks_ended c.args.outcome.now)) (c.list.ensures.value ∙ c.clauses.ensures.value)) c.check_line.ensures.number c.check_line.ensures.checks
 
 pub returns-in_default-clause-none : goal.returns-in_default-clause-none
 returns-in_default-clause-none c =
