@@ -64,9 +64,9 @@ pub enum BlockExit {
 }
 
 /// Evaluates the expression, then stores its value.
-fn assign(target: Target, value: Expr, store: &mut Store) -> Result<StmtExit, u8>
+fn assign(target: Target, value: &Expr, store: &mut Store) -> Result<StmtExit, u8>
     ensures { (n : ℕ) (fs : List Frame)
-        → StmtRuns result n fs (Assign target value) (env_of store.old) (env_of store.new) }
+        → StmtRuns result n fs (Assign target value.now) (env_of store.old) (env_of store.new) }
 {
     let number = store.expr(value)?;
     let place = store.place(target)?;
@@ -99,9 +99,9 @@ fn read(to: Target, from: Operand, registers: u32, store: &Store) -> Result<Stmt
 }
 
 /// A write up to its access: first the register, then the value.
-fn write(to: Operand, value: Expr, registers: u32, store: &Store) -> Result<StmtExit, u8>
+fn write(to: Operand, value: &Expr, registers: u32, store: &Store) -> Result<StmtExit, u8>
     requires { registers ≤ MOST_REGISTERS }
-    ensures { ComesTo result registers (Write to value) (env_of store.now) }
+    ensures { ComesTo result registers (Write to value.now) (env_of store.now) }
 {
     let register = register(to, registers, store)?;
     let number = store.expr(value)?;
@@ -125,9 +125,9 @@ fn scan(cell: u32, first: u32, count: u32, registers: u32) -> StmtExit
 }
 
 /// Appends a number to those of the process; a fault where there are as many as may be.
-fn emit(value: Expr, store: &mut Store) -> Result<StmtExit, u8>
+fn emit(value: &Expr, store: &mut Store) -> Result<StmtExit, u8>
     ensures { (n : ℕ) (fs : List Frame)
-        → StmtRuns result n fs (Emit value) (env_of store.old) (env_of store.new) }
+        → StmtRuns result n fs (Emit value.now) (env_of store.old) (env_of store.new) }
 {
     let number = store.expr(value)?;
     if store.emitted.is_full() {
@@ -180,24 +180,24 @@ fn run_stmt(
         (env_of store.old) (env_of store.new) }
 {
     match stmt {
-        Stmt::Assign(target, value) => assign(*target, *value, store),
+        Stmt::Assign(target, value) => assign(*target, value, store),
         Stmt::Read(to, from) => read(*to, *from, registers, store),
-        Stmt::Write(to, value) => write(*to, *value, registers, store),
+        Stmt::Write(to, value) => write(*to, value, registers, store),
         Stmt::Scan(cell, first, count) => Ok(scan(*cell, *first, *count, registers)),
         Stmt::If(test, first, second) => {
-            let arm = arm_at(store.expr(*test)?);
+            let arm = arm_at(store.expr(test)?);
             let block = block_of_arm(arm, first.as_slice(), second.as_slice());
             let exit = run_block(block, 0, registers, depth + 1, store, frames);
             stmt_exit(exit, Part::Within(arm))
         }
         Stmt::Repeat(count, body) => {
-            let turns = store.expr(*count)?;
+            let turns = store.expr(count)?;
             if turns > MOST_TURNS {
                 return Err(TOO_MANY_TURNS);
             }
             run_turns(body.as_slice(), turns, registers, depth, store, frames)
         }
-        Stmt::Emit(value) => emit(*value, store),
+        Stmt::Emit(value) => emit(value, store),
         Stmt::Halt => Ok(StmtExit::Halts),
     }
 }

@@ -90,15 +90,15 @@ impl Store {
     }
 
     /// The value of an expression, operands from left to right.
-    pub fn expr(&self, e: Expr) -> Result<u32, u8>
-        ensures { result ≡ expr_value (env_of self.now) e }
+    pub fn expr(&self, e: &Expr) -> Result<u32, u8>
+        ensures { result ≡ expr_value (env_of self.now) e.now }
     {
         match e {
-            Expr::One(a) => self.operand(a),
+            Expr::One(a) => self.operand(*a),
             Expr::Two(a, op, b) => {
-                let x = self.operand(a)?;
-                let y = self.operand(b)?;
-                apply(op, x, y)
+                let x = self.operand(*a)?;
+                let y = self.operand(*b)?;
+                apply(*op, x, y)
             }
         }
     }
