@@ -1,7 +1,8 @@
 -- What is kept, after a write to one place.
-use Rattle.std.proofs.Common.{◌≡◌, ◌≢◌, inl, inr, ℕ, ◌+◌, ◌<◌, List, [], ◌∷◌, ◌++◌, get_or, length, map, take, refl, ap, sym, subst, ◌∙◌, arith, append_assoc}
+use Rattle.std.proofs.Common.{◌≡◌, ◌≢◌, inl, inr, ℕ, zero, suc, ◌+◌, Vec, ◌<◌, List, [], ◌∷◌, ◌++◌, drop, get_or, length, map, take, refl, ap, sym, subst, ◌∙◌, arith, append_assoc}
 use Rattle.std.specs.Prelude.{replicate, slice_index_or, slice_set}
-use Rattle.std.proofs.lemmas.List.{get_or-set_same, get_or-set_other, get_or-replicate, get_or_past, get_or_default, length-replicate, map_more}
+use Rattle.std.specs.Vec.{with_items}
+use Rattle.std.proofs.lemmas.List.{get_or-set_same, get_or-set_other, get_or-replicate, get_or_past, get_or_default, length-replicate, length-set, map_more, with_items_is}
 use Rattle.std.proofs.lemmas.Bool.{cases_eq, cases_lt}
 use Rattle.regmodel.specs.Kept.{values_in}
 use Rattle.regmodel.specs.Program.{Program}
@@ -10,13 +11,16 @@ use Rattle.regmodel.specs.declared.accesses.Pending.{Pending}
 use Rattle.regmodel.specs.declared.reply.Reply.{Reply}
 use Rattle.machine.specs.declared.states.Kept.{Kept}
 use Rattle.machine.specs.Rest.{Asks, rest_in}
-use Rattle.machine.specs.Keeping.{IsKept, IsStart, LeadsTo, blank, kept_at, state_at}
+use Rattle.machine.specs.Keeping.{IsKept, IsStart, LeadsTo, RanPast, blank, kept_at, state_at}
 
 kept_at-same : (kept : List Kept) (place : ℕ) (x : Kept) → place < length kept → kept_at (slice_set kept place x) place ≡ x
 kept_at-same kept place x h = get_or-set_same kept place x blank h
 
 kept_at-other : (kept : List Kept) (place other : ℕ) (x : Kept) → other ≢ place → kept_at (slice_set kept place x) other ≡ kept_at kept other
 kept_at-other kept place other x h = get_or-set_other kept place other x blank h
+
+pub state_at-set : (kept : List Kept) (place : ℕ) (x : Kept) → place < length kept → state_at (slice_set kept place x) place ≡ x.state
+state_at-set kept place x h = ap (λ k. k.state) (kept_at-same kept place x h)
 
 -- each state still asks what the program wants there
 pub asks_after : (p : Program) (kept : List Kept) (place : ℕ) (x : Kept) → place < length kept → ((i : ℕ) → Asks p (state_at kept i)) → Asks p x.state → (i : ℕ) → Asks p (state_at (slice_set kept place x) i)
@@ -57,6 +61,23 @@ asks_all p count x own i = elim (cases_lt i count) [
 -- what an index gives
 pub kept_at-index : (kept : List Kept) (place : ℕ) (x : Kept) → place < length kept → x ≡ slice_index_or kept place x → x ≡ kept_at kept place
 kept_at-index kept place x h e = e ∙ get_or_default kept place x blank h
+
+-- what is written to the first place of the second part of a list
+pub set_behind : (kept : List Kept) (place : ℕ) (x : Kept) → place < length kept → take place kept ++ slice_set (drop place kept) 0 x ≡ slice_set kept place x
+set_behind [] place x h = absurd (omega (arith, h))
+set_behind (y ∷ kept) zero x h = refl
+set_behind (y ∷ kept) (suc place) x h = ap (λ ks. y ∷ ks) (set_behind kept place x (omega (arith, h)))
+
+-- the places of a vector, of which a slice was lent
+pub ran_in : {Z : Type 0} (p : Program) (reply : List ℕ) (at : ℕ) (kept : Vec Kept Z) (lent after : List Kept) → lent ≡ kept.items → length lent ≡ kept.len → RanPast p reply at lent after → RanPast p reply at kept.items (with_items kept after).items
+ran_in p reply at kept lent after same long past =
+    let ran = subst (λ (ks : List Kept). RanPast p reply at ks after) same past in record {
+      next = ran.next;
+      same = with_items_is kept after (ap length ran.same ∙ (length-set kept.items (at + 1) ran.next ∙ (sym (ap length same) ∙ long))) ∙ ran.same;
+      asks = ran.asks;
+      by = ran.by;
+      leads = ran.leads;
+    }
 
 -- past one reply more, which leads from each place to the next
 pub led_on : (p : Program) (kept : List Kept) (act : Replies → Pending) (at known : ℕ) (replies : List Reply) (i : ℕ) (none : Reply) → IsKept p kept known → at + 1 < known → i < length replies → values_in (kept_at kept (at + 1)).reply ≡ values_in (get_or replies i none)

@@ -1,5 +1,5 @@
 -- Inside the crate: the states in which a program stood since its start, kept to be taken up again.
-use Rattle.std.specs.Prelude.{◌≡◌, ℕ, ◌+◌, ◌<◌, List, [], ◌∷◌, Ok, slice_index_or}
+use Rattle.std.specs.Prelude.{◌≡◌, ℕ, ◌+◌, ◌<◌, List, [], ◌∷◌, Ok, slice_index_or, slice_set}
 use Rattle.regmodel.specs.Kept.{values_in}
 use Rattle.regmodel.specs.Reply.{Reply, Replies}
 use Rattle.regmodel.specs.Act.{act_of}
@@ -7,7 +7,7 @@ use Rattle.regmodel.specs.Program.{Program}
 use Rattle.machine.specs.declared.run.BlockExit.TheVariants as block
 use Rattle.machine.specs.declared.states.State.{State}
 use Rattle.machine.specs.declared.states.Kept.{Kept}
-use Rattle.machine.specs.Rest.{rest_in}
+use Rattle.machine.specs.Rest.{Asks, rest_in}
 
 -- what stands past the last place
 abbrev pub blank : Kept
@@ -28,6 +28,14 @@ IsStart program state = (s : Replies) → rest_in program state s ≡ act_of pro
 -- the reply leads from the one state to the other
 abbrev pub LeadsTo : Program → State → Reply → State → Type 0
 LeadsTo program from reply to = (s : Replies) → rest_in program to s ≡ rest_in program from (reply ∷ s)
+
+-- the reply and the state to which it leads from that at a place are kept at the next place
+pub record RanPast (program : Program) (reply : Reply) (at : ℕ) (old new : List Kept) : Type 0 where
+  pub next : Kept
+  pub same : new ≡ slice_set old (at + 1) next
+  pub asks : Asks program next.state
+  pub by : values_in next.reply ≡ reply
+  pub leads : LeadsTo program (state_at old at) reply next.state
 
 -- the first of so many places is the start, and to each next one its reply leads
 pub record IsKept (program : Program) (kept : List Kept) (known : ℕ) : Type 0 where

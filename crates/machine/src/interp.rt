@@ -4,7 +4,7 @@ ghost use Rattle.std.specs.Prelude.{◌≡◌, ℕ, ◌+◌, ◌<◌, ◌≤◌,
 ghost use Rattle.regmodel.specs.OfProg.{program_of};
 ghost use Rattle.regmodel.specs.Lawful.{IsAtStart, IsReplyTo};
 ghost use Rattle.regmodel.specs.Kept.{values_in};
-ghost use Rattle.machine.specs.Keeping.{IsKept, IsStart, kept_at, state_at};
+ghost use Rattle.machine.specs.Keeping.{IsKept, IsStart, RanPast, kept_at, state_at};
 ghost use Rattle.machine.specs.Rest.{Asks, pending_in};
 
 use crate::states::{Kept, State};
@@ -90,21 +90,30 @@ impl Interp {
         self.at < self.known && self.at + 1 < self.kept.len()
     }
 
-    /// Copies the present state to the next place, and runs past the reply there. What was known from there on is known no longer.
+    /// Runs on past the reply from the present state, to the state of the next place. What was known from there on is known no longer.
     fn run_on(&mut self, reply: &[u32])
         requires known { self.old.at < self.old.known }
         requires room { self.old.at + 1 < length self.old.kept.items }
         requires wanted { IsReplyTo (pending_in (state_of self.old)) reply.now }
         ensures { WentPast reply.now self.old self.new }
     {
-        let state = self.kept[self.at].state;
-        let next = &mut self.kept[self.at + 1];
-        next.state = state;
-        next.reply.set(reply);
-        next.state.go_on(&self.prog, reply);
+        run_past(self.kept.as_mut_slice(), self.at, &self.prog, reply);
         self.at += 1;
         self.known = self.at + 1;
     }
+}
+
+/// Runs on past the reply from the state at a place, and keeps the reply and the state to which it leads at the next place.
+fn run_past(kept: &mut [Kept], at: usize, prog: &Prog, reply: &[u32])
+    requires room { at + 1 < length kept.old }
+    requires asks { Asks (program_of prog.now) (state_at kept.old at) }
+    requires wanted { IsReplyTo (pending_in (state_at kept.old at)) reply.now }
+    ensures { RanPast (program_of prog.now) reply.now at kept.old kept.new }
+{
+    let (before, behind) = kept.split_at_mut(at + 1);
+    let next = &mut behind[0];
+    next.reply.set(reply);
+    next.state.go_on(&before[at].state, prog, reply);
 }
 
 impl Machine for Interp {
@@ -147,7 +156,8 @@ impl Machine for Interp {
             self.run_on(reply);
         } else {
             self.known = self.known.min(self.at);
-            self.kept[self.at].state.go_on(&self.prog, reply);
+            let state = self.kept[self.at].state;
+            self.kept[self.at].state.go_on(&state, &self.prog, reply);
         }
     }
 

@@ -1,6 +1,6 @@
 //! Goes on past a reply from the place where a program stopped.
 
-ghost use Rattle.std.specs.Prelude.{◌+◌, [], ◌∷◌, drop};
+ghost use Rattle.std.specs.Prelude.{◌≡◌, ◌+◌, [], ◌∷◌, drop, length};
 ghost use Rattle.regmodel.specs.Program.{Block, Stop, with_stmt, block_of};
 ghost use Rattle.machine.specs.Stores.{env_of};
 ghost use Rattle.machine.specs.Paths.{resume, part_flow};
@@ -12,38 +12,46 @@ use crate::value_of;
 use crate::values::Store;
 use regmodel::Stmt;
 
-/// Goes on with a statement from its part past the reply. The path further down lies in the frames above the depth, and
-/// so does the one to the place where it stops again.
+/// A reply, and the frames that lead to the access to which it came.
+#[derive(Clone, Copy)]
+pub struct Answer<'a> {
+    pub reply: &'a [u32],
+    pub frames: &'a [Frame],
+}
+
+/// Goes on with a statement from its part past the reply. The path further down lies in the reply's frames above the depth; where it stops
+/// again, the one to that place lies in the other frames.
 #[cycle(resume)]
 fn resume_stmt(
     stmt: &Stmt,
     part: Part,
-    reply: &[u32],
+    answer: &Answer,
     registers: u32,
     depth: usize,
     store: &mut Store,
     frames: &mut [Frame],
 ) -> Result<StmtExit, u8>
     requires runs { CanRun registers depth (with_stmt stmt.now Stop) frames.old }
+    requires room { length answer.now.frames.now ≡ length frames.old }
     requires wanting { (rest : Block)
         × IsWanting
         (part_flow part registers (with_stmt stmt.now rest)
-        (resume registers (drop (depth + 1) frames.old)) (env_of store.old) []) }
+        (resume registers (drop (depth + 1) answer.now.frames.now)) (env_of store.old) []) }
     ensures { (rest : Block)
         → StmtRunsTo
         (λ s. part_flow part registers (with_stmt stmt.now rest)
-        (resume registers (drop (depth + 1) frames.old)) (env_of store.old) (reply.now ∷ s))
-        result registers (drop (depth + 1) frames.new) (with_stmt stmt.now rest) rest
+        (resume registers (drop (depth + 1) answer.now.frames.now)) (env_of store.old)
+        (answer.now.reply.now ∷ s)) result registers (drop (depth + 1) frames.new) (with_stmt stmt.now rest) rest
         (env_of store.new) }
 {
     match part {
         Part::Reading(_, place) => {
-            store.put(place, value_of(reply));
+            store.put(place, value_of(answer.reply));
             Ok(StmtExit::GoesOn)
         }
         Part::Writing(_, _) => Ok(StmtExit::GoesOn),
         Part::Scanning(cell, _, _) => {
-            store.put_from(cell, reply);
+            store.put_from(cell, answer.reply);
             Ok(StmtExit::GoesOn)
         }
         Part::Within(arm) => {
@@ -51,7 +59,7 @@ fn resume_stmt(
                 unreachable!()
             };
             let block = block_of_arm(arm, first.as_slice(), second.as_slice());
-            let exit = resume_block(block, reply, registers, depth + 1, store, frames);
+            let exit = resume_block(block, answer, registers, depth + 1, store, frames);
             stmt_exit(exit, part)
         }
         Part::Turn(turns) => {
@@ -59,7 +67,7 @@ fn resume_stmt(
                 unreachable!()
             };
             let block = body.as_slice();
-            match resume_block(block, reply, registers, depth + 1, store, frames)? {
+            match resume_block(block, answer, registers, depth + 1, store, frames)? {
                 BlockExit::GoesOn => run_turns(block, turns, registers, depth, store, frames),
                 BlockExit::Wants(access) => Ok(StmtExit::Wants(access, part)),
                 BlockExit::Halts => Ok(StmtExit::Halts),
@@ -68,30 +76,32 @@ fn resume_stmt(
     }
 }
 
-/// Goes on past the reply with a block, from the place to which the frames from the depth on lead. Where it stops again,
-/// they lead there.
+/// Goes on past the reply with a block, from the place to which its frames from the depth on lead. Where it stops again, the other frames
+/// lead there.
 #[cycle(resume)]
 pub fn resume_block(
     block: &[Stmt],
-    reply: &[u32],
+    answer: &Answer,
     registers: u32,
     depth: usize,
     store: &mut Store,
     frames: &mut [Frame],
 ) -> Result<BlockExit, u8>
     requires runs { CanRun registers depth (block_of block.now) frames.old }
+    requires room { length answer.now.frames.now ≡ length frames.old }
     requires wanting { IsWanting
-        (resume registers (drop depth frames.old) (block_of block.now) (env_of store.old) []) }
+        (resume registers (drop depth answer.now.frames.now) (block_of block.now)
+        (env_of store.old) []) }
     ensures { BlockRunsTo
-        (λ s. resume registers (drop depth frames.old) (block_of block.now) (env_of store.old)
-        (reply.now ∷ s)) result registers (drop depth frames.new) (block_of block.now)
+        (λ s. resume registers (drop depth answer.now.frames.now) (block_of block.now)
+        (env_of store.old) (answer.now.reply.now ∷ s)) result registers (drop depth frames.new) (block_of block.now)
         (env_of store.new) }
 {
-    let Frame { at, part } = frames[depth];
+    let Frame { at, part } = answer.frames[depth];
     if at >= block.len() {
         unreachable!();
     }
-    match resume_stmt(&block[at], part, reply, registers, depth, store, frames)? {
+    match resume_stmt(&block[at], part, answer, registers, depth, store, frames)? {
         StmtExit::GoesOn => run_block(block, at + 1, registers, depth, store, frames),
         StmtExit::Wants(access, part) => {
             frames[depth] = Frame { at, part };

@@ -21,36 +21,36 @@ none = record { at = 0; part = Reading 0 (Var 0) }
 
 pub resume_block-unreachable-requires : goal.resume_block-unreachable-requires
 resume_block-unreachable-requires t c =
-    subst IsWanting (resume-past c.args.registers c.args.depth c.args.block.now c.args.frames.now none (env_of c.args.store.now) [] (omega arith) (omega arith)) c.requires.wanting
+    subst IsWanting (resume-past c.args.registers c.args.depth c.args.block.now c.args.answer.now.frames.now none (env_of c.args.store.now) [] (omega arith) (omega arith)) c.requires.wanting
 
 pub resume_block-resume_stmt-requires : goal.resume_block-resume_stmt-requires
 resume_block-resume_stmt-requires t c =
     let block = c.args.block.now in
     let x = c.index-block-at.result in
-    let f = get_or c.args.frames.now c.args.depth none in
-    let told = resume-at c.args.registers c.args.depth block x c.args.frames.now none (env_of c.args.store.now) [] (omega arith) (omega arith) c.index-block-at.is in
+    let f = get_or c.args.answer.now.frames.now c.args.depth none in
+    let told = resume-at c.args.registers c.args.depth block x c.args.answer.now.frames.now none (env_of c.args.store.now) [] (omega arith) (omega arith) c.index-block-at.is in
     let runs = can_run_at c.args.registers c.args.depth block f.at x _ _ (omega arith) c.index-block-at.is refl c.requires.runs in
-    (omega arith, (runs, (block_of (drop (f.at + 1) block), subst IsWanting told c.requires.wanting)))
+    (omega arith, (runs, (c.requires.room, (block_of (drop (f.at + 1) block), subst IsWanting told c.requires.wanting))))
 
 pub resume_block-returns-in_err-resume_stmt : goal.resume_block-returns-in_err-resume_stmt
 resume_block-returns-in_err-resume_stmt t c =
     let block = c.args.block.now in
     let x = c.index-block-at.result in
-    let f = get_or c.args.frames.now c.args.depth none in
+    let f = get_or c.args.answer.now.frames.now c.args.depth none in
     let p = err_from_is_err_and c.from_residual.result c.from_residual.ensures.1 in
     rw (p.1, p.2) (record {
       flow = λ s.
-          resume-at c.args.registers c.args.depth block x c.args.frames.now none (env_of c.args.store.now) (c.args.reply.now ∷ s) (omega arith) (omega arith) c.index-block-at.is
+          resume-at c.args.registers c.args.depth block x c.args.answer.now.frames.now none (env_of c.args.store.now) (c.args.answer.now.reply.now ∷ s) (omega arith) (omega arith) c.index-block-at.is
           ∙ (c.in_err-resume_stmt.ensures (block_of (drop (f.at + 1) block))).flow s;
       asks = tt;
     })
 
 pub resume_block-returns-in-GoesOn : goal.resume_block-returns-in-GoesOn
 resume_block-returns-in-GoesOn t c =
-    let rest = block_of (drop ((get_or c.args.frames.now c.args.depth none).at + 1) c.args.block.now) in
+    let rest = block_of (drop ((get_or c.args.answer.now.frames.now c.args.depth none).at + 1) c.args.block.now) in
     record {
       flow = λ s.
-          resume-ended c.args.registers c.args.depth c.args.block.now c.index-block-at.result c.args.frames.now (drop (c.args.depth + 1) c.resume_stmt.new.frames) none (env_of c.args.store.now) (env_of c.resume_stmt.new.store) (c.args.reply.now ∷ s) s rest _ _ (omega arith) (omega arith) c.index-block-at.is refl ((c.in_ok-resume_stmt.ensures rest).flow s) c.in-GoesOn.is
+          resume-ended c.args.registers c.args.depth c.args.block.now c.index-block-at.result c.args.answer.now.frames.now (drop (c.args.depth + 1) c.resume_stmt.new.frames) none (env_of c.args.store.now) (env_of c.resume_stmt.new.store) (c.args.answer.now.reply.now ∷ s) s rest _ _ (omega arith) (omega arith) c.index-block-at.is refl ((c.in_ok-resume_stmt.ensures rest).flow s) c.in-GoesOn.is
           ∙ c.run_block.ensures.flow s;
       asks = c.run_block.ensures.asks;
     }
@@ -60,14 +60,14 @@ resume_block-returns-in-Wants t c =
     let block = c.args.block.now in
     let n = c.args.registers in
     let x = c.index-block-at.result in
-    let at = (get_or c.args.frames.now c.args.depth none).at in
+    let at = (get_or c.args.answer.now.frames.now c.args.depth none).at in
     let rest = block_of (drop (at + 1) block) in
     let fs = drop (c.args.depth + 1) c.resume_stmt.new.frames in
     let env = env_of c.resume_stmt.new.store in
     let told = c.in_ok-resume_stmt.ensures rest in
     record {
       flow = λ s.
-          resume-ended n c.args.depth block x c.args.frames.now fs none (env_of c.args.store.now) env (c.args.reply.now ∷ s) s rest _ _ (omega arith) (omega arith) c.index-block-at.is refl (told.flow s) c.in-Wants.is
+          resume-ended n c.args.depth block x c.args.answer.now.frames.now fs none (env_of c.args.store.now) env (c.args.answer.now.reply.now ∷ s) s rest _ _ (omega arith) (omega arith) c.index-block-at.is refl (told.flow s) c.in-Wants.is
           ∙ sym (resume-set n c.args.depth block at x c.resume_stmt.new.frames c.in-Wants.part env s (omega arith) c.index-block-at.is (omega arith));
       asks =
           resume-set n c.args.depth block at x c.resume_stmt.new.frames c.in-Wants.part env [] (omega arith) c.index-block-at.is (omega arith)
@@ -76,9 +76,9 @@ resume_block-returns-in-Wants t c =
 
 pub resume_block-returns-in-Halts : goal.resume_block-returns-in-Halts
 resume_block-returns-in-Halts t c =
-    let rest = block_of (drop ((get_or c.args.frames.now c.args.depth none).at + 1) c.args.block.now) in
+    let rest = block_of (drop ((get_or c.args.answer.now.frames.now c.args.depth none).at + 1) c.args.block.now) in
     record {
-      flow = λ s. resume-ended c.args.registers c.args.depth c.args.block.now c.index-block-at.result c.args.frames.now (drop (c.args.depth + 1) c.resume_stmt.new.frames) none (env_of c.args.store.now) (env_of c.resume_stmt.new.store) (c.args.reply.now ∷ s) s rest _ _ (omega arith) (omega arith) c.index-block-at.is refl ((c.in_ok-resume_stmt.ensures rest).flow s) c.in-Halts.is;
+      flow = λ s. resume-ended c.args.registers c.args.depth c.args.block.now c.index-block-at.result c.args.answer.now.frames.now (drop (c.args.depth + 1) c.resume_stmt.new.frames) none (env_of c.args.store.now) (env_of c.resume_stmt.new.store) (c.args.answer.now.reply.now ∷ s) s rest _ _ (omega arith) (omega arith) c.index-block-at.is refl ((c.in_ok-resume_stmt.ensures rest).flow s) c.in-Halts.is;
       asks = tt;
     }
 
@@ -87,15 +87,15 @@ resume_stmt-returns-in-Reading t c = λ rest.
     let w = c.in-Reading in
     let old = env_of c.args.store.now in
     let stored = ap (λ v. store old (as_place w.place) v) (sym c.value_of.ensures) ∙ sym c.put.ensures in
-    access_ended c.args.part _ c.args.registers (drop (c.args.depth + 1) c.args.frames.now) _ c.args.stmt.now rest old _ _ c.args.reply.now w.is (λ s. refl) stored
+    access_ended c.args.part _ c.args.registers (drop (c.args.depth + 1) c.args.answer.now.frames.now) _ c.args.stmt.now rest old _ _ c.args.answer.now.reply.now w.is (λ s. refl) stored
 
 pub resume_stmt-returns-in-Writing : goal.resume_stmt-returns-in-Writing
 resume_stmt-returns-in-Writing t c = λ rest.
-    access_ended c.args.part _ c.args.registers (drop (c.args.depth + 1) c.args.frames.now) _ c.args.stmt.now rest (env_of c.args.store.now) _ _ c.args.reply.now c.in-Writing.is (λ s. refl) refl
+    access_ended c.args.part _ c.args.registers (drop (c.args.depth + 1) c.args.answer.now.frames.now) _ c.args.stmt.now rest (env_of c.args.store.now) _ _ c.args.answer.now.reply.now c.in-Writing.is (λ s. refl) refl
 
 pub resume_stmt-returns-in-Scanning : goal.resume_stmt-returns-in-Scanning
 resume_stmt-returns-in-Scanning t c = λ rest.
-    access_ended c.args.part _ c.args.registers (drop (c.args.depth + 1) c.args.frames.now) _ c.args.stmt.now rest (env_of c.args.store.now) _ _ c.args.reply.now c.in-Scanning.is (λ s. refl) (sym c.put_from.ensures)
+    access_ended c.args.part _ c.args.registers (drop (c.args.depth + 1) c.args.answer.now.frames.now) _ c.args.stmt.now rest (env_of c.args.store.now) _ _ c.args.answer.now.reply.now c.in-Scanning.is (λ s. refl) (sym c.put_from.ensures)
 
 pub resume_stmt-resume_block-exit-requires : goal.resume_stmt-resume_block-exit-requires
 resume_stmt-resume_block-exit-requires t c =
@@ -104,7 +104,7 @@ resume_stmt-resume_block-exit-requires t c =
     let arm = c.in-Within.arm in
     let first = block_of w.first.items in
     let second = block_of w.second.items in
-    let fs = drop (c.args.depth + 1) c.args.frames.now in
+    let fs = drop (c.args.depth + 1) c.args.answer.now.frames.now in
     let env = env_of c.args.store.now in
     let rest = c.requires.wanting.0 in
     let block = block_of c.block_of_arm-block.result.now in
@@ -112,7 +112,7 @@ resume_stmt-resume_block-exit-requires t c =
     let seen = if_block _ _ _ _ rest w.is in
     let e = arm_part c.args.part arm n (with_stmt c.args.stmt.now rest) w.field-0 block first second rest (resume n fs) env [] _ c.in-Within.is seen told refl in
     let runs = can_run_arm n c.args.depth c.args.stmt.now w.field-0 w.first w.second arm block c.args.frames.now w.is told c.requires.runs in
-    (omega arith, (runs, wanting_within n fs block env (exec rest n) (subst IsWanting e c.requires.wanting.1)))
+    (omega arith, (runs, (c.requires.room, wanting_within n fs block env (exec rest n) (subst IsWanting e c.requires.wanting.1))))
 
 pub resume_stmt-returns-in-If : goal.resume_stmt-returns-in-If
 resume_stmt-returns-in-If t c = λ rest.
@@ -121,13 +121,13 @@ resume_stmt-returns-in-If t c = λ rest.
     let arm = c.in-Within.arm in
     let exit = c.resume_block-exit.result in
     let block = block_of c.block_of_arm-block.result.now in
-    let old = drop (c.args.depth + 1) c.args.frames.now in
+    let old = drop (c.args.depth + 1) c.args.answer.now.frames.now in
     let fs = drop (c.args.depth + 1) c.resume_block-exit.new.frames in
     let env = env_of c.resume_block-exit.new.store in
     let told = arm_block _ c.block_of_arm-block.ensures c.as_slice.ensures.value c.as_slice-in-Within.ensures.value in
     rw c.stmt_exit.ensures (record {
       flow = λ s.
-          arm_part c.args.part arm n (with_stmt c.args.stmt.now rest) w.field-0 block (block_of w.first.items) (block_of w.second.items) rest (resume n old) (env_of c.args.store.now) (c.args.reply.now ∷ s) _ c.in-Within.is (if_block _ _ _ _ rest w.is) told (c.resume_block-exit.ensures.flow s)
+          arm_part c.args.part arm n (with_stmt c.args.stmt.now rest) w.field-0 block (block_of w.first.items) (block_of w.second.items) rest (resume n old) (env_of c.args.store.now) (c.args.answer.now.reply.now ∷ s) _ c.in-Within.is (if_block _ _ _ _ rest w.is) told (c.resume_block-exit.ensures.flow s)
           ∙ arm_flow exit arm n fs c.args.stmt.now w.field-0 w.first w.second block rest env w.is told s;
       asks = arm_asks exit arm n fs c.args.stmt.now w.field-0 w.first w.second block rest env w.is told c.resume_block-exit.ensures.asks;
     })
@@ -136,14 +136,14 @@ pub resume_stmt-resume_block-requires : goal.resume_stmt-resume_block-requires
 resume_stmt-resume_block-requires t c =
     let w = c.in-Repeat in
     let n = c.args.registers in
-    let fs = drop (c.args.depth + 1) c.args.frames.now in
+    let fs = drop (c.args.depth + 1) c.args.answer.now.frames.now in
     let env = env_of c.args.store.now in
     let rest = c.requires.wanting.0 in
     let row = c.as_slice-block.result.now in
     let seen = repeat_block _ _ _ _ rest w.is c.as_slice-block.ensures.value in
     let e = turn_part c.args.part c.in-Turn.turns n (with_stmt c.args.stmt.now rest) w.field-0 (block_of row) rest (resume n fs) env [] _ c.in-Turn.is seen refl in
     let runs = can_run_repeat n c.args.depth c.args.stmt.now w.field-0 w.body row _ _ w.is c.as_slice-block.ensures.value refl c.requires.runs in
-    (omega arith, (runs, wanting_turn n fs (block_of row) env (times c.in-Turn.turns (exec (block_of row) n)) (exec rest n) (subst IsWanting e c.requires.wanting.1)))
+    (omega arith, (runs, (c.requires.room, wanting_turn n fs (block_of row) env (times c.in-Turn.turns (exec (block_of row) n)) (exec rest n) (subst IsWanting e c.requires.wanting.1))))
 
 pub resume_stmt-returns-in_err-resume_block-in-Turn : goal.resume_stmt-returns-in_err-resume_block-in-Turn
 resume_stmt-returns-in_err-resume_block-in-Turn t c = λ rest.
@@ -152,7 +152,7 @@ resume_stmt-returns-in_err-resume_block-in-Turn t c = λ rest.
     let seen = repeat_block _ _ _ _ rest w.is c.as_slice-block.ensures.value in
     let p = err_from_is_err_and c.from_residual.result c.from_residual.ensures.1 in
     rw (p.1, p.2) (record {
-      flow = λ s. turn_part c.args.part c.in-Turn.turns n (with_stmt c.args.stmt.now rest) w.field-0 (block_of c.as_slice-block.result.now) rest (resume n (drop (c.args.depth + 1) c.args.frames.now)) (env_of c.args.store.now) (c.args.reply.now ∷ s) _ c.in-Turn.is seen (c.in_err-resume_block-in-Turn.ensures.flow s);
+      flow = λ s. turn_part c.args.part c.in-Turn.turns n (with_stmt c.args.stmt.now rest) w.field-0 (block_of c.as_slice-block.result.now) rest (resume n (drop (c.args.depth + 1) c.args.answer.now.frames.now)) (env_of c.args.store.now) (c.args.answer.now.reply.now ∷ s) _ c.in-Turn.is seen (c.in_err-resume_block-in-Turn.ensures.flow s);
       asks = tt;
     })
 
@@ -166,13 +166,13 @@ resume_stmt-returns-in-GoesOn t c = λ rest.
     let w = c.in-Repeat in
     let n = c.args.registers in
     let row = block_of c.as_slice-block.result.now in
-    let old = drop (c.args.depth + 1) c.args.frames.now in
+    let old = drop (c.args.depth + 1) c.args.answer.now.frames.now in
     let fs = drop (c.args.depth + 1) c.resume_block.new.frames in
     let turns = c.run_turns.ensures w.field-0 rest in
     let seen = repeat_block _ _ _ _ rest w.is c.as_slice-block.ensures.value in
     record {
       flow = λ s.
-          turn_ended c.args.part c.in-Turn.turns n old fs c.args.stmt.now w.field-0 row rest (env_of c.args.store.now) (env_of c.resume_block.new.store) (c.args.reply.now ∷ s) s _ _ c.in-Turn.is seen (c.in_ok-resume_block-in-Turn.ensures.flow s) c.in-GoesOn.is
+          turn_ended c.args.part c.in-Turn.turns n old fs c.args.stmt.now w.field-0 row rest (env_of c.args.store.now) (env_of c.resume_block.new.store) (c.args.answer.now.reply.now ∷ s) s _ _ c.in-Turn.is seen (c.in_ok-resume_block-in-Turn.ensures.flow s) c.in-GoesOn.is
           ∙ turns.flow s
           ∙ ap (λ x. stmt_flow c.run_turns.result n (drop (c.args.depth + 1) c.run_turns.new.frames) x rest (env_of c.run_turns.new.store) s) (sym seen);
       asks = rw seen turns.asks;
@@ -184,14 +184,14 @@ resume_stmt-returns-in-Wants t c = λ rest.
     let n = c.args.registers in
     let left = c.in-Turn.turns in
     let row = block_of c.as_slice-block.result.now in
-    let old = drop (c.args.depth + 1) c.args.frames.now in
+    let old = drop (c.args.depth + 1) c.args.answer.now.frames.now in
     let fs = drop (c.args.depth + 1) c.resume_block.new.frames in
     let env = env_of c.resume_block.new.store in
     let told = c.in_ok-resume_block-in-Turn.ensures in
     let seen = repeat_block _ _ _ _ rest w.is c.as_slice-block.ensures.value in
     record {
       flow = λ s.
-          turn_ended c.args.part left n old fs c.args.stmt.now w.field-0 row rest (env_of c.args.store.now) env (c.args.reply.now ∷ s) s _ _ c.in-Turn.is seen (told.flow s) c.in-Wants.is
+          turn_ended c.args.part left n old fs c.args.stmt.now w.field-0 row rest (env_of c.args.store.now) env (c.args.answer.now.reply.now ∷ s) s _ _ c.in-Turn.is seen (told.flow s) c.in-Wants.is
           ∙ sym (turn_part (Turn left) left n (with_stmt c.args.stmt.now rest) w.field-0 row rest (resume n fs) env s (resume n fs row env s) refl seen refl);
       asks = turn_part (Turn left) left n (with_stmt c.args.stmt.now rest) w.field-0 row rest (resume n fs) env [] _ refl seen (subst (λ r. BlockAsks (Ok r) n fs row env) c.in-Wants.is told.asks);
     }
@@ -200,10 +200,10 @@ pub resume_stmt-returns-in-Halts : goal.resume_stmt-returns-in-Halts
 resume_stmt-returns-in-Halts t c = λ rest.
     let w = c.in-Repeat in
     let row = block_of c.as_slice-block.result.now in
-    let old = drop (c.args.depth + 1) c.args.frames.now in
+    let old = drop (c.args.depth + 1) c.args.answer.now.frames.now in
     let fs = drop (c.args.depth + 1) c.resume_block.new.frames in
     let seen = repeat_block _ _ _ _ rest w.is c.as_slice-block.ensures.value in
     record {
-      flow = λ s. turn_ended c.args.part c.in-Turn.turns c.args.registers old fs c.args.stmt.now w.field-0 row rest (env_of c.args.store.now) (env_of c.resume_block.new.store) (c.args.reply.now ∷ s) s _ _ c.in-Turn.is seen (c.in_ok-resume_block-in-Turn.ensures.flow s) c.in-Halts.is;
+      flow = λ s. turn_ended c.args.part c.in-Turn.turns c.args.registers old fs c.args.stmt.now w.field-0 row rest (env_of c.args.store.now) (env_of c.resume_block.new.store) (c.args.answer.now.reply.now ∷ s) s _ _ c.in-Turn.is seen (c.in_ok-resume_block-in-Turn.ensures.flow s) c.in-Halts.is;
       asks = tt;
     }
