@@ -41,8 +41,8 @@ fn resume_stmt(
         → StmtRunsTo
         (λ s. part_flow part registers (with_stmt stmt.now rest)
         (resume registers (drop (depth + 1) answer.now.frames.now)) (env_of store.old)
-        (answer.now.reply.now ∷ s)) result registers (drop (depth + 1) frames.new) (with_stmt stmt.now rest) rest
-        (env_of store.new) }
+        (answer.now.reply.now ∷ s)) result registers (drop (depth + 1) frames.new)
+        (with_stmt stmt.now rest) rest (env_of store.new) }
 {
     match part {
         Part::Reading(_, place) => {
@@ -94,8 +94,8 @@ pub fn resume_block(
         (env_of store.old) []) }
     ensures { BlockRunsTo
         (λ s. resume registers (drop depth answer.now.frames.now) (block_of block.now)
-        (env_of store.old) (answer.now.reply.now ∷ s)) result registers (drop depth frames.new) (block_of block.now)
-        (env_of store.new) }
+        (env_of store.old) (answer.now.reply.now ∷ s)) result registers (drop depth frames.new)
+        (block_of block.now) (env_of store.new) }
 {
     let Frame { at, part } = answer.frames[depth];
     if at >= block.len() {
