@@ -83,7 +83,7 @@ impl Told {
             return None;
         }
         self.bytes[end] = number as u8;
-        self.size += 1;
+        self.size = end as u32 + 1;
         self.count += 1;
         Some(())
     }
