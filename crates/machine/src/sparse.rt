@@ -4,9 +4,12 @@ ghost use Rattle.std.specs.Prelude.{◌≡◌, ◌<◌, ◌≤◌, ◌++◌, IfS
 ghost use Rattle.told.specs.Bytes.{size_of};
 ghost use Rattle.told.specs.Numbers.{numbers_in};
 ghost use Rattle.told.specs.declared.limits.TheConstants.{MOST_BYTES};
-ghost use Rattle.machine.specs.Sparse.{AreZero, filled, mask_of, sparse};
+ghost use Rattle.machine.specs.Sparse.{AreZero, sparse};
 
 use told::Told;
+
+/// How many values are told by one mask at most.
+const MOST_VALUES: usize = 32;
 
 /// Puts at most 32 values of which most are 0 behind the numbers: a number whose bit i tells whether value i is not 0, and then the values
 /// that are not 0. None where they have no room; some of them may be put then.
@@ -17,17 +20,10 @@ pub fn put_sparse(values: &[u32], numbers: &mut Told) -> Option<()>
     ensures room { size_of (numbers_in numbers.old ++ sparse values.now) ≤ MOST_BYTES
         → IsSome result }
 {
-    numbers.put(mask(values))?;
-    put_filled(values, numbers)
-}
-
-/// The number whose bit i tells whether value i is not 0.
-fn mask(values: &[u32]) -> u32
-    requires { length values.now ≤ 32 }
-    ensures { result ≡ mask_of values.now }
-{
     let mut mask = 0u64;
     let mut bit = 1;
+    let mut others = [0; MOST_VALUES];
+    let mut count = 0;
     let mut i = 0;
     while i < values.len() {
         if are_zero(values, i) {
@@ -37,32 +33,14 @@ fn mask(values: &[u32]) -> u32
         }
         if values[i] != 0 {
             mask += bit;
+            others[count] = values[i];
+            count += 1;
         }
         bit *= 2;
         i += 1;
     }
-    mask as u32
-}
-
-/// Puts the values that are not 0 behind the numbers, where there is room.
-fn put_filled(values: &[u32], numbers: &mut Told) -> Option<()>
-    ensures behind { IfSome result
-        (λ _. numbers_in numbers.new ≡ numbers_in numbers.old ++ filled values.now) }
-    ensures room { size_of (numbers_in numbers.old ++ filled values.now) ≤ MOST_BYTES
-        → IsSome result }
-{
-    let mut i = 0;
-    while i < values.len() {
-        if are_zero(values, i) {
-            i += 4;
-            continue;
-        }
-        if values[i] != 0 {
-            numbers.put(values[i])?;
-        }
-        i += 1;
-    }
-    Some(())
+    numbers.put(mask as u32)?;
+    numbers.put_all(&others[..count])
 }
 
 /// Whether there are four values from this place on, and they are 0.
