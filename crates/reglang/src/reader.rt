@@ -91,7 +91,8 @@ pub fn read_text(alloc: Global, text: &[u8]) -> Result<Source, Rejection>
     ensures lines { IfOk result (λ source. check_lines_of source ≡ check_lines text.now) }
     ensures first_fault { IfErr result (λ rejection. IsFirst text.now (fault_of rejection)) }
     ensures not_spelled { IfErr result (λ rejection. IsUnspelled text.now (fault_of rejection)) }
-    ensures no_fault_before { IfErr result (λ rejection. HasNoneBefore text.now (fault_of rejection)) }
+    ensures no_fault_before { IfErr result
+        (λ rejection. HasNoneBefore text.now (fault_of rejection)) }
     ensures first_line { IfErr result (λ rejection. 0 < rejection.line) }
     ensures last_line { IfErr result (λ rejection. rejection.line ≤ last_line text.now) }
     ensures of_end { IfErr result (TellsEnd text.now) }
