@@ -2,14 +2,14 @@
 
 ghost use Rattle.std.specs.Prelude.{◌≡◌, Bool, IfSome, IsNone, false, is_some, map, true};
 ghost use Rattle.regmodel.specs.Judging.{meets_all};
-ghost use Rattle.report.specs.PlainCheck.{IsPlainCheck};
-ghost use Rattle.report.specs.PlainReport.{IsPlainLeast};
 ghost use Rattle.regmodel.specs.Schedules.{IsSchedule};
 ghost use Rattle.reglang.specs.Sources.{contents_of, registers_of, source_programs};
+ghost use Rattle.report.specs.PlainCheck.{IsPlainCheck};
+ghost use Rattle.report.specs.PlainReport.{IsPlainLeast};
 ghost use Rattle.verdict.specs.Breaches.{IsBreachOf, IsBrokenLine, IsCauseOf};
 ghost use Rattle.verdict.specs.Demands.{clauses_asked, demands_of, meets_demands};
-ghost use Rattle.verdict.specs.Verdicts.{IsVerdictFor};
 ghost use Rattle.verdict.specs.Drawn.{IsDrawn};
+ghost use Rattle.verdict.specs.Verdicts.{IsVerdictFor};
 ghost use Rattle.world.specs.Sound.{IsSoundWorld, budget_of, world_programs};
 
 use crate::demands::{Asked, Strictness, asked_of, first_broken};
