@@ -1,7 +1,7 @@
 -- What is read, and how standard input is named.
 use Rattle.std.specs.Prelude.{◌≡◌, ℕ, ◌<◌, ◌≤◌, Bool, List, length, Option, IfSome, codes, option_and_then}
 use Rattle.std.specs.Str.{bytes_eq}
-use Rattle.orders.specs.declared.inputs.TheConstants.{MOST_BYTES}
+use Rattle.regmodel.specs.declared.limits.TheConstants.{MOST_SOURCE_BYTES}
 
 -- whether a path names standard input: it is one dash
 abbrev pub is_standard : List ℕ → Bool
@@ -10,7 +10,7 @@ is_standard path = bytes_eq path (codes "-")
 -- the bytes of the file, where they are known; not too many
 pub record IsTextOf (file : Option (List ℕ)) (text : List ℕ) : Type 0 where
   pub known : IfSome file (λ bytes. text ≡ bytes)
-  pub short : length text ≤ MOST_BYTES
+  pub short : length text ≤ MOST_SOURCE_BYTES
 
 -- what is read of standard input, by what its path opens, and by what remains to be read of that
 pub record IsStandardText {R : Type 0} (opens : List ℕ → Option R → Type 0) (remaining : R → Option (List ℕ)) (text : List ℕ) : Type 0 where
@@ -20,4 +20,4 @@ pub record IsStandardText {R : Type 0} (opens : List ℕ → Option R → Type 0
 
 -- more bytes than that, where they are known
 abbrev pub IsTooLong : Option (List ℕ) → Type 0
-IsTooLong file = IfSome file (λ bytes. MOST_BYTES < length bytes)
+IsTooLong file = IfSome file (λ bytes. MOST_SOURCE_BYTES < length bytes)

@@ -6,15 +6,13 @@ ghost use Rattle.orders.specs.Inputs.{IsTextOf, IsTooLong, is_standard};
 ghost use Rattle.orders.specs.declared.inputs.Input.TheVariants as input;
 
 use crate::refusals::Refusal;
+use regmodel::limits::MOST_SOURCE_BYTES;
 use std::alloc::Global;
 use std::io;
 use std::io::{ErrorKind, Read};
 
 /// How standard input is named where a file may be.
 pub const STANDARD_INPUT: &str = "-";
-
-/// The most bytes of a source, and of patterns.
-pub const MOST_BYTES: u64 = 1048576;
 
 /// What opens files by their paths.
 pub trait Opener {
@@ -87,8 +85,11 @@ pub fn bytes_of<R: Read + Drop>(alloc: Global, file: R) -> Result<Vec<u8>, Refus
         (λ refusal. refusal ≡ Refusal.LongFile → IsTooLong (R.remaining file)) }
 {
     let mut bytes = Vec::new(alloc);
-    match file.take(MOST_BYTES + 1).read_to_end(&mut bytes) {
-        Ok(count) if count as u64 <= MOST_BYTES => Ok(bytes),
+    match file
+        .take(MOST_SOURCE_BYTES as u64 + 1)
+        .read_to_end(&mut bytes)
+    {
+        Ok(count) if count <= MOST_SOURCE_BYTES => Ok(bytes),
         Ok(_) => Err(Refusal::LongFile),
         Err(error) if error.kind() == ErrorKind::OutOfMemory => Err(Refusal::Memory),
         Err(_) => Err(Refusal::File),

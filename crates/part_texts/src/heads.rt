@@ -4,12 +4,9 @@ ghost use Rattle.std.specs.Prelude.{◌≡◌, ◌↔◌, IfSome, IsSome};
 ghost use Rattle.part_texts.specs.PlainHead.{FitsHead, head_of};
 
 use regmodel::Settings;
-use regmodel::limits::MOST_PROCESSES;
+use regmodel::limits::{MOST_PROCESSES, MOST_SOURCE_BYTES};
 use report::Part;
 use std::marker::Model;
-
-/// The most bytes of a source.
-pub const MOST_SOURCE_BYTES: usize = 1_048_576;
 
 /// Which part of which exploration something is told of: the part, the number of processes, the bounds of the exploration and its source.
 /// Each number is within its range. A clause sees them as a record.

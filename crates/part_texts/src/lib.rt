@@ -14,7 +14,7 @@ mod streams;
 mod writing;
 
 pub use faults::{BadPart, Cause};
-pub use heads::{MOST_SOURCE_BYTES, PartHead};
+pub use heads::PartHead;
 pub use parts::{Found, PartReport};
 pub use streams::PartStream;
 pub use writing::{write_explored_part, write_least_part, write_part};

@@ -1,12 +1,13 @@
 //! A part, read from a stream.
 
 use crate::faults::{BadPart, Cause};
-use crate::heads::{MOST_SOURCE_BYTES, PartHead};
+use crate::heads::PartHead;
 use crate::lines::{after, number_after, outcome_after, part_in};
 use crate::parts::{Found, PartReport};
 use crate::ranges::{narrow, part_of, settings_of};
 use crate::rising::comes_last;
 use crate::streams::{PartStream, next_byte};
+use regmodel::limits::MOST_SOURCE_BYTES;
 use regmodel::{Outcome, Prefix, Settings, read_schedule};
 use std::alloc::Global;
 use std::io::BufRead;
@@ -15,6 +16,7 @@ use tallies::Partial;
 impl<R: BufRead> PartStream<R> {
     ghost use Rattle.std.specs.Prelude.{◌≡◌, ◌++◌, ◌^◌, ◌<◌, ◌≤◌, ℕ, [], IfErr, IfOk, List, OnOk, Some, length};
     ghost use Rattle.std.specs.Io.KnownBytes.{Consumes};
+    ghost use Rattle.regmodel.specs.declared.limits.TheConstants.{MOST_SOURCE_BYTES};
     ghost use Rattle.report.specs.ReportText.{least_text};
     ghost use Rattle.texts.specs.NumberText.{number_line};
     ghost use Rattle.part_texts.specs.declared.faults.Cause.TheVariants.{Unreadable};
@@ -24,7 +26,6 @@ impl<R: BufRead> PartStream<R> {
     ghost use Rattle.part_texts.specs.PlainHead.{FitsHead};
     ghost use Rattle.part_texts.specs.PartText.{bounds_in, bounds_text, end_text, found_text, head_text, outcome_behind, outcomes_text, part_text, source_text};
     ghost use Rattle.part_texts.specs.Streams.{Reads, ReadsOn, left_of};
-    ghost use Rattle.part_texts.specs.declared.heads.TheConstants.{MOST_SOURCE_BYTES};
 
     /// The next part; None where nothing is left. An error names the line at fault, and says what is wrong with it, that a request for memory
     /// was refused, or that the reader answered an error. Where what is left begins with the text of a part, it is one of the last two; where

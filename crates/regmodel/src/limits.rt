@@ -62,3 +62,6 @@ pub const MOST_SLOTS: u32 = 8;
 
 /// The most checks of a source.
 pub const MOST_CHECKS: usize = 16;
+
+/// The most bytes of the text of a source, and of patterns.
+pub const MOST_SOURCE_BYTES: usize = 1_048_576;

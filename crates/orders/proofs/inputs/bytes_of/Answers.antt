@@ -8,6 +8,6 @@ returns-in-Ok-clause-text g c =
     record {
       known =
           all_read (g.R.Read.remaining c.args.file) 1048577 c.new-bytes.result.items c.read_to_end.new.buf.items told c.new-bytes.ensures.items
-          (omega (arith, c.in-Ok.ensures.ok, c.if-count-le-MOST_BYTES.true));
-      short = omega (arith, c.in-Ok.ensures.ok, c.if-count-le-MOST_BYTES.true);
+          (omega (arith, c.in-Ok.ensures.ok, c.if-count-le-MOST_SOURCE_BYTES.true));
+      short = omega (arith, c.in-Ok.ensures.ok, c.if-count-le-MOST_SOURCE_BYTES.true);
     }
