@@ -2,6 +2,7 @@
 use Rattle.std.specs.Prelude.{◌≡◌, ℕ, ◌<◌, false, List, length, take, IfErr, IfOk, IfSome, Option, Result, slice_get}
 use Rattle.std.specs.Option.{option_map}
 use Rattle.regmodel.specs.declared.letters.Letter.{Letter}
+use Rattle.regmodel.specs.declared.limits.TheConstants.{MOST_CRASHES}
 use Rattle.regmodel.specs.declared.outcomes.End.{End}
 use Rattle.regmodel.specs.declared.outcomes.ProcEnd.{ProcEnd}
 use Rattle.regmodel.specs.Letters.{process_of}
@@ -31,9 +32,9 @@ pub record IsLetterRefused (programs : List Program) (crashes : ℕ) (w : List L
 -- the schedule is one of these programs, of which any number of processes may crash, and this is told of it; or its first letter is refused
 -- that is not possible
 pub record IsFollowed {T : Type 0} (programs : List Program) (w : List Letter) (P : T → Type 0) (result : Result T RefusedLetter) : Type 0 where
-  pub schedule : IfOk result (λ _. IsSchedule programs 8 w)
+  pub schedule : IfOk result (λ _. IsSchedule programs MOST_CRASHES w)
   pub told : IfOk result P
-  pub refused : IfErr result (IsLetterRefused programs 8 w)
+  pub refused : IfErr result (IsLetterRefused programs MOST_CRASHES w)
 
 -- where a schedule of these programs leads, over so many registers
 pub record IsStandingAfter (programs : List Program) (registers : ℕ) (w : List Letter) (standing : Standing) : Type 0 where

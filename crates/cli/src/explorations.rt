@@ -2,8 +2,9 @@
 
 ghost use Rattle.std.specs.Prelude.{◌≡◌, Bool, IfOk, option_map};
 ghost use Rattle.reglang.specs.Sources.{source_programs};
+ghost use Rattle.orders.specs.declared.tasks.Task.TheVariants as asked;
 ghost use Rattle.explorer.specs.Running.{AreListsOf};
-ghost use Rattle.cli.specs.Findings.{Finds, exploring_task, part_head};
+ghost use Rattle.cli.specs.Findings.{Finds, part_head};
 
 use crate::faults::AnswerFault;
 use crate::runs::Run;
@@ -51,7 +52,7 @@ pub fn explored<H: Threads + Wait + Sync, G: Gate>(
     requires machines { AreListsOf program (source_programs run.now.spelling.source.now)
         effort.settings.workers lists.items }
     ensures { (native : Bool)
-        → Finds (exploring_task least_alone effort native part) run.now.spelling.text.now result }
+        → Finds (asked.Explore effort native part least_alone) run.now.spelling.text.now result }
 {
     run.spelling.spells();
     let head = head_for(run, effort.settings, part)?;

@@ -10,11 +10,9 @@ use drawing::{Drawing, draw};
 use findings::Standing;
 use machine::Machine;
 use reglang::Source;
+use regmodel::limits::MOST_CRASHES;
 use regmodel::{End, Outcome, Prefix};
 use world::{BadLetter, World};
-
-/// How many processes may crash in a schedule that is replayed or drawn.
-const CRASHES: u32 = 8;
 
 /// A letter that is not possible where it stands.
 #[derive(Debug, Drop)]
@@ -41,7 +39,7 @@ pub fn standing_after(
         (IsStandingAfter (source_programs source.now) (registers_of source.now) schedule.now)
         result }
 {
-    let mut world = World::new(machines, source.registers(), CRASHES);
+    let mut world = World::new(machines, source.registers(), MOST_CRASHES);
     match world.replay(schedule) {
         Ok(()) => Ok(Standing {
             outcome: world.outcome(),
@@ -64,7 +62,7 @@ pub fn drawing_of(
     ensures { IsFollowed (source_programs source.now) schedule.now
         (IsPictureOf (source_programs source.now) (registers_of source.now) schedule.now) result }
 {
-    let mut world = World::new(machines, source.registers(), CRASHES);
+    let mut world = World::new(machines, source.registers(), MOST_CRASHES);
     match draw(&mut world, schedule) {
         Ok(drawing) => Ok(drawing),
         Err(bad) => Err(refused_at(&world.outcome(), schedule, bad)),

@@ -16,7 +16,7 @@ use Rattle.orders.specs.NumberTexts.{IsNumberText}
 use Rattle.orders.specs.PatternTexts.{AreTextsOf}
 use Rattle.orders.specs.declared.tasks.Task.{Task}
 use Rattle.orders.specs.declared.bounds.TheConstants.{CACHE, MOST_CACHE, ROOM, SHARED_CUT}
-use Rattle.orders.specs.declared.tasks.Task.TheVariants.{Check, Explore, Least, Find, Replay, Show}
+use Rattle.orders.specs.declared.tasks.Task.TheVariants.{Check, Explore, Find, Replay, Show}
 
 -- to draw the schedule of this text, with all registers or with those that fit, or else to replay it
 abbrev pub IsWalk : List ℕ → Bool → Bool → Task → Type 0
@@ -87,11 +87,8 @@ word_told found = first_value found (codes "part")
 -- to explore as the words tell, the whole or the part of this text, for all that comes out or for the least failing schedule alone
 abbrev pub IsExploration : (List ℕ → Option (List ℕ)) → Option (List ℕ) → Task → Type 0
 IsExploration told text (Check effort native allows_faults shortest) = ⊥
-IsExploration told text (Explore effort native part) =
-    AreSettingsTold told effort.settings × IsCacheTold told 0 effort.cache × IsNativeTold told native × IsFlagTold (told (codes "least")) false
-    × IsPartTold text part
-IsExploration told text (Least effort native part) =
-    AreSettingsTold told effort.settings × IsCacheTold told 0 effort.cache × IsNativeTold told native × IsFlagTold (told (codes "least")) true
+IsExploration told text (Explore effort native part least_alone) =
+    AreSettingsTold told effort.settings × IsCacheTold told 0 effort.cache × IsNativeTold told native × IsFlagTold (told (codes "least")) least_alone
     × IsPartTold text part
 IsExploration told text (Find effort native patterns) = ⊥
 IsExploration told text (Replay schedule) = ⊥
@@ -100,8 +97,7 @@ IsExploration told text (Show schedule all) = ⊥
 -- whether use lines run as native machines
 abbrev pub is_native : Task → Bool
 is_native (Check effort native allows_faults shortest) = native
-is_native (Explore effort native part) = native
-is_native (Least effort native part) = native
+is_native (Explore effort native part least_alone) = native
 is_native (Find effort native patterns) = native
 is_native (Replay schedule) = false
 is_native (Show schedule all) = false
@@ -110,8 +106,7 @@ is_native (Show schedule all) = false
 abbrev pub IsCheck : (List ℕ → Option (List ℕ)) → ℕ → Task → Type 0
 IsCheck told processors (Check effort native allows_faults shortest) =
     IsEffortTold told processors effort × IsNativeTold told native × IsFlagTold (told (codes "allow-faults")) allows_faults × IsFlagTold (told (codes "shortest")) shortest
-IsCheck told processors (Explore effort native part) = ⊥
-IsCheck told processors (Least effort native part) = ⊥
+IsCheck told processors (Explore effort native part least_alone) = ⊥
 IsCheck told processors (Find effort native patterns) = ⊥
 IsCheck told processors (Replay schedule) = ⊥
 IsCheck told processors (Show schedule all) = ⊥
@@ -123,8 +118,7 @@ texts_told found = elim (option_map raw_values (matched_of found (codes "PATTERN
 -- to look as far as the words tell for outcomes that match one of the patterns of these texts
 abbrev pub IsFind : (List ℕ → Option (List ℕ)) → ℕ → List (List ℕ) → Task → Type 0
 IsFind told processors texts (Check effort native allows_faults shortest) = ⊥
-IsFind told processors texts (Explore effort native part) = ⊥
-IsFind told processors texts (Least effort native part) = ⊥
+IsFind told processors texts (Explore effort native part least_alone) = ⊥
 IsFind told processors texts (Find effort native patterns) =
     IsEffortTold told processors effort × IsNativeTold told native × (map pattern_text patterns.items ≡ texts)
 IsFind told processors texts (Replay schedule) = ⊥
@@ -139,8 +133,7 @@ pub record IsFindTold (reads : List ℕ → Type 0) (found : Found) (processors 
 -- how many lists of machines it takes: one for each worker, and one more where a schedule that is found is to be drawn
 abbrev pub lists_of : Task → ℕ
 lists_of (Check effort native allows_faults shortest) = effort.settings.workers + 1
-lists_of (Explore effort native part) = effort.settings.workers
-lists_of (Least effort native part) = effort.settings.workers
+lists_of (Explore effort native part least_alone) = effort.settings.workers
 lists_of (Find effort native patterns) = effort.settings.workers + 1
 lists_of (Replay schedule) = 1
 lists_of (Show schedule all) = 1

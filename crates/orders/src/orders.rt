@@ -225,17 +225,12 @@ fn exploration_of(words: &ArgMatches<'_>) -> Result<Task, Refusal>
     }
     let effort = Effort { settings, cache };
     let native = is_native(words);
-    if has_flag(words, "least") {
-        return Ok(Task::Least {
-            effort,
-            native,
-            part,
-        });
-    }
+    let least_alone = has_flag(words, "least");
     Ok(Task::Explore {
         effort,
         native,
         part,
+        least_alone,
     })
 }
 

@@ -17,17 +17,13 @@ pub enum Task {
         allows_faults: bool,
         shortest: bool,
     },
-    /// Explore it this far, or one part of it, with native machines for use lines or with interpreters alone.
+    /// Explore it this far, or one part of it, with native machines for use lines or with interpreters alone; or look for
+    /// the least failing schedule of these alone.
     Explore {
         effort: Effort,
         native: bool,
         part: Option<Part>,
-    },
-    /// Look for its least failing schedule alone, as far and with the same machines, or for that of one part.
-    Least {
-        effort: Effort,
-        native: bool,
-        part: Option<Part>,
+        least_alone: bool,
     },
     /// Look this far for the least schedule whose outcome matches one of these patterns.
     Find {
@@ -56,7 +52,6 @@ impl Task {
         match self {
             Task::Check { effort, .. } => effort.settings.workers() + 1,
             Task::Explore { effort, .. } => effort.settings.workers(),
-            Task::Least { effort, .. } => effort.settings.workers(),
             Task::Find { effort, .. } => effort.settings.workers() + 1,
             Task::Replay { .. } | Task::Show { .. } => 1,
         }
@@ -69,7 +64,6 @@ impl Task {
         match self {
             Task::Check { native, .. } => *native,
             Task::Explore { native, .. } => *native,
-            Task::Least { native, .. } => *native,
             Task::Find { native, .. } => *native,
             Task::Replay { .. } | Task::Show { .. } => false,
         }

@@ -1,8 +1,9 @@
 use Rattle.std.proofs.Common.{subst, sym, arith}
+use Rattle.regmodel.specs.declared.limits.TheConstants.{MOST_CRASHES}
 use Rattle.world.specs.Fit.{AreFit}
 use Rattle.cli.proofs.standings.standing_after.Goals as goal
 
 pub new-world-requires : goal.new-world-requires
 new-world-requires g c =
-    subst (λ programs. AreFit programs c.registers.result 8) (sym c.requires)
+    subst (λ programs. AreFit programs c.registers.result MOST_CRASHES) (sym c.requires)
     (record { some = c.registers.ensures.some; few = c.registers.ensures.few; within = c.registers.ensures.programs; crashes = omega arith })

@@ -1,6 +1,6 @@
 use Rattle.std.proofs.Common.{◌≡◌, map}
 use Rattle.reglang.specs.Sources.{source_programs}
-use Rattle.explorer.proofs.Growing.{last_has}
+use Rattle.explorer.proofs.GrownLists.{last_has}
 use Rattle.cli.proofs.tasks.found_by.Goals as goal
 
 pub returns-in-Check : goal.returns-in-Check
@@ -8,9 +8,6 @@ returns-in-Check g c = rw c.in-Check.is (c.checked.ensures c.in-Check.native)
 
 pub returns-in-Explore : goal.returns-in-Explore
 returns-in-Explore g c = rw c.in-Explore.is (c.explored.ensures c.in-Explore.native)
-
-pub returns-in-Least : goal.returns-in-Least
-returns-in-Least g c = rw c.in-Least.is (c.explored-in-Least.ensures c.in-Least.native)
 
 pub returns-in-Find : goal.returns-in-Find
 returns-in-Find g c = rw c.in-Find.is (c.searched.ensures c.in-Find.native)
