@@ -15,10 +15,10 @@ use std::io::{Read, Write};
 use std::sync::Wait;
 use std::thread::Threads;
 
-/// Does what is asked of the source in the file, and writes what it found. The status is 0 where that is done, but 1
-/// where an explored schedule fails; 2 where the file, the source or a letter is refused; 3 where it could not be done. At 2 and 3 a line
-/// on `err` says why, and `out` is as before, unless it did not take the whole text: then it took a beginning of it, and the status is 3.
-/// `file` is None where it could not be opened. Where progress is asked for, `err` is told of it before.
+/// Does what is asked of the source in the file, and writes what it found. The status is 0 where that is done, but 1 where it tells of a
+/// schedule that fails or was looked for, unless it is of a part; 2 where the file, the source or a letter is refused; 3 where it could not be
+/// done. At 2 and 3 a line on `err` says why, and `out` is as before, unless it did not take the whole text: then it took a beginning of it, and
+/// the status is 3. `file` is None where it could not be opened. Where progress is asked for, `err` is told of it before.
 pub fn answer<H: Threads + Wait + Sync, R: Read + Drop, W: Write, E: Write + Send>(
     rt: &H,
     alloc: Global,

@@ -2,12 +2,15 @@
 
 ghost use Rattle.std.specs.Prelude.{◌≡◌};
 ghost use Rattle.orders.specs.declared.refusals.Refusal.TheVariants.{Memory};
+ghost use Rattle.orders.specs.Reasons.{IsStatusOf};
+ghost use Rattle.cli.specs.Statuses.{line_status, merge_status};
 ghost use Rattle.cli.specs.declared.faults.AnswerFault.TheVariants.{Refused};
 
 use crate::standings::RefusedLetter;
 use explorer::{NO_MEMORY, RunFault, TOO_MANY};
 use merging::MergeFault;
 use orders::{Reason, Refusal};
+use part_texts::Cause;
 use reglang::Rejection;
 use regmodel::{End, OutOfMemory};
 use std::alloc::AllocFailed;
@@ -18,7 +21,7 @@ use thiserror::Error;
 /// Why there is no answer, in one line.
 #[derive(Debug, Drop, Error)]
 pub enum AnswerFault {
-    /// The file cannot be read, or a request for memory was refused.
+    /// The file cannot be read or is too long, or a request for memory was refused.
     #[error("{0}")]
     Refused(Refusal),
     /// A pattern that has not as many standings as the source has processes, by its place among the patterns from 0.
@@ -49,10 +52,8 @@ impl Reason for AnswerFault {
     fn status(&self) -> u8 {
         match self {
             AnswerFault::Refused(refusal) => refusal.status(),
-            AnswerFault::Misfit(_)
-            | AnswerFault::Source(_)
-            | AnswerFault::Letter(_)
-            | AnswerFault::Merge(_) => 2,
+            AnswerFault::Misfit(_) | AnswerFault::Source(_) | AnswerFault::Letter(_) => 2,
+            AnswerFault::Merge(fault) => merge_status(fault),
             AnswerFault::Run(_) | AnswerFault::Write => 3,
         }
     }
@@ -71,10 +72,10 @@ impl Reason for AnswerFault {
                 err,
                 "{subject}: letter {} of the schedule is not possible there: {}",
                 refused.place.saturating_add(1),
-                hindrance(refused)
+                letter_reason(refused)
             ),
             AnswerFault::Merge(fault) => writeln!(err, "{subject}: {fault}"),
-            AnswerFault::Run(fault) => writeln!(err, "{subject}: {}", hitch(fault)),
+            AnswerFault::Run(fault) => writeln!(err, "{subject}: {}", run_reason(fault)),
             AnswerFault::Write => writeln!(err, "the answer could not be written"),
         }
     }
@@ -104,8 +105,38 @@ impl<T: Drop> From<AllocFailed<T>> for AnswerFault {
     }
 }
 
+/// The status where parts could not be merged: 3 where there is no memory for it or more schedules than can be counted, else 2.
+fn merge_status(fault: &MergeFault) -> u8
+    ensures { IsStatusOf merge_status fault.now result }
+{
+    match fault {
+        MergeFault::Text(bad) => line_status(bad.cause),
+        MergeFault::TooMany | MergeFault::NoMemory => 3,
+        MergeFault::Nothing
+        | MergeFault::Misfit(_, _, _)
+        | MergeFault::Sought
+        | MergeFault::Twice(_)
+        | MergeFault::Missing(_) => 2,
+    }
+}
+
+/// The status where a line of a part was not read.
+fn line_status(cause: Cause) -> u8
+    ensures { IsStatusOf line_status cause result }
+{
+    match cause {
+        Cause::NoMemory => 3,
+        Cause::Other
+        | Cause::OutOfRange
+        | Cause::NotRising
+        | Cause::Unfinished
+        | Cause::LongLine
+        | Cause::Unreadable => 2,
+    }
+}
+
 /// Why a letter is not possible, by how its process stands.
-fn hindrance(refused: &RefusedLetter) -> &'static str {
+fn letter_reason(refused: &RefusedLetter) -> &'static str {
     match &refused.fate {
         None => "the source has no such process",
         Some(End::Crashed) => "its process has crashed",
@@ -116,7 +147,7 @@ fn hindrance(refused: &RefusedLetter) -> &'static str {
 }
 
 /// Why there is no report.
-fn hitch(fault: &RunFault) -> &'static str {
+fn run_reason(fault: &RunFault) -> &'static str {
     match fault.code {
         NO_MEMORY => "memory ran out while exploring",
         TOO_MANY => "there are more schedules than can be counted",

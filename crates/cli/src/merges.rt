@@ -7,7 +7,7 @@ ghost use Rattle.cli.specs.Findings.{Tells};
 ghost use Rattle.cli.specs.Merges.{AreMergedIn};
 
 use crate::faults::AnswerFault;
-use merging::{MergeFault, Merged, merge_parts, write_merged};
+use merging::{Merged, merge_parts, write_merged};
 use orders::{Refusal, refuse};
 use std::alloc::Global;
 use std::io::{BufReader, Read, Write};
@@ -46,7 +46,6 @@ fn merged_in<R: Read + Drop>(alloc: Global, file: Option<R>) -> Result<Merged, A
     };
     match merge_parts(alloc, reader) {
         Ok(merged) => Ok(merged),
-        Err(MergeFault::NoMemory) => Err(AnswerFault::Refused(Refusal::Memory)),
         Err(fault) => Err(AnswerFault::Merge(fault)),
     }
 }
