@@ -1,1 +1,1 @@
-mod Lookings
+mod LookerStatements

@@ -1,4 +1,4 @@
-pub mod Plain
-pub mod Adding
-pub mod Naming
-pub mod Meeting
+pub mod PlainCommands
+pub mod AddedWords
+pub mod NamedSubcommands
+pub mod ParsedCommands

@@ -1,6 +1,5 @@
-mod Growing
-mod Joined
-mod Kept
-mod Placing
-mod Rows
-mod Wanted
+mod JoinedTexts
+mod KeptNumbers
+mod DueSpaces
+mod RowFacts
+mod RegistersRead

@@ -8,7 +8,7 @@ use Rattle.std.proofs.lemmas.Nat.{le_or_l, le_or_r}
 use Rattle.std.proofs.lemmas.List.{append-nil, length-map, length-take-le, take-append-drop}
 use Rattle.machine.specs.Bits.{bit, unpacked}
 use Rattle.machine.specs.Sparse.{AreZero, filled, is_filled, mask_of, past_placed, past_sparse, placed, sparse, spread}
-use Rattle.machine.proofs.Packed.{unpacked-packed}
+use Rattle.machine.proofs.TestBits.{unpacked-packed}
 
 bits_back : (values : List ℕ) → unpacked (length values) (mask_of values) ≡ map is_filled values
 bits_back values = subst (λ n. unpacked n (mask_of values) ≡ map is_filled values) (length-map values is_filled) (unpacked-packed (map is_filled values))

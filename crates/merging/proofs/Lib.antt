@@ -1,3 +1,3 @@
+pub mod AllParts
 pub mod Marks
-pub mod Tellings
-pub mod Wholes
+pub mod OnePartMore

@@ -10,7 +10,7 @@ use Rattle.regmodel.specs.Act.{Flow, GoesOn, exec, times, flow_pending, then_do}
 use Rattle.uses.specs.Expansions.{name_held, name_turn}
 use Rattle.machine.specs.Bits.{bit}
 use Rattle.natives.specs.Rounds.{holds, number_from, cells_of, from_after, at_slot}
-use Rattle.natives.proofs.Steps.{le_yes, lt_yes, lt_no, eq_no}
+use Rattle.natives.proofs.StepEnds.{le_yes, lt_yes, lt_no, eq_no}
 
 -- a renaming within its limits
 pub record IsChoice (base slots own registers : ℕ) : Type 0 where

@@ -19,7 +19,7 @@ use Rattle.natives.specs.declared.rounds.Stage.TheVariants.{Proposes}
 use Rattle.natives.specs.declared.rounds.TheConstants.{LATER}
 use Rattle.natives.specs.Rounds.{at_slot, cells_of, from_after, later_after, number_from, proposal_after, stage_after, stage_rest}
 use Rattle.natives.proofs.NextNames.{AreAlike, IsChoice, finish-next}
-use Rattle.natives.proofs.Steps.{then_stop}
+use Rattle.natives.proofs.StepEnds.{then_stop}
 
 pub choice : (slots : Slots) → IsChoice slots.base slots.count slots.own slots.registers
 choice slots = record { own_in = slots.own_in; few_slots = slots.few_slots; room = slots.room; few = slots.few }

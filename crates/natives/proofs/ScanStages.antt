@@ -15,7 +15,7 @@ use Rattle.natives.specs.Rounds.{after_slots, first_slot, at_slot, cells_of, fro
 use Rattle.natives.specs.ScannedNames.{scan_rounds, from_scan_round, names_numbers, names_resumed, scan_rest, scan_round_rest}
 use Rattle.natives.proofs.NextNames.{long_cells, taken}
 use Rattle.natives.proofs.RoundEnds.{AreRounds, choice, told-whole}
-use Rattle.natives.proofs.Scans.{alike, scan-ends, scanned-seen}
+use Rattle.natives.proofs.ScanRounds.{alike, scan-ends, scanned-seen}
 
 pub are-rounds : (slots : Slots) → AreRounds slots (scan_rounds slots.base slots.count slots.own slots.registers)
 are-rounds slots = record { none = λ env s. refl; alike = alike slots.base slots.count slots.own slots.registers (choice slots) }

@@ -15,7 +15,7 @@ use Rattle.regmodel.specs.Summary.{AreInOrder}
 use Rattle.regmodel.specs.declared.letters.Letter.{Letter}
 use Rattle.regmodel.specs.declared.limits.TheConstants.{LAST_PROCESS, MOST_LETTERS, MOST_PROCESSES}
 use Rattle.regmodel.specs.declared.outcomes.ProcEnd.{ProcEnd}
-use Rattle.world.proofs.Limits.{WantsWithin}
+use Rattle.world.proofs.ValueLimits.{WantsWithin}
 use Rattle.world.specs.Fit.{AreFit}
 use Rattle.classes.proofs.ReducedList.{reduced-from_Mem}
 use Rattle.classes.specs.Reduced.{begins_with}

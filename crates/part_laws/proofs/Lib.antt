@@ -1,4 +1,4 @@
 pub mod FoundParts
-pub mod Joining
+pub mod JoinedParts
 pub mod OutcomeCounts
 pub mod OutcomeEnds

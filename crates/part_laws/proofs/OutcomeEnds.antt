@@ -19,7 +19,7 @@ use Rattle.regmodel.specs.declared.faults.TheConstants.{NO_VALUE, TOO_MANY_NUMBE
 use Rattle.regmodel.specs.declared.letters.Letter.{Letter}
 use Rattle.regmodel.specs.declared.limits.TheConstants.{GREATEST_VALUE, MOST_NUMBERS}
 use Rattle.regmodel.specs.declared.outcomes.End.TheVariants.{Crashed}
-use Rattle.world.proofs.Limits.{AllWithin, WantsWithin, replies-within}
+use Rattle.world.proofs.ValueLimits.{AllWithin, WantsWithin, replies-within}
 use Rattle.world.specs.Fit.{AreFit}
 use Rattle.patterns.specs.PatternText.{end_fits}
 use Rattle.part_texts.specs.FitsPart.{FitsOutcome}

@@ -7,7 +7,7 @@ use Rattle.patterns.specs.PatternText.{FitsPattern, pattern_text}
 use Rattle.patterns.specs.declared.standings.Standing.{Standing}
 use Rattle.patterns.specs.declared.standings.Standing.TheVariants.{Just}
 use Rattle.patterns.proofs.Bytes.{cut_same, no_space-decimal}
-use Rattle.patterns.proofs.Sames.{pattern_text-same}
+use Rattle.patterns.proofs.JustOneText.{pattern_text-same}
 use Rattle.part_texts.specs.FitsPart.{FitsOutcome}
 use Rattle.part_texts.specs.Standings.{just}
 use Rattle.part_texts.proofs.JustOnes.{text-same}

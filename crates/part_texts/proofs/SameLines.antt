@@ -19,8 +19,8 @@ use Rattle.patterns.specs.declared.standings.Standing.TheVariants as standing
 use Rattle.patterns.specs.Cuts.{has_no}
 use Rattle.patterns.specs.PatternText.{FitsPattern, end_fits}
 use Rattle.patterns.proofs.Bytes.{cut_same, has_no-append, no_digit}
-use Rattle.patterns.proofs.Ends.{IsOutside, none-end}
-use Rattle.patterns.proofs.Sames.{pattern_text-same}
+use Rattle.patterns.proofs.EndTexts.{IsOutside, none-end}
+use Rattle.patterns.proofs.JustOneText.{pattern_text-same}
 use Rattle.part_texts.specs.FitsPart.{FitsOutcome}
 use Rattle.part_texts.specs.PartText.{number_text}
 use Rattle.part_texts.specs.Standings.{just}

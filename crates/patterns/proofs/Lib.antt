@@ -1,4 +1,4 @@
 pub mod Bytes
-pub mod Ends
-pub mod Rows
-pub mod Sames
+pub mod EndTexts
+pub mod JustOneText
+pub mod PatternRows

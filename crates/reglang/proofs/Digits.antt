@@ -1,4 +1,4 @@
--- The value of digits, read from the left.
+-- Digits, and their value read from the left.
 use Rattle.std.proofs.Common.{◌≡◌, ℕ, zero, suc, ◌+◌, ◌-◌, ◌*◌, ◌<◌, ◌≤◌, true, leb, List, [], ◌∷◌, length, get_or, take, ap, sym, ◌∙◌, arith}
 use Rattle.std.specs.List.{list_all}
 use Rattle.std.specs.Char.{digit_value}
@@ -9,11 +9,15 @@ use Rattle.std.proofs.lemmas.List.Sums.{AllPass-from_list_all}
 use Rattle.std.proofs.lemmas.Int.Digits.{digits_value_more}
 use Rattle.reglang.specs.Words.{is_digit}
 
+-- which bytes are digits
+pub digit_range : (b : ℕ) → is_digit b ≡ true → (48 ≤ b) × (b ≤ 57)
+digit_range b h = let parts = and_parts (leb 48 b) (leb b 57) h in (leb-true 48 b parts.0, leb-true b 57 parts.1)
+
 digit_is : (b : ℕ) → is_digit b ≡ true → digit_value b ≡ b - 48
 digit_is b h =
-    let parts = and_parts (leb 48 b) (leb b 57) h in
-    let low = leb-true 48 b parts.0 in
-    let high = leb-true b 57 parts.1 in
+    let range = digit_range b h in
+    let low : 48 ≤ b = range.0 in
+    let high : b ≤ 57 = range.1 in
     grind (arith, nat_tests)
 
 -- one more digit

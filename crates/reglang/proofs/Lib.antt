@@ -1,4 +1,4 @@
-mod Appending
+mod LineTexts
 mod CheckLines
 mod ClausesFit
 mod Cuts
@@ -17,5 +17,5 @@ mod Readings
 mod Says
 mod SourceTexts
 mod Contexts
-mod Taken
+mod OneLineMore
 mod WordTexts

@@ -15,7 +15,7 @@ use Rattle.regmodel.specs.Program.{Block, block_of, with_stmt}
 use Rattle.reglang.specs.Contents.{IsBodyWithin, is_over, body_of, program_over}
 use Rattle.reglang.specs.declared.source.Process.{Process}
 use Rattle.reglang.specs.declared.source.Process.TheVariants as process
-use Rattle.uses.proofs.Fitting.{fitting}
+use Rattle.uses.proofs.ExpansionLimits.{fitting}
 
 within_limits : (p : Prog) → IsWithin (program_of p)
 within_limits p = record { some_register = p.some_register; registers = p.few_registers; operands = p.operands; statements = p.statements; open_blocks = p.open_blocks; open_repeats = p.open_repeats }

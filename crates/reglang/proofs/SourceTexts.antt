@@ -17,7 +17,7 @@ use Rattle.uses.specs.declared.kinds.Use.{Use}
 use Rattle.uses.specs.declared.kinds.Use.TheVariants as use_line
 use Rattle.reglang.specs.declared.forms.Line.{Line}
 use Rattle.reglang.specs.declared.forms.Line.TheVariants as line
-use Rattle.uses.proofs.Fitting.{between, fits}
+use Rattle.uses.proofs.ExpansionLimits.{between, fits}
 use Rattle.reglang.proofs.ReadAgain.{all_formed, lines_said_again}
 use Rattle.reglang.proofs.LineWords.{line_fits, numbers_small}
 

@@ -21,6 +21,7 @@ use Rattle.reglang.specs.declared.vocabulary.Property.{Property}
 use Rattle.reglang.specs.declared.vocabulary.Property.TheVariants as property
 use Rattle.reglang.specs.declared.words.Word.{Word}
 use Rattle.reglang.specs.declared.words.Word.TheVariants as word
+use Rattle.reglang.proofs.Digits.{digit_range}
 
 -- a word that stands in a line within its limits
 abbrev pub word_fits : Word → Bool
@@ -159,10 +160,8 @@ is_plain b = leb 33 b && leb b 126
 
 plain_digit : (b : ℕ) → is_digit b ≡ true → is_plain b ≡ true
 plain_digit b h =
-    let parts = and_parts (leb 48 b) (leb b 57) h in
-    let low = leb-true 48 b parts.0 in
-    let high = leb-true b 57 parts.1 in
-    and_from (leb 33 b) (leb b 126) (le-leb 33 b (omega arith)) (le-leb b 126 (omega arith))
+    let range = digit_range b h in
+    and_from (leb 33 b) (leb b 126) (le-leb 33 b (omega (arith, range.0))) (le-leb b 126 (omega (arith, range.1)))
 
 plain_digits : (bs : List ℕ) → list_all is_digit bs ≡ true → list_all is_plain bs ≡ true
 plain_digits [] h = refl

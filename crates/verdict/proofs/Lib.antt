@@ -1,4 +1,4 @@
 mod Beginnings
-mod Breaking
+mod BrokenChecks
 mod Causes
 mod GapRows

@@ -2,7 +2,7 @@ use Rattle.std.proofs.Common.{◌≡◌, ap, ◌∙◌, fold, map, rules}
 use Rattle.std.proofs.lemmas.Result.{IfOk-weaker}
 use Rattle.clap.specs.Words.{App, app_of, new_app, with_rule}
 use Rattle.command_words.specs.Tables.{rule_of_word}
-use Rattle.command_words.proofs.Plain.{subcommands_are_plain}
+use Rattle.command_words.proofs.PlainCommands.{subcommands_are_plain}
 use Rattle.command_words.proofs.command_of.Goals as goal
 
 pub returns : goal.returns

@@ -2,8 +2,8 @@ use Rattle.std.proofs.Common.{◌∙◌, ap, map}
 use Rattle.std.proofs.lemmas.Result.{IfOk-weaker}
 use Rattle.clap.specs.Words.{App}
 use Rattle.command_words.specs.CommandLine.{command_line, word_at_name}
-use Rattle.command_words.proofs.Plain.{third}
-use Rattle.command_words.proofs.Meeting.{meets_ok}
+use Rattle.command_words.proofs.PlainCommands.{third}
+use Rattle.command_words.proofs.ParsedCommands.{meets_ok}
 use Rattle.command_words.proofs.matches_of.Goals as goal
 
 pub returns : goal.returns

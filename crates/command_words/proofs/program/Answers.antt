@@ -2,7 +2,7 @@ use Rattle.std.proofs.Common.{◌≡◌, [], refl, rules}
 use Rattle.std.proofs.lemmas.Result.{IfOk-weaker}
 use Rattle.clap.specs.Words.{app_of}
 use Rattle.command_words.specs.CommandLine.{program}
-use Rattle.command_words.proofs.Naming.{all_told}
+use Rattle.command_words.proofs.NamedSubcommands.{all_told}
 use Rattle.command_words.proofs.program.Goals as goal
 
 pub returns : goal.returns

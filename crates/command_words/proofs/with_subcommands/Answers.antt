@@ -2,8 +2,8 @@ use Rattle.std.proofs.Common.{ap, sym, ◌∙◌, fold, map}
 use Rattle.std.proofs.lemmas.List.{drop_all}
 use Rattle.clap.specs.Words.{App, app_of, with_subcommand}
 use Rattle.command_words.specs.Tables.{shape_of_subcommand}
-use Rattle.command_words.proofs.Adding.{one_added}
-use Rattle.command_words.proofs.Plain.{third}
+use Rattle.command_words.proofs.AddedWords.{one_added}
+use Rattle.command_words.proofs.PlainCommands.{third}
 use Rattle.command_words.proofs.with_subcommands.Goals as goal
 
 pub loop-one-preserved : goal.loop-one-preserved

@@ -2,7 +2,7 @@ use Rattle.std.proofs.Common.{ap, sym, ◌∙◌, fold, map}
 use Rattle.std.proofs.lemmas.List.{drop_all}
 use Rattle.clap.specs.Words.{app_of, with_rule}
 use Rattle.command_words.specs.Tables.{rule_of_word}
-use Rattle.command_words.proofs.Adding.{one_added}
+use Rattle.command_words.proofs.AddedWords.{one_added}
 use Rattle.command_words.proofs.with_words.Goals as goal
 
 pub loop-word-preserved : goal.loop-word-preserved

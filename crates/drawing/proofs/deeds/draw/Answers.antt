@@ -1,9 +1,9 @@
 use Rattle.std.proofs.Common.{◌≡◌, ◌<◌, ◌∙◌, [], ap, length, arith}
 use Rattle.std.proofs.lemmas.List.{take_all}
-use Rattle.world.proofs.Same.{same_since}
+use Rattle.world.proofs.SameWorlds.{same_since}
 use Rattle.world.specs.Sound.{letters_of, world_programs}
 use Rattle.drawing.specs.Pictures.{is_fault_of}
-use Rattle.drawing.proofs.Rows.{fault-same, held-past, letters-more, number-told, picture-whole, rows-past, values-same}
+use Rattle.drawing.proofs.RowFacts.{fault-same, held-past, letters-more, number-told, picture-whole, rows-past, values-same}
 use Rattle.drawing.proofs.deeds.draw.Goals as goal
 
 pub loop-place-preserved : goal.loop-place-preserved

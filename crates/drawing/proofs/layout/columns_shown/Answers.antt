@@ -1,7 +1,7 @@
 use Rattle.std.proofs.Common.{true, false, [], ◌∷◌, sym, ◌∙◌, arith, length-append}
 use Rattle.std.proofs.lemmas.List.{append-nil}
 use Rattle.drawing.specs.Layout.{is_shown}
-use Rattle.drawing.proofs.Kept.{kept-more, low-more}
+use Rattle.drawing.proofs.KeptNumbers.{kept-more, low-more}
 use Rattle.drawing.proofs.layout.columns_shown.Goals as goal
 use Rattle.drawing.proofs.layout.columns_shown.Goals.{then-is_shown, else-is_shown}
 

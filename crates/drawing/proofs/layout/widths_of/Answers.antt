@@ -1,5 +1,5 @@
 use Rattle.std.proofs.Common.{arith}
-use Rattle.world.proofs.Growing.{grown}
+use Rattle.regmodel.proofs.NumberedLists.{grown}
 use Rattle.drawing.proofs.layout.widths_of.Goals as goal
 
 pub loop-column-preserved : goal.loop-column-preserved

@@ -1,7 +1,6 @@
 use Rattle.std.proofs.Common.{arith}
-use Rattle.world.proofs.Growing.{grown}
-use Rattle.drawing.proofs.Growing.{whole}
-use Rattle.drawing.proofs.Rows.{count-told, held-told}
+use Rattle.regmodel.proofs.NumberedLists.{grown, whole}
+use Rattle.drawing.proofs.RowFacts.{count-told, held-told}
 use Rattle.drawing.proofs.registers.held_since.Goals as goal
 
 pub loop-r-preserved : goal.loop-r-preserved

@@ -10,10 +10,10 @@ use Rattle.machine.specs.Paths.{resume}
 use Rattle.machine.specs.Exits.{stmt_flow, StmtAsks, BlockAsks, IsWanting}
 use Rattle.machine.proofs.Blocks.{if_block, repeat_block}
 use Rattle.regmodel.specs.Values.{store}
-use Rattle.machine.proofs.Fitting.{can_run_arm, can_run_at, can_run_repeat}
-use Rattle.machine.proofs.Ended.{access_ended, arm_asks, arm_flow, resume-ended, turn_ended}
-use Rattle.machine.proofs.Flows.{resume-set, resume-at, resume-past, arm_part, turn_part, arm_block}
-use Rattle.machine.proofs.Wanting.{wanting_within, wanting_turn}
+use Rattle.machine.proofs.RunnableBlocks.{can_run_arm, can_run_at, can_run_repeat}
+use Rattle.machine.proofs.BlockEnds.{access_ended, arm_asks, arm_flow, resume-ended, turn_ended}
+use Rattle.machine.proofs.ProgramSteps.{resume-set, resume-at, resume-past, arm_part, turn_part, arm_block}
+use Rattle.machine.proofs.StoppedPrograms.{wanting_within, wanting_turn}
 use Rattle.machine.proofs.resume.+resume.Goals as goal
 
 abbrev none : Frame

@@ -9,9 +9,9 @@ use Rattle.machine.specs.Stores.{env_of}
 use Rattle.machine.specs.Exits.{stmt_flow, StmtAsks, block_flow, BlockAsks}
 use Rattle.regmodel.proofs.Blocks.{block_of-drop}
 use Rattle.machine.proofs.Blocks.{if_block, repeat_block}
-use Rattle.machine.proofs.Fitting.{can_run_arm, can_run_at, can_run_repeat}
-use Rattle.machine.proofs.Ended.{arm_asks, arm_flow}
-use Rattle.machine.proofs.Flows.{resume-set, arm_block, exec-if, exec-repeat, turn_flow-left, times-more, known_exit, turn_part}
+use Rattle.machine.proofs.RunnableBlocks.{can_run_arm, can_run_at, can_run_repeat}
+use Rattle.machine.proofs.BlockEnds.{arm_asks, arm_flow}
+use Rattle.machine.proofs.ProgramSteps.{resume-set, arm_block, exec-if, exec-repeat, turn_flow-left, times-more, known_exit, turn_part}
 use Rattle.machine.proofs.run.+run.Goals as goal
 
 pub run_block-run_stmt-requires : goal.run_block-run_stmt-requires

@@ -8,8 +8,8 @@ use Rattle.part_texts.specs.PartText.{part_text}
 use Rattle.part_texts.specs.declared.parts.PartReport.{PartReport}
 use Rattle.merging.specs.Mergers.{Holds}
 use Rattle.merging.proofs.Marks.{fewer_missing}
-use Rattle.merging.proofs.Tellings.{one_read_more}
-use Rattle.merging.proofs.Wholes.{all_held, more_fit, next_goes_with, no_fault_of_more, part_refused, tail_left}
+use Rattle.merging.proofs.OnePartMore.{more_fit, one_read_more}
+use Rattle.merging.proofs.AllParts.{all_held, next_goes_with, no_fault_of_more, part_refused, tail_left}
 use Rattle.merging.proofs.merging.merge_parts.Goals as goal
 
 pub loop-merger-smaller : goal.loop-merger-smaller

@@ -1,4 +1,4 @@
-use Rattle.patterns.proofs.Sames.{just_allowed}
+use Rattle.patterns.proofs.JustOneText.{just_allowed}
 use Rattle.patterns.proofs.laws.just_one_stands_so.Goals as goal
 
 pub returns : goal.returns

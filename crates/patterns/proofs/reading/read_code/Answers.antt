@@ -1,4 +1,4 @@
-use Rattle.patterns.proofs.Ends.{code-read, none-without_digit, none-without_idle}
+use Rattle.patterns.proofs.EndTexts.{code-read, none-without_digit, none-without_idle}
 use Rattle.patterns.proofs.reading.read_code.Goals as goal
 
 pub returns-in_err-digit-clause-none : goal.returns-in_err-digit-clause-none

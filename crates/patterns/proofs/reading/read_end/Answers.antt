@@ -1,5 +1,5 @@
 use Rattle.std.proofs.Common.{rules}
-use Rattle.patterns.proofs.Ends.{none-other}
+use Rattle.patterns.proofs.EndTexts.{none-other}
 use Rattle.patterns.proofs.reading.read_end.Goals as goal
 
 pub returns-clause-none : goal.returns-clause-none

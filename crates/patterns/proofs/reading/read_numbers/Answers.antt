@@ -1,5 +1,5 @@
 use Rattle.std.proofs.Common.{rules}
-use Rattle.patterns.proofs.Ends.{fits-read, none-at_end, none-without_number, none-without_room}
+use Rattle.patterns.proofs.EndTexts.{fits-read, none-at_end, none-without_number, none-without_room}
 use Rattle.patterns.proofs.reading.read_numbers.Goals as goal
 
 pub returns-in-Some-clause-fits : goal.returns-in-Some-clause-fits

@@ -1,5 +1,5 @@
 use Rattle.std.proofs.Common.{length}
-use Rattle.patterns.proofs.Ends.{AreReadUpTo}
+use Rattle.patterns.proofs.EndTexts.{AreReadUpTo}
 use Rattle.patterns.proofs.reading.read_numbers.Given as goal
 
 abbrev pub invariant-loop-started : goal.invariant-loop-started

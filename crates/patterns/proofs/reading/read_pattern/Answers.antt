@@ -1,5 +1,5 @@
 use Rattle.std.proofs.Common.{◌≡◌, ◌∷◌, ◌++◌, [], rules}
-use Rattle.patterns.proofs.Rows.{all-read, bad-mark, bad-room, bad-standing, none-without_mark, none-without_room, none-without_standing}
+use Rattle.patterns.proofs.PatternRows.{all-read, bad-mark, bad-room, bad-standing, none-without_mark, none-without_room, none-without_standing}
 use Rattle.patterns.proofs.reading.read_pattern.Goals as goal
 
 pub returns-in_default-clause-err : goal.returns-in_default-clause-err

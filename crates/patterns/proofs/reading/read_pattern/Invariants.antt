@@ -1,5 +1,5 @@
 use Rattle.std.proofs.Common.{length}
-use Rattle.patterns.proofs.Rows.{IsReadUpTo}
+use Rattle.patterns.proofs.PatternRows.{IsReadUpTo}
 use Rattle.patterns.proofs.reading.read_pattern.Given as goal
 
 abbrev pub invariant-loop-standing : goal.invariant-loop-standing

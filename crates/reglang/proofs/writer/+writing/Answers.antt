@@ -3,7 +3,7 @@ use Rattle.regmodel.specs.Program.{block_of, with_stmt}
 use Rattle.regmodel.proofs.Rows.{with_stmt-If, with_stmt-Repeat}
 use Rattle.reglang.specs.Writing.{block_lines, lines_text, else_lines}
 use Rattle.reglang.specs.declared.forms.Line.TheVariants as line
-use Rattle.reglang.proofs.Appending.{ended, on_ok, else_text, if_text, repeat_text}
+use Rattle.reglang.proofs.LineTexts.{ended, on_ok, else_text, if_text, repeat_text}
 use Rattle.reglang.proofs.writer.+writing.Goals as goal
 
 pub push_second-returns : goal.push_second-returns

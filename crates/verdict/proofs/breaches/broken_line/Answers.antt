@@ -2,7 +2,7 @@ use Rattle.std.proofs.Common.{ap, sym, ◌∙◌}
 use Rattle.std.specs.List.{position}
 use Rattle.reglang.specs.Sources.{contents_of}
 use Rattle.verdict.specs.Demands.{breaks}
-use Rattle.verdict.proofs.Breaking.{broken_line_is}
+use Rattle.verdict.proofs.BrokenChecks.{broken_line_is}
 use Rattle.verdict.proofs.Causes.{none_broken}
 use Rattle.verdict.proofs.breaches.broken_line.Goals as goal
 

@@ -1,5 +1,5 @@
 use Rattle.std.proofs.Common.{refl}
-use Rattle.verdict.proofs.Breaking.{never_stopped}
+use Rattle.verdict.proofs.BrokenChecks.{never_stopped}
 use Rattle.verdict.proofs.breaches.drawing_of.Goals as goal
 
 pub unreachable-requires : goal.unreachable-requires

@@ -3,7 +3,7 @@ use Rattle.std.proofs.lemmas.List.{take-take}
 use Rattle.regmodel.specs.Outcomes.{outcome_of}
 use Rattle.world.specs.Sound.{letters_of}
 use Rattle.verdict.specs.Demands.{clauses_asked, meets_demands}
-use Rattle.world.proofs.Same.{same_since}
+use Rattle.world.proofs.SameWorlds.{same_since}
 use Rattle.verdict.proofs.Beginnings.{found-at, one-less}
 use Rattle.verdict.proofs.onsets.onset_of.Goals as goal
 

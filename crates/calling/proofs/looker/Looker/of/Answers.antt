@@ -1,5 +1,5 @@
 use Rattle.std.proofs.Common.{length, ap, arith}
-use Rattle.calling.proofs.Lookings.{looked}
+use Rattle.calling.proofs.LookerStatements.{looked}
 use Rattle.calling.proofs.looker.Looker.of.Goals as goal
 
 pub returns-in_default-clause-none : goal.returns-in_default-clause-none

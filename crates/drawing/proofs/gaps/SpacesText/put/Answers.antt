@@ -1,6 +1,6 @@
 use Rattle.std.proofs.Common.{codes}
 use Rattle.std.proofs.lemmas.Result.{err_from_is_err_and}
-use Rattle.drawing.proofs.Joined.{fault-in, text-more}
+use Rattle.drawing.proofs.JoinedTexts.{fault-in, text-more}
 use Rattle.drawing.proofs.gaps.SpacesText.put.Goals as goal
 
 pub returns-in_err-put_byte : goal.returns-in_err-put_byte

@@ -2,7 +2,7 @@ use Rattle.std.proofs.Common.{◌<◌, arith}
 use Rattle.std.proofs.lemmas.Result.{err_from_is_err_and}
 use Rattle.drawing.specs.DrawingText.{table_line}
 use Rattle.drawing.specs.Layout.{line_count}
-use Rattle.drawing.proofs.Joined.{fault-in, text-more}
+use Rattle.drawing.proofs.JoinedTexts.{fault-in, text-more}
 use Rattle.drawing.proofs.tables.LinesText.put.Goals as goal
 
 pub returns-in_err-put : goal.returns-in_err-put

@@ -2,8 +2,8 @@ use Rattle.std.proofs.Common.{codes, get_or, length, sym, ◌∙◌, arith}
 use Rattle.std.proofs.lemmas.Result.{err_from_is_err_and}
 use Rattle.texts.proofs.Appending.{after_text, fault_before}
 use Rattle.drawing.specs.DrawingText.{gap_before, placed, text_at, width_at}
-use Rattle.drawing.proofs.Joined.{fault-in, gap-more, text-more}
-use Rattle.drawing.proofs.Placing.{gap_past-low, joined-all}
+use Rattle.drawing.proofs.JoinedTexts.{fault-in, gap-more, text-more}
+use Rattle.drawing.proofs.DueSpaces.{gap_past-low, joined-all}
 use Rattle.drawing.proofs.tables.TableLineText.put.Goals as goal
 
 pub bounds-widths-from : goal.bounds-widths-from

@@ -1,6 +1,6 @@
 use Rattle.std.proofs.Common.{ap, sym, ◌∙◌}
 use Rattle.drawing.specs.Layout.{columns_shown}
-use Rattle.drawing.proofs.Joined.{table-drawn}
+use Rattle.drawing.proofs.JoinedTexts.{table-drawn}
 use Rattle.drawing.proofs.writing.DrawnText.put.Goals as goal
 
 pub invariant_of-table-clause-there : goal.invariant_of-table-clause-there

@@ -1,5 +1,5 @@
 use Rattle.std.proofs.Common.{◌≡◌, rules, arith, length}
-use Rattle.machine.proofs.Padding.{get-behind, get-below, get-past}
+use Rattle.machine.proofs.PaddedValues.{get-behind, get-below, get-past}
 use Rattle.machine.proofs.rows.Row.get.Goals as goal
 use Rattle.machine.proofs.rows.Row.get.Goals.{else-i-self-via-then-i-self+else-i, else-i-self-via-else-i-self}
 

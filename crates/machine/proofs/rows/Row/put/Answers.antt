@@ -1,7 +1,7 @@
 use Rattle.std.proofs.Common.{◌≡◌, ◌∙◌, rules, ap, arith, add-one, length}
 use Rattle.std.specs.Prelude.{set}
 use Rattle.machine.specs.Stores.{padded, values_of}
-use Rattle.machine.proofs.Padding.{length-padded, padded-more, set-below, set-past}
+use Rattle.machine.proofs.PaddedValues.{length-padded, padded-more, set-below, set-past}
 use Rattle.machine.proofs.rows.Row.put.Goals as goal
 
 pub loop-self-preserved : goal.loop-self-preserved

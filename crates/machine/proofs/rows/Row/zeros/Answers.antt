@@ -1,4 +1,4 @@
-use Rattle.machine.proofs.Padding.{padded-zeros}
+use Rattle.machine.proofs.PaddedValues.{padded-zeros}
 use Rattle.machine.proofs.rows.Row.zeros.Goals as goal
 
 pub returns : goal.returns

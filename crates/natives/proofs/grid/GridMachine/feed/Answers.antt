@@ -7,8 +7,8 @@ use Rattle.natives.specs.declared.splitters.Step.{Step}
 use Rattle.natives.specs.declared.splitters.Step.TheVariants.{Marks, Tries, Closes, Looks}
 use Rattle.natives.specs.Grids.{grid_from, grid_rest}
 use Rattle.natives.specs.Splitters.{since_first}
-use Rattle.natives.proofs.Visits.{IsVertex, vertex_there, from-open, from-right, from-down, from-marks, from-stops, from-closes}
-use Rattle.natives.proofs.Steps.{reply-zero}
+use Rattle.natives.proofs.GridVisits.{IsVertex, vertex_there, from-open, from-right, from-down, from-marks, from-stops, from-closes}
+use Rattle.natives.proofs.StepEnds.{reply-zero}
 use Rattle.natives.proofs.grid.GridMachine.feed.Goals as goal
 
 -- the vertex at which it stands

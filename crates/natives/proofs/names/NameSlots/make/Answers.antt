@@ -1,7 +1,7 @@
 use Rattle.std.proofs.Common.{rules}
 use Rattle.natives.specs.Names.{reading_rest}
-use Rattle.natives.proofs.Choices.{are-rounds}
-use Rattle.natives.proofs.Makes.{made-at-start}
+use Rattle.natives.proofs.RenamingStages.{are-rounds}
+use Rattle.natives.proofs.MachineStarts.{made-at-start}
 use Rattle.natives.proofs.RoundEnds.{starts}
 use Rattle.natives.proofs.names.NameSlots.make.Goals as goal
 

@@ -1,5 +1,5 @@
 use Rattle.natives.specs.Names.{reading_rest}
-use Rattle.natives.proofs.Choices.{are-rounds}
+use Rattle.natives.proofs.RenamingStages.{are-rounds}
 use Rattle.natives.proofs.RoundEnds.{starts}
 use Rattle.natives.proofs.names.NameSlotsMachine.reset.Goals as goal
 

@@ -1,5 +1,5 @@
 use Rattle.std.proofs.Common.{sym, ◌∙◌}
-use Rattle.natives.proofs.Choices.{stage-told}
+use Rattle.natives.proofs.RenamingStages.{stage-told}
 use Rattle.natives.proofs.RoundEnds.{told-behind}
 use Rattle.natives.proofs.names.NameSlotsMachine.tell.Goals as goal
 

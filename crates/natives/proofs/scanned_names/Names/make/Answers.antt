@@ -1,7 +1,7 @@
 use Rattle.std.proofs.Common.{rules}
 use Rattle.natives.specs.ScannedNames.{scan_rest}
 use Rattle.natives.proofs.ScanStages.{are-rounds}
-use Rattle.natives.proofs.Makes.{made-at-start}
+use Rattle.natives.proofs.MachineStarts.{made-at-start}
 use Rattle.natives.proofs.RoundEnds.{starts}
 use Rattle.natives.proofs.scanned_names.Names.make.Goals as goal
 

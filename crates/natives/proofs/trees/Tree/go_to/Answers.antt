@@ -1,6 +1,6 @@
 use Rattle.std.proofs.Common.{ap, suc, ◌-◌, ◌≡◌, arith, rules}
 use Rattle.natives.specs.Trees.{from_vertex}
-use Rattle.natives.proofs.Powers.{below_within}
+use Rattle.natives.proofs.TreeSizes.{below_within}
 use Rattle.natives.proofs.trees.Tree.go_to.Goals as goal
 
 pub invariant_of-self-else-self-eq0-clause-within : goal.invariant_of-self-else-self-eq0-clause-within

@@ -1,6 +1,6 @@
 use Rattle.std.proofs.Common.{rules}
-use Rattle.natives.proofs.Descents.{from_root}
-use Rattle.natives.proofs.Makes.{made-at-start}
+use Rattle.natives.proofs.TreeDescents.{from_root}
+use Rattle.natives.proofs.MachineStarts.{made-at-start}
 use Rattle.natives.proofs.trees.Tree.make.Goals as goal
 
 pub returns : goal.returns

@@ -1,6 +1,6 @@
 use Rattle.std.proofs.Common.{◌≡◌, ◌+◌, true, false, get_or, sym, ap, ◌∙◌, arith}
-use Rattle.natives.proofs.Collects.{past-reached, past-unreached}
-use Rattle.natives.proofs.Ways.{tree}
+use Rattle.natives.proofs.TreeCollects.{past-reached, past-unreached}
+use Rattle.natives.proofs.TreeStages.{tree}
 use Rattle.natives.proofs.trees.Tree.next_reached.Goals as goal
 
 pub returns-then-self-from-clause-goes_on : goal.returns-then-self-from-clause-goes_on

@@ -1,7 +1,7 @@
 use Rattle.std.proofs.Common.{◌-◌, ap, sym, ◌∙◌, rules}
 use Rattle.natives.specs.Trees.{below_reached, from_past}
-use Rattle.natives.proofs.Steps.{not_full}
-use Rattle.natives.proofs.Ways.{no_value, new_value}
+use Rattle.natives.proofs.StepEnds.{not_full}
+use Rattle.natives.proofs.TreeStages.{no_value, new_value}
 use Rattle.natives.proofs.trees.Tree.take.Goals as goal
 
 pub returns-then-value-eq0 : goal.returns-then-value-eq0

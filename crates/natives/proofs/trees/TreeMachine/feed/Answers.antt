@@ -1,6 +1,6 @@
 use Rattle.std.proofs.Common.{ap, sym, ◌∙◌}
 use Rattle.natives.specs.declared.trees.Stage.TheVariants.{At}
-use Rattle.natives.proofs.Ways.{opens, goes_right, goes_down, stops, leaves, unmarked}
+use Rattle.natives.proofs.TreeStages.{opens, goes_right, goes_down, stops, leaves, unmarked}
 use Rattle.natives.proofs.trees.TreeMachine.feed.Goals as goal
 
 pub returns-in-Tries-clause-goes_on : goal.returns-in-Tries-clause-goes_on

@@ -1,5 +1,5 @@
-use Rattle.natives.proofs.Descents.{from_root}
-use Rattle.natives.proofs.Powers.{root_within}
+use Rattle.natives.proofs.TreeDescents.{from_root}
+use Rattle.natives.proofs.TreeSizes.{root_within}
 use Rattle.natives.proofs.trees.TreeMachine.reset.Goals as goal
 
 pub invariant_of-self-clause-within : goal.invariant_of-self-clause-within

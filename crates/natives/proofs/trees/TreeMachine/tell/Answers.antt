@@ -1,7 +1,7 @@
 use Rattle.std.proofs.Common.{sym, ◌∙◌}
 use Rattle.machine.proofs.StandingNumbers.{where_some}
 use Rattle.natives.specs.Trees.{tree_numbers}
-use Rattle.natives.proofs.Ways.{stage-told}
+use Rattle.natives.proofs.TreeStages.{stage-told}
 use Rattle.natives.proofs.trees.TreeMachine.tell.Goals as goal
 
 pub returns : goal.returns

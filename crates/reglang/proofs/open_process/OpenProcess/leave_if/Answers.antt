@@ -4,7 +4,7 @@ use Rattle.regmodel.specs.Program.{If, Stop, block_of}
 use Rattle.regmodel.specs.declared.programs.Stmt.TheVariants as stmt
 use Rattle.reglang.specs.Drafts.{open_with, pushed}
 use Rattle.reglang.proofs.Frames.{frames_pushed}
-use Rattle.reglang.proofs.Taken.{answered, left_first, left_second}
+use Rattle.reglang.proofs.OneLineMore.{answered, left_first, left_second}
 use Rattle.reglang.proofs.open_process.OpenProcess.leave_if.Goals as goal
 
 pub returns-in-Some-First : goal.returns-in-Some-First

@@ -4,7 +4,7 @@ use Rattle.regmodel.specs.Program.{Stop}
 use Rattle.regmodel.specs.declared.programs.Stmt.TheVariants as stmt
 use Rattle.reglang.specs.Drafts.{open_with, pushed}
 use Rattle.reglang.proofs.Frames.{frames_pushed}
-use Rattle.reglang.proofs.Taken.{answered, left_repeat}
+use Rattle.reglang.proofs.OneLineMore.{answered, left_repeat}
 use Rattle.reglang.proofs.open_process.OpenProcess.leave_repeat.Goals as goal
 
 pub returns-in-Some-Turn : goal.returns-in-Some-Turn
