@@ -14,7 +14,7 @@ pub(crate) enum Kind {
     NeededNumber(&'static str),
     /// An option that takes a number of 32 bits.
     Number(&'static str),
-    /// An option of which any text is handed on, so that it is refused with the range of the option.
+    /// An option of which any text is handed on, so that what is wrong with it is told by the program.
     Text(&'static str),
 }
 
@@ -218,7 +218,7 @@ const CRASHES: Word = Word {
 const WORKERS: Word = Word {
     name: "workers",
     kind: Kind::Text("W"),
-    help: "How many workers share the exploration, each in a thread of its own: 1 to 16 [default: the number of processors]",
+    help: "How many workers share the exploration, each in a thread of its own: 1 to 16 [default: the number of processors, at most 16]",
 };
 
 /// The megabytes for states, for a check and a search.

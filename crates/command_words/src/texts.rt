@@ -2,13 +2,13 @@
 
 /// What the help says of the statuses.
 pub(crate) const STATUSES: &str = "Statuses:
-  0  check, explore: no schedule fails; find: no schedule leads there; replay, show: done
-  1  check, explore: a schedule fails; find: a schedule leads there
+  0  check, explore, merge: no schedule fails; find: no schedule leads there; replay, show, explore --part: done
+  1  check, explore, merge: a schedule fails; find: a schedule leads there
   2  the words, a setting, the schedule, the file or the source is refused
   3  memory ran out, or the result could not be made or written
 
 What explore and replay refuse they tell in one line for programs that read it, as `regtry: setting 1` for a --length past its limit;
-check, find and show tell it in words. Help is printed on standard error, with status 2, and the version on standard output, with status 0.";
+check, find, show and merge tell it in words. Help is printed on standard error, with status 2, and the version on standard output, with status 0.";
 
 /// What the help says of the text of a schedule.
 pub(crate) const SCHEDULES: &str = "Letters of a schedule:
@@ -89,7 +89,7 @@ Statuses:
   1  a schedule fails
   2  the words or the file are refused, or its parts are: a line is none of a part, a part is there twice or missing, or two parts are
      not of one exploration; it is said which
-  3  memory ran out, or the report could not be written";
+  3  memory ran out, there are more schedules than can be counted, or the report could not be written";
 
 /// What the help says of a drawing.
 pub(crate) const DRAWINGS: &str = "Letters of a schedule:
@@ -100,11 +100,12 @@ and has not crashed.
 
 Example: regtry show FILE 'R0 R1 C0' draws three steps.
 It prints a line a letter: in the column of its process `write 0 5` for a write of 5 into register 0, `read 0 = 5` for a read
-that found 5 there, or `crash`; then what each register holds after it, r0 first, with a star where the letter changed it. The
-line of step 0 has what they hold at the start. The last line says how each process stands after the last letter.
+that found 5 there, `scan 0 3` for a scan of 3 registers from 0 on, or `crash`, with ! behind it where its process is at fault after it;
+then what each register holds after it, r0 first, with a star where the letter changed it. The line of step 0 has what they hold at
+the start. Below the letters a line says how each process stands, and then the lowest process at fault is told, if any, and why.
 
-A line is at most 80 places long where there are at most two processes, else 132. Registers are left out from the last one
-on until that holds or none is left; a line at the end then says which. With --all none is left out.
+A line is at most 80 places long where there are at most two processes, else 132. Registers are left out until that holds or none is left,
+first those that no letter changes, and each time the last one; a line below then says how many. With --all none is left out.
 
 Statuses:
   0  the schedule was drawn

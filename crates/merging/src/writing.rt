@@ -1,4 +1,4 @@
-//! The text of what parts tell together, and of why they could not be merged.
+//! The text of what parts tell together.
 
 ghost use Rattle.texts.specs.Appending.{Wrote};
 ghost use Rattle.merging.specs.MergedText.{merged_text};

@@ -70,7 +70,7 @@ impl PartHead {
         self.processes
     }
 
-    /// The bounds and the cut as settings, which also say by how many workers it is explored.
+    /// The bounds and the cut as settings, whose workers and room tell nothing.
     pub fn settings(&self) -> Settings
         ensures length { result.length ≡ self.now.length }
         ensures crashes { result.crashes ≡ self.now.crashes }

@@ -150,7 +150,7 @@ misplaced_at Used came line = is_no_end line
 abbrev pub is_misplaced : Context → Line → Bool
 is_misplaced context line = misplaced_at context.place (is_some context.registers) line
 
--- past a limit: how many statements there are so far, and which blocks are open
+-- past a limit: how many statements there are so far
 abbrev pub statements_at : Place → ℕ
 statements_at (Inside opened n) = n
 statements_at _ = 0
@@ -167,7 +167,7 @@ repeats_in (Repeat ∷ outer) = suc (repeats_in outer)
 repeats_in (If ∷ outer) = repeats_in outer
 repeats_in (Else ∷ outer) = repeats_in outer
 
--- whether there is room for one more statement, for one more block, and for one more repeat
+-- whether there is room for one more statement
 abbrev pub has_room : Place → Bool
 has_room place = nat_lt (statements_at place) MOST_STATEMENTS
 

@@ -1,4 +1,4 @@
--- What a line says, or the code of its fault.
+-- What a line says, or its fault.
 use Rattle.std.specs.Prelude.{◌≡◌, ℕ, Bool, true, false, not, if◌then◌else◌, List, [], ◌∷◌, ◌++◌, map, take, Option, Some, None, option_and_then, option_map, Result, Ok, Err, nat_le}
 use Rattle.std.specs.List.{list_all, list_any}
 use Rattle.reglang.specs.declared.refusals.LineFault.{LineFault}

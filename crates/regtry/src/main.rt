@@ -1,4 +1,4 @@
-//! Explores register algorithms under all bounded schedules, and replays one.
+//! The program: checks, explores and searches sources, merges parts, and replays and draws a schedule.
 #![tactic(auto)]
 
 ghost use Rattle.std.specs.Prelude.{◌≡◌, Some, true};
