@@ -1,3 +1,5 @@
+//! Sources that are read, written, and written out where they have use lines.
+
 use reglang::{Source, Use, expand, read_source, read_text, write_source};
 use regmodel::{Clause, Expr, Operand, Prog, Stmt};
 use std::alloc::Global;
