@@ -6,3 +6,4 @@ reduce (inputs | capture("^(?<word>[a-z]+) (?<rest>.*)$")) as {$word, $rest} ({}
     elif $word == "least" then
         .least = (if $rest == "none" then null elif $rest == "." then [] else $rest | split(" ") end)
     else .[$word] = ($rest | tonumber) end)
+| if has("least") then . else error("no report of regtry explore") end
