@@ -17,8 +17,8 @@ use std::convert::AsStr;
 use tables::{Kind, SUBCOMMANDS, Subcommand, Word};
 use texts::STATUSES;
 
-/// The program's version, and the toolchain that it is proved with.
-pub const VERSION: &str = "0.1.0, proved with rattle-kit-13f logic dac8208d650f15bf";
+/// The program's version, and the logic that it is proved with, which several kits of Rattle share.
+pub const VERSION: &str = "0.1.0, proved with the logic dac8208d650f15bf of Rattle";
 
 /// What clap makes of the words of the command line, the program's name first. Where it is Ok, it is clap's parse by a
 /// command of just the words of `command_line`, and names one of its subcommands, or `help`. Clap is told of one subcommand alone where
