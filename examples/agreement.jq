@@ -12,8 +12,8 @@ def at_most($count): unique | length <= $count;
 # No two values are further apart.
 def apart($most): max - min <= $most;
 
-# Where one process commits, which is 10 and its value, each decides that value.
-def adopt_commit: map(select(. > 10) - 10) as $committed | map(if . > 10 then . - 10 else . end) | unique | $committed == [] or length == 1;
+# Where one process commits, which is 10 and its value below 10, each decides that value.
+def adopt_commit: all(.[]; . < 10) or (map(. % 10) | unique | length == 1);
 
 # The outcomes whose decisions break a relation. There has to be one with two decisions, since else nothing is
 # judged.
