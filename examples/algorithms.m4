@@ -23,6 +23,9 @@ define(`processes', `each(`ME', `$1', `$2', `process
 include(`$3')end
 ')')
 
+# deeper(TEXT): the text of another macro with its lines two spaces further in.
+define(`deeper', `patsubst(`$*', `^', `  ')')
+
 # begins(COUNT), on a line of its own: an operation of one of COUNT processes begins, as docs/LINEARIZABLE.md
 # wants it. FINISHED names COUNT registers; v15 and the cells from 24 on are used.
 define(`begins', `  scan 24 FINISHED $1

@@ -35,14 +35,14 @@ end
 process
 define(`ME', 2)dnl
   repeat 2
-begins(3)
-  read v0 SWITCH
-  if v0
-    read v1 BIT(1)
-    set v1 v1 + 2
-  else
-    read v1 BIT(0)
-  fi
-ends(v1)
+deeper(begins(3))
+    read v0 SWITCH
+    if v0
+      read v1 BIT(1)
+      set v1 v1 + 2
+    else
+      read v1 BIT(0)
+    fi
+deeper(ends(v1))
   done
 end

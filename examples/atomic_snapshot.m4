@@ -15,14 +15,13 @@ check ended
 define(`MOVES', ifdef(`ONE_MOVE', 1, 2))dnl
 dnl
 dnl parts(SEGMENT): v8 is then its value, and v9 what its writer scanned.
-define(`parts', `    set v8 0
-    set v9 $1
-    repeat 2
-      if 999 < v9
-        set v9 v9 - 1000
-        set v8 v8 + 1
-      fi
-    done
-')dnl
+define(`parts', `      set v8 0
+      set v9 $1
+      repeat 2
+        if 999 < v9
+          set v9 v9 - 1000
+          set v8 v8 + 1
+        fi
+      done')dnl
 processes(0, 1, `atomic_snapshot_updater.m4')dnl
 processes(2, 2, `atomic_snapshot_scanner.m4')dnl

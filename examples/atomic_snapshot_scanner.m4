@@ -17,27 +17,27 @@ begins(3)
     fi
     if v7 * v8
       # It found both twice.
-parts(v2)dnl
+parts(v2)
       set v7 v8 * 10
-parts(v3)dnl
+parts(v3)
       set v7 v7 + v8
       set v7 v7 * 10
       set v4 1
     else
       # It takes what the writer of one that moved twice scanned.
       if v5 = MOVES
-parts(v2)dnl
+deeper(parts(v2))
         set v7 v9
         set v4 1
       fi
       if v6 = MOVES
-parts(v3)dnl
+deeper(parts(v3))
         set v7 v9
         set v4 1
       fi
     fi
     if v4
-ends(v7)
+deeper(deeper(ends(v7)))
       halt
     fi
     set v0 v2

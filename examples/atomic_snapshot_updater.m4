@@ -2,7 +2,7 @@ dnl Process ME of atomic_snapshot.m4: process 0 updates its segment twice, proce
 define(`OTHER', eval(1 - ME))dnl
 define(`digit_of', `ifelse($1, 0, 100, 10)')dnl
   repeat eval(2 - ME)
-begins(3)
+deeper(begins(3))
     # It scans. Its own segment is known, so it collects the other one.
     # v2: how often that one moved; v3: whether the scan is done; v4: what it scanned; v5: the own value.
     set v2 0
@@ -11,7 +11,7 @@ begins(3)
     repeat 2
       if v3 = 0
         read v1 SEGMENT(OTHER)
-parts(v1)dnl
+deeper(parts(v1))
         if v0 = v1
           set v8 v8 * digit_of(OTHER)
           set v4 v5 * digit_of(ME)
@@ -30,5 +30,5 @@ parts(v1)dnl
     set v5 v5 + 1
     set v6 v5 * 1000
     write SEGMENT(ME) v6 + v4
-ends(0)
+deeper(ends(0))
   done
