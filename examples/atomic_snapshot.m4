@@ -1,0 +1,27 @@
+include(`algorithms.m4')dnl
+# A snapshot of two segments with helping: an update scans first, and writes what it found beside its value.
+# Who sees a segment move twice takes what was written there. For examples/linearizable: snapshot 'w1 w2' w1
+# scan.
+ifdef(`ONE_MOVE',
+`# Here one move is enough. At length 28 without crashes an outcome is not linearizable.',
+`# Each outcome is linearizable at length 28 without crashes, where all have ended.')
+named(`SEGMENT', 2)dnl
+named(`FINISHED', 3)dnl
+registers REGISTERS
+# Registers: 0 and 1: a value, and behind it what its writer scanned, a digit for each process; 2 to 4: how
+# many operations each process has finished.
+check nofault
+check ended
+define(`MOVES', ifdef(`ONE_MOVE', 1, 2))dnl
+dnl
+dnl parts(SEGMENT): v8 is then its value, and v9 what its writer scanned.
+define(`parts', `      set v8 0
+      set v9 $1
+      repeat 2
+        if 999 < v9
+          set v9 v9 - 1000
+          set v8 v8 + 1
+        fi
+      done')dnl
+processes(0, 1, `atomic_snapshot_updater.m4')dnl
+processes(2, 2, `atomic_snapshot_scanner.m4')dnl
