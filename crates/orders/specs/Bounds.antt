@@ -1,5 +1,5 @@
 -- The bounds of a check and of a search.
-use Rattle.std.specs.Prelude.{◌≡◌, ◌≤◌, ℕ, List, Option, Some, None, codes}
+use Rattle.std.specs.Prelude.{◌≡◌, ◌≤◌, ℕ, Bool, List, Option, Some, None, codes, if◌then◌else◌}
 use Rattle.std.specs.Str.Parse.{digits_value, without_leading_plus}
 use Rattle.regmodel.specs.declared.limits.TheConstants.{MOST_CRASHES, MOST_LETTERS, MOST_WORKERS}
 use Rattle.orders.specs.NumberTexts.{IsNumberText}
@@ -40,3 +40,7 @@ IsNoBound told bound other = (number : ℕ) → IsBoundTold told other number �
 -- a refusal that tells of a bound
 abbrev pub IsBoundRefused : Refusal → Type 0
 IsBoundRefused r = (bound : Bound) × (r ≡ refusal.Bound bound)
+
+-- how many workers there are where the words do not say: one where states are remembered, else as many as there are processors
+abbrev pub workers_for : ℕ → Bool → ℕ
+workers_for processors remembers = if remembers then 1 else processors

@@ -11,7 +11,7 @@ use Rattle.regmodel.specs.declared.limits.TheConstants.{MOST_LETTERS}
 use Rattle.regmodel.specs.ScheduleText.{schedule_text}
 use Rattle.report.specs.declared.effort.Effort.{Effort}
 use Rattle.report.specs.declared.parts.Part.{Part}
-use Rattle.orders.specs.Bounds.{IsBoundTold}
+use Rattle.orders.specs.Bounds.{IsBoundTold, workers_for}
 use Rattle.orders.specs.NumberTexts.{IsNumberText}
 use Rattle.orders.specs.PatternTexts.{AreTextsOf}
 use Rattle.orders.specs.declared.tasks.Task.{Task}
@@ -52,17 +52,17 @@ pub record AreSettingsTold (told : List ℕ → Option (List ℕ)) (settings : B
 abbrev pub cut_for : ℕ → ℕ
 cut_for workers = if nat_lt 1 workers then SHARED_CUT else 0
 
--- the bounds of a check or a search are those of its words: without them the greatest length, no crash, and as many workers as there are processors
-pub record AreBoundsTold (told : List ℕ → Option (List ℕ)) (processors : ℕ) (settings : Bounds) : Type 0 where
+-- the bounds of a check or a search are those of its words: without them the greatest length, no crash, and so many workers
+pub record AreBoundsTold (told : List ℕ → Option (List ℕ)) (otherwise : ℕ) (settings : Bounds) : Type 0 where
   pub length : IsBoundTold (told (codes "length")) MOST_LETTERS settings.length
   pub crashes : IsBoundTold (told (codes "crashes")) 0 settings.crashes
-  pub workers : IsBoundTold (told (codes "workers")) processors settings.workers
+  pub workers : IsBoundTold (told (codes "workers")) otherwise settings.workers
   pub cut : settings.cut ≡ cut_for settings.workers
   pub room : settings.room ≡ ROOM
 
 -- so it is with a check or a search; the megabytes in which states are remembered are those of the words, or else CACHE
 abbrev pub IsEffortTold : (List ℕ → Option (List ℕ)) → ℕ → Effort → Type 0
-IsEffortTold told processors effort = AreBoundsTold told processors effort.settings × IsBoundTold (told (codes "cache")) CACHE effort.cache
+IsEffortTold told processors effort = AreBoundsTold told (workers_for processors (nat_lt 0 effort.cache)) effort.settings × IsBoundTold (told (codes "cache")) CACHE effort.cache
 
 -- the megabytes in which states are remembered are those of the words, or else so many; there is a limit
 abbrev pub IsCacheTold : (List ℕ → Option (List ℕ)) → ℕ → ℕ → Type 0

@@ -82,7 +82,7 @@ impl Bound {
     }
 }
 
-/// How many processors there are, as far as workers can be as many: so many workers has a check or a search whose words do not say.
+/// How many processors there are, as far as workers can be as many.
 #[derive(Clone, Copy)]
 pub struct ProcessorCount {
     number: u32,
@@ -99,14 +99,25 @@ pub(crate) fn processors<H: Threads>(rt: &H) -> ProcessorCount {
     ProcessorCount { number }
 }
 
-/// How far the words of a check or a search ask to go. The error tells the first bound whose text is no number, or not one that it takes.
-pub fn bounds_of(words: &ArgMatches<'_>, processors: ProcessorCount) -> Result<Settings, Refusal>
-    ensures ok { IfOk result (AreBoundsTold (one_text (found_of words.now)) processors.number) }
+/// How many workers a check or a search has whose words do not say: one where it remembers states, and as many as there are processors
+/// where it remembers none. Each worker would have a part of the memory to itself, and meet again what others met.
+pub(crate) fn workers_for(processors: ProcessorCount, remembers: bool) -> u32
+    ensures told { result ≡ spec.workers_for processors.number remembers }
+    ensures within { (1 ≤ result) × (result ≤ MOST_WORKERS) }
+{
+    if remembers { 1 } else { processors.number }
+}
+
+/// How far the words of a check or a search ask to go, with so many workers where they do not say. The error tells the first bound whose
+/// text is no number, or not one that it takes.
+pub(crate) fn bounds_of(words: &ArgMatches<'_>, workers: u32) -> Result<Settings, Refusal>
+    requires { (1 ≤ workers) × (workers ≤ MOST_WORKERS) }
+    ensures ok { IfOk result (AreBoundsTold (one_text (found_of words.now)) workers) }
     ensures err { IfErr result spec.IsBoundRefused }
 {
     let length = bound_of(words, Bound::Length, MOST_LETTERS)?;
     let crashes = bound_of(words, Bound::Crashes, 0)?;
-    let workers = bound_of(words, Bound::Workers, processors.number)?;
+    let workers = bound_of(words, Bound::Workers, workers)?;
     let cut = if workers > 1 { SHARED_CUT } else { 0 };
     match Settings::new(length, crashes, workers, cut, ROOM) {
         Ok(settings) => Ok(settings),

@@ -7,7 +7,9 @@ ghost use Rattle.orders.specs.Orders.{IsCheck, IsEffortTold, IsExploration, IsFi
 ghost use Rattle.orders.specs.Inputs.{IsStandardText};
 ghost use Rattle.orders.specs.Statuses.{IsNoSchedule, IsSettingRefused, status_of};
 
-use crate::bounds::{Bound, CACHE, MOST_CACHE, ProcessorCount, bound_of, bounds_of, processors};
+use crate::bounds::{
+    Bound, CACHE, MOST_CACHE, ProcessorCount, bound_of, bounds_of, processors, workers_for,
+};
 use crate::inputs::{Opener, STANDARD_INPUT, is_standard};
 use crate::options::{has_flag, is_native, number_of};
 use crate::parts_told::part_told;
@@ -51,9 +53,9 @@ pub enum Request<'a> {
 }
 
 /// Reads the words of the command line, the program's name first. Where they are refused, also where they ask for help, a setting is past
-/// its limit, or a schedule or a pattern is no text of one, it prints why, and the error is the status. A check or a search has as many
-/// workers as there are processors, 1 to 16, where the words do not say how many: `rt` tells that. `opener` opens standard
-/// input by its path where the words say that patterns are read from it.
+/// its limit, or a schedule or a pattern is no text of one, it prints why, and the error is the status. A check or a search whose words do
+/// not say how many workers it has has one where it remembers states, and else as many as there are processors, 1 to 16: `rt` tells that.
+/// `opener` opens standard input by its path where the words say that patterns are read from it.
 pub fn command<'a, H: Threads + AllocGlobal, S: AsStr, O: Opener, E: Write>(
     rt: &H,
     words: &'a Result<Vec<S>, Refusal>,
@@ -163,8 +165,10 @@ fn effort_of(words: &ArgMatches<'_>, processors: ProcessorCount) -> Result<Effor
     ensures ok { IfOk result (IsEffortTold (one_text (found_of words.now)) processors.number) }
     ensures err { IfErr result IsBoundRefused }
 {
-    let settings = bounds_of(words, processors)?;
-    let cache = bound_of(words, Bound::Cache, CACHE)?;
+    let cache = bound_of(words, Bound::Cache, CACHE);
+    let remembers = !matches!(cache, Ok(0));
+    let settings = bounds_of(words, workers_for(processors, remembers))?;
+    let cache = cache?;
     Ok(Effort { settings, cache })
 }
 
