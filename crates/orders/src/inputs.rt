@@ -1,6 +1,6 @@
 //! Where a source and patterns are read from: a file, or standard input.
 
-ghost use Rattle.std.specs.Prelude.{◌≡◌, ◌⊎◌, IfErr, IfOk, List, Option, Some, false, option_map, true, ℕ};
+ghost use Rattle.std.specs.Prelude.{◌≡◌, IfErr, IfOk, List, Option, Some, false, option_map, true, ℕ};
 ghost use Rattle.std.specs.Fn.{FnOnceReturnsAt};
 ghost use Rattle.orders.specs.Inputs.{IsTextOf, IsUnreadable, is_standard};
 ghost use Rattle.orders.specs.declared.inputs.Input.TheVariants as input;
