@@ -23,7 +23,7 @@ MOST_OF_END, MOST_LANES, LEAST_WIDTH = 18, 8, 160
 
 # A form: how wide it is, whether time goes down, and how high a box of a step is.
 Form = namedtuple("Form", "width upright box")
-WIDE, NARROW, SCREEN = Form(672, False, 34), Form(320, True, 17), Form(888, False, 34)
+WIDE, NARROW, SCREEN = Form(664, False, 34), Form(312, True, 17), Form(888, False, 34)
 
 
 class Sheet:

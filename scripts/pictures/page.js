@@ -33,7 +33,7 @@ function show(number, isStepping) {
     part.classList.toggle("later", Number(part.dataset.step) > now);
     part.classList.toggle("here", stepping && Number(part.dataset.step) === now);
   }
-  const all = last === 1 ? "The only step." : `All ${last} steps. The arrow keys step through them.`;
+  const all = last ? `All of ${last} steps. The arrow keys step through them.` : "There is no step.";
   said.textContent = !stepping ? all : now ? words(now) : `The start, before the first of ${last}`;
   slider.setAttribute("aria-valuetext", said.textContent);
   light(stepping ? now : 0);
