@@ -72,7 +72,8 @@ def svg_file(run, form, label):
     """A picture as a file of its own."""
     style = f"<style>\n{(HERE / 'picture.css').read_text()}</style>\n"
     head, rest = svg(run, form, label, 'xmlns="http://www.w3.org/2000/svg"').split("\n", 1)
-    return f"{head}\n<title>{escape(label)}</title>\n{style}{rest}"
+    paper = f'<rect class="paper" x="-{MARGIN}" y="-{MARGIN}" width="100%" height="100%"/>'
+    return f"{head}\n<title>{escape(label)}</title>\n{style}{paper}\n{rest}"
 
 
 def tex(text):

@@ -48,6 +48,8 @@ const keys = { ArrowRight: on, ArrowLeft: back, Home: () => show(0, true), End: 
 
 document.addEventListener("keydown", (event) => {
   if (!keys[event.key] || event.ctrlKey || event.altKey || event.metaKey) return;
+  // Where there is more to the side than is seen, the keys move that.
+  if (event.target.scrollWidth > event.target.clientWidth && event.target.matches(".scroll")) return;
   event.preventDefault();
   keys[event.key]();
 });
