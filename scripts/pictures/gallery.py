@@ -13,7 +13,7 @@ from reading import Refused, label, run_of_text
 
 TOP = HERE.parent.parent
 # The example that is drawn as docs/picture.svg.
-SHOWN = "peterson_exchanged"
+SHOWN = "max_register_switch_first"
 HEADING = "Schedules that fail"
 INTRODUCTION = f"""<h1>{HEADING}</h1>
 <p>Of each example that fails, the least schedule that does, as <code>regtry check</code> tells it.</p>"""
