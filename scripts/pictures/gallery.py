@@ -61,7 +61,7 @@ def write_gallery(folder, program):
         run, name = checked(program, file, bounds), Path(file).stem
         sentence = as_html(told[Path(file).name]) + "."
         lead = f'<p><a href="index.html">{HEADING}</a></p>\n<p>{sentence}</p>'
-        (folder / "gallery" / f"{name}.html").write_text(page(run, None, label(run), lead))
+        (folder / "gallery" / f"{name}.html").write_text(page(run, label(run), lead))
         letters = f"{len(run.steps)} letter{'s' * (len(run.steps) != 1)}"
         links.append(f'<li><a href="{name}.html">{name}</a>, {letters}<br>{sentence}')
         if name == SHOWN:

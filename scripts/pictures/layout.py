@@ -15,10 +15,13 @@ Box = namedtuple("Box", "kind step x y width height sees")
 Line = namedtuple("Line", "kind step points")
 Text = namedtuple("Text", "kind step x y text anchor turned")
 
-# How wide a character is, and how high a line, at 9 points, in pixels of 3/4 point.
-# The letters of what is said below are narrower.
+# In pixels of 3/4 point: how wide a character is at 9 points, how wide a letter of what is said below, and how
+# high a line of that; and across the lanes, what a track in a gap takes, the lane of a register, the numbers of
+# the steps, and the word above the step from which it fails.
 CHARACTER, LETTER, LINE = 7.3, 6.2, 16
-TRACK, VALUE, NUMBER = 7, 18, 18
+TRACK, VALUE, NUMBER, FLAG = 7, 18, 18, 18
+# How much is told of how a process stands at the end, how many registers have a lane in each row, and how wide a
+# picture is at least.
 MOST_OF_END, MOST_LANES, LEAST_WIDTH = 18, 8, 160
 
 # A form: how wide it is, whether time goes down, and how high a box of a step is.
@@ -82,11 +85,10 @@ def used(steps, scans=True):
     return {it for step in taken for it in range(step.register, step.register + step.count)}
 
 
-def tracks(steps):
-    """By gap and write, which track the lines from there take in that gap; and how many tracks each gap has.
+def spans_of(steps):
+    """By gap and write, from which step to which one the lines from there go along that gap.
 
-    Lines from one write share their track in a gap. What comes from an earlier row has one for each read, by
-    the read's number below 0.
+    What comes from an earlier row has the number of the read, below 0, in place of that of the write.
     """
     spans, first = {}, steps[0].number if steps else 1
     for step in steps:
@@ -96,8 +98,14 @@ def tracks(steps):
                 spans[gap, write] = (write, step.number)
             else:
                 spans[step.process, -step.number] = (step.number, step.number)
+    return spans
+
+
+def tracks(steps):
+    """By gap and write, which track the lines from there take, so that no two lines meet in one; and how many
+    tracks each gap has."""
     taken, ends = {}, {}
-    for (gap, write), (begin, end) in sorted(spans.items(), key=lambda it: it[1]):
+    for (gap, write), (begin, end) in sorted(spans_of(steps).items(), key=lambda it: it[1]):
         free = ends.setdefault(gap, [])
         at = next((at for at, it in enumerate(free) if it < begin), len(free))
         free[at : at + 1] = [end]
@@ -194,39 +202,45 @@ def draw_lanes(sheet, run, row, is_last):
 
 
 def draw_registers(sheet, run, row, across, widths):
-    """Draws what each register holds, from one change to the next; gives where the last one ends."""
-    first = row.steps[0].number if row.steps else 1
-    until = row.begin + row.pitch * max(len(row.steps), 1)
+    """Draws the lane of each register, with what it holds."""
     for register, size in zip(row.registers, widths):
-        middle = across + size / 2
-        sheet.text("register", 0, (row.begin - 8, middle), run.registers[register], "end", True)
-        held = [it[register] for it in run.values]
-        changes = [it.number for it in row.steps if held[it.number] != held[it.number - 1]]
-        begins = [first - 1] * (first not in changes) + changes
-        for begin, end in zip(begins, [*begins[1:], None]):
-            left = time_of(row, max(begin, first)) - row.pitch / 2 if row.steps else row.begin
-            right = time_of(row, end) - row.pitch / 2 if end else until
-            step = begin if begin in changes else 0
-            kind = "zero" if held[begin] == "0" else "held"
-            sheet.box(kind, step, ((left + right) / 2, middle), (right - left, size - 4))
-            if step:
-                sheet.line("change", step, (left, middle - size / 2 + 2), (left, middle + size / 2 - 2))
-            sheet.text("changed" if step else "value", step, (left + row.pitch / 2, middle), held[begin])
+        sheet.text("register", 0, (row.begin - 8, across + size / 2), run.registers[register], "end", True)
+        draw_values(sheet, row, [it[register] for it in run.values], across, size)
         across += size
-    return across
 
 
-def draw_row(sheet, run, row, words, widths, is_last):
-    """Draws a row; gives where it ends."""
-    bottom = row.bottom + (words[1] if sheet.form.upright else 4) + sum(widths)
+def draw_values(sheet, row, held, across, size):
+    """Draws what a register holds in a row, from one change to the next."""
+    first, middle = row.steps[0].number, across + size / 2
+    changes = [it.number for it in row.steps if held[it.number] != held[it.number - 1]]
+    begins = [first] * (first not in changes) + changes
+    for begin, end in zip(begins, [*begins[1:], row.steps[-1].number + 1]):
+        left, right = (time_of(row, it) - row.pitch / 2 for it in (begin, end))
+        step = begin if begin in changes else 0
+        kind = "zero" if held[begin] == "0" else "held"
+        sheet.box(kind, step, ((left + right) / 2, middle), (right - left, size - 4))
+        if step:
+            sheet.line("change", step, (left, across + 2), (left, across + size - 2))
+        sheet.text("changed" if step else "value", step, (time_of(row, begin), middle), held[begin])
+
+
+def draw_frames(sheet, run, row, bottom):
+    """Draws a frame for each step, which shows where somebody steps, and that from which it fails."""
     for step in row.steps:
         time, middle = time_of(row, step.number), (row.top + bottom) / 2
         sheet.box("now", step.number, (time, middle), (row.pitch, bottom - row.top))
         if step.number == run.since:
             sheet.box("fails", 0, (time, middle), (row.pitch + 4, bottom - row.top + 4))
             if not sheet.form.upright:
-                sheet.text("flag", 0, (time, row.top - 9), "fails")
+                sheet.text("flag", 0, (time, row.top - FLAG / 2), "fails")
+
+
+def draw_row(sheet, run, row, words, widths, is_last):
+    """Draws a row, whose words stand where `words` says, and so wide; gives where it ends."""
+    bottom = row.bottom + (words[1] if sheet.form.upright else 4) + sum(widths)
+    draw_frames(sheet, run, row, bottom)
     draw_lanes(sheet, run, row, is_last)
+    # Lines first, so that none is seen on a box.
     for step in row.steps:
         draw_links(sheet, row, step)
     for step in row.steps:
@@ -253,8 +267,7 @@ def draw(run, form):
     pitch, rows = pitch_and_rows(run, form, titles, label, end)
     top, right = 0, 0
     for at, numbers in enumerate(rows):
-        # Above the step from which it fails stands a word.
-        top += 18 * any(it + 1 == run.since for it in numbers) * (not form.upright)
+        top += FLAG * any(it + 1 == run.since for it in numbers) * (not form.upright)
         row = place_row(run, form, numbers, label, pitch, top)
         words = row.bottom + 4, wide_of([" ".join(it) for it in titles]) + 12
         row, widths = register_sizes(run, form, row, row.bottom + words[1])

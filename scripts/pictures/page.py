@@ -70,11 +70,11 @@ def shell(title, style, script, body):
     )
 
 
-def page(run, _form, label, lead=""):
+def page(run, label, lead=""):
     """The page of a run; `lead` is HTML that stands above it."""
     style, script = ((HERE / name).read_text() for name in ("page.css", "page.js"))
     parts = {
-        "NAME": escape(run.file or "A schedule"),
+        "NAME": escape(run.name),
         "LEAD": lead,
         "CLAIM": escape(" ".join(caption(run))),
         "LAST": str(len(run.steps)),
@@ -86,4 +86,4 @@ def page(run, _form, label, lead=""):
     }
     pieces = (HERE / "page.html").read_text().split("@")
     body = "".join(parts[it] if at % 2 else it for at, it in enumerate(pieces))
-    return shell(run.file or "A schedule", (HERE / "picture.css").read_text() + style, script, body)
+    return shell(run.name, (HERE / "picture.css").read_text() + style, script, body)

@@ -28,8 +28,10 @@ NOTE = re.compile(r"At its end process|left out: ")
 # write that it sees, 0 for the start.
 Step = namedtuple("Step", "number process verb register count value faulty sees")
 
-# A run: `values` has what each register held after each step, as texts; `ends` how each process stands.
-Run = namedtuple("Run", "file schedule claim since steps values ends processes registers notes source")
+# A run: its name, which is that of its file; its schedule; whether it fails or leads to an outcome, and which;
+# from which step on; its steps; what each register held after each of them, as texts; how each process stands
+# at the end; the names of processes and registers; what is said below the drawing; and the source.
+Run = namedtuple("Run", "name schedule claim since steps values ends processes registers notes source")
 
 
 class Refused(Exception):
@@ -37,14 +39,14 @@ class Refused(Exception):
 
 
 def ask(program, file, schedule):
-    """What `show` prints of a schedule, with all registers."""
+    """What `show` prints of a schedule, with all registers. Why it refuses one it says itself."""
     words = [program, "show", "--all", "--", file, schedule]
     try:
-        ran = subprocess.run(words, stdin=subprocess.DEVNULL, stdout=subprocess.PIPE, stderr=subprocess.PIPE)
+        ran = subprocess.run(words, stdin=subprocess.DEVNULL, stdout=subprocess.PIPE)
     except OSError as error:
         raise Refused(f"{program} does not run: {error.strerror}") from error
     if ran.returncode != 0:
-        raise Refused(ran.stderr.decode(errors="replace").strip())
+        raise Refused("regtry show draws no such schedule")
     return ran.stdout.decode()
 
 
@@ -133,7 +135,8 @@ def read(text, file, claim, since):
     processes = names(source, "process", range(count), "process ")
     called = names(source, "register", registers, "r")
     notes = [it.split("; regtry")[0] for it in lines if NOTE.match(it)]
-    return Run(file, schedule, claim, since, steps, values, ends, processes, called, notes, source)
+    name = "".join(it if it.isprintable() else "?" for it in file or "a schedule")
+    return Run(name, schedule, claim, since, steps, values, ends, processes, called, notes, source)
 
 
 def rows_of_steps(lines):
@@ -194,4 +197,4 @@ def caption(run):
 
 def label(run):
     """What a picture shows, in words."""
-    return f"Schedule {run.schedule} of {run.file or 'a source'}" + "".join(f". {it}" for it in caption(run))
+    return f"{run.name}: {run.schedule}" + "".join(f". {it}" for it in caption(run))
