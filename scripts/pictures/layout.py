@@ -15,13 +15,14 @@ Box = namedtuple("Box", "kind step x y width height sees")
 Line = namedtuple("Line", "kind step points")
 Text = namedtuple("Text", "kind step x y text anchor turned")
 
-# In pixels of 3/4 point: how wide a character is at 9 points, how wide a letter of what is said below, and how
-# high a line of that; and across the lanes, what a track in a gap takes, the lane of a register, the numbers of
-# the steps, and the word above the step from which it fails.
-CHARACTER, LETTER, LINE = 7.3, 6.2, 16
+# In pixels of 3/4 point: how wide a character is at 9 points, how wide a letter of what is said below, and
+# how high a line of that; and across the lanes, what a track in a gap takes, the lane of a register, the
+# numbers of the steps, and the word above the step from which it fails. Sums of these are exact, so that each
+# machine writes the same.
+CHARACTER, LETTER, LINE = 7.25, 6.25, 16
 TRACK, VALUE, NUMBER, FLAG = 7, 18, 18, 18
-# How much is told of how a process stands at the end, how many registers have a lane in each row, and how wide a
-# picture is at least.
+# How much is told of how a process stands at the end, how many registers have a lane in each row, and how
+# wide a picture is at least.
 MOST_OF_END, MOST_LANES, LEAST_WIDTH = 18, 8, 160
 
 # A form: how wide it is, whether time goes down, and how high a box of a step is.

@@ -28,9 +28,9 @@ NOTE = re.compile(r"At its end process|left out: ")
 # write that it sees, 0 for the start.
 Step = namedtuple("Step", "number process verb register count value faulty sees")
 
-# A run: its name, which is that of its file; its schedule; whether it fails or leads to an outcome, and which;
-# from which step on; its steps; what each register held after each of them, as texts; how each process stands
-# at the end; the names of processes and registers; what is said below the drawing; and the source.
+# A run: its name, which is that of its file; its schedule; whether it fails or leads to an outcome, and
+# which; from which step on; its steps; what each register held after each of them, as texts; how each process
+# stands at the end; the names of processes and registers; what is said below the drawing; and the source.
 Run = namedtuple("Run", "name schedule claim since steps values ends processes registers notes source")
 
 
