@@ -17,7 +17,6 @@ VERDICT = re.compile(
     r"^.*?: a schedule of \d+ letters? (?:(fails)(?:, and no shorter one)?: |(leads to) )(.*)$", re.MULTILINE
 )
 NAME = re.compile(r"^ *# *(process|register) (\d+): *([!-~](?:[ -~]*[!-~])?) *$", re.MULTILINE)
-
 SINCE = re.compile(r"^It fails from step (\d+) on\.$", re.MULTILINE)
 REPLAY = re.compile(r"^regtry replay (.+)$", re.MULTILINE)
 END = re.compile(r"(?:done|fault|crashed|running)\b")
