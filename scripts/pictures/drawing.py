@@ -11,7 +11,7 @@ ROUND, MARGIN = 4, 4
 # What means something else in LaTeX, by what stands for it.
 TEX = {it: "\\" + it for it in "#$%&_{}"}
 TEX.update({"\\": r"\textbackslash{}", "^": r"\textasciicircum{}", "~": r"\textasciitilde{}"})
-TEX.update({"<": r"\textless{}", ">": r"\textgreater{}", "|": r"\textbar{}"})
+TEX.update({"<": r"\textless{}", ">": r"\textgreater{}", "|": r"\textbar{}", " ": r"\ "})
 
 
 def number(value):
