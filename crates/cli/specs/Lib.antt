@@ -1,8 +1,16 @@
+pub mod Answers
+pub mod Drawings
 pub mod Findings
+pub mod Leasts
 pub mod Merges
+pub mod Parts
 pub mod Performing
 pub mod Progress
+pub mod Refusals
+pub mod Reports
 pub mod Runs
 pub mod Searches
 pub mod Standings
 pub mod Statuses
+pub mod Verdicts
+pub mod Written

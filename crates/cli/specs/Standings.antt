@@ -9,6 +9,8 @@ use Rattle.regmodel.specs.Letters.{process_of}
 use Rattle.regmodel.specs.Outcomes.{outcome_of}
 use Rattle.regmodel.specs.Program.{Program}
 use Rattle.regmodel.specs.Schedules.{IsSchedule, is_possible}
+use Rattle.reglang.specs.Contents.{Contents, programs_in}
+use Rattle.reglang.specs.Grammar.{Spells}
 use Rattle.world.specs.Registers.{values_after}
 use Rattle.findings.specs.declared.standings.Standing.{Standing}
 use Rattle.cli.specs.declared.standings.RefusedLetter.{RefusedLetter}
@@ -40,3 +42,17 @@ pub record IsFollowed {T : Type 0} (programs : List Program) (w : List Letter) (
 pub record IsStandingAfter (programs : List Program) (registers : ℕ) (w : List Letter) (standing : Standing) : Type 0 where
   pub outcome : standing.outcome ≡ outcome_of programs w
   pub registers_are : standing.registers.items ≡ values_after programs w registers
+
+-- where a schedule leads the source that the text spells
+pub record IsStandingOf (w : List Letter) (text : List ℕ) (standing : Standing) : Type 0 where
+  pub source : Contents
+  pub spelled : Spells text source
+  pub schedule : IsSchedule (programs_in source) MOST_CRASHES w
+  pub outcome : standing.outcome ≡ outcome_of (programs_in source) w
+  pub registers : standing.registers.items ≡ values_after (programs_in source) w source.registers
+
+-- a letter of the schedule that is not possible where it stands, in the source that the text spells
+pub record IsLetterOf (w : List Letter) (text : List ℕ) (refused : RefusedLetter) : Type 0 where
+  pub source : Contents
+  pub spelled : Spells text source
+  pub letter : IsLetterRefused (programs_in source) MOST_CRASHES w refused

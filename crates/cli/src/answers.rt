@@ -1,17 +1,21 @@
 //! Does what was asked, and gives the status.
 
-ghost use Rattle.std.specs.Prelude.{◌≡◌, ◌≤◌, ◌⊎◌, IfErr, IfOk, IsNone, if◌then◌else◌, option_and_then};
+ghost use Rattle.std.specs.Prelude.{◌≡◌, ◌≤◌, ◌⊎◌, Bool, IfErr, IfOk, IsNone, None, Some, false, if◌then◌else◌, option_and_then};
 ghost use Rattle.findings.specs.FindingText.{finding_text};
-ghost use Rattle.cli.specs.Findings.{IsAnswered, IsCutShort, IsRefusedWith, IsUnanswered, Tells};
+ghost use Rattle.report.specs.declared.effort.Effort.{Effort};
+ghost use Rattle.orders.specs.declared.tasks.Task.TheVariants as asked;
+ghost use Rattle.cli.specs.Answers.{IsAnswered, IsCutShort, IsRefusedWith, IsUnanswered};
+ghost use Rattle.cli.specs.Reports.{IsReportWritten};
+ghost use Rattle.cli.specs.Written.{Tells};
 
 use crate::faults::AnswerFault;
 use crate::progress::Progress;
 use crate::tasks::found;
 use explanations::write_explanation;
 use findings::Finding;
-use orders::{Question, Refusal, bytes_of, refuse};
+use orders::{Question, Readable, Refusal, refuse};
 use std::alloc::Global;
-use std::io::{Read, Write};
+use std::io::Write;
 use std::sync::Wait;
 use std::thread::Threads;
 
@@ -19,7 +23,7 @@ use std::thread::Threads;
 /// schedule that fails or was looked for, unless it is of a part; 2 where the file, the source or a letter is refused; 3 where it could not be
 /// done. At 2 and 3 a line on `err` says why, and `out` is as before, unless it did not take the whole text: then it took a beginning of it, and
 /// the status is 3. `file` is None where it could not be opened. Where progress is asked for, `err` is told of it before.
-pub fn answer<H: Threads + Wait + Sync, R: Read + Drop, W: Write, E: Write + Send>(
+pub fn answer<H: Threads + Wait + Sync, R: Readable, W: Write, E: Write + Send>(
     rt: &H,
     alloc: Global,
     question: &Question<'_>,
@@ -29,12 +33,16 @@ pub fn answer<H: Threads + Wait + Sync, R: Read + Drop, W: Write, E: Write + Sen
 ) -> u8
     ensures no_file { IsNone file → result ≡ 2 }
     ensures status { result ≤ 3 }
+    ensures explored { (effort : Effort) (native : Bool)
+        → question.now.task.now ≡ asked.Explore effort native None false → result ≤ 1
+        → IsReportWritten effort.settings (option_and_then R.remaining file)
+        (W.contents out.old) (W.contents out.new) result }
     ensures answered { result ≤ 1
         → IsAnswered question.now.path.now question.now.task.now (option_and_then R.remaining file)
         (W.contents out.old) (W.contents out.new) result }
     ensures refused { 2 ≤ result
-        → IsRefusedWith W.contents question.now.path.now question.now.task.now
-        (option_and_then R.remaining file) out.old out.new result }
+        → IsRefusedWith W.contents R.remaining R.fails question.now.path.now question.now.task.now
+        file out.old out.new result }
     ensures silent { result ≡ 2 → out.new ≡ out.old }
     ensures cut_short { result ≡ 3
         → (out.new ≡ out.old)
@@ -53,7 +61,7 @@ pub fn answer<H: Threads + Wait + Sync, R: Read + Drop, W: Write, E: Write + Sen
 
 /// Writes what is found of the source in the file. Whether a schedule fails. A source that is refused is explained on `err` where refusals
 /// are told in words.
-fn written<H: Threads + Wait + Sync, R: Read + Drop, W: Write, E: Write + Send>(
+fn written<H: Threads + Wait + Sync, R: Readable, W: Write, E: Write + Send>(
     rt: &H,
     alloc: Global,
     question: &Question<'_>,
@@ -65,10 +73,10 @@ fn written<H: Threads + Wait + Sync, R: Read + Drop, W: Write, E: Write + Send>(
         (λ fails. IsAnswered question.now.path.now question.now.task.now (R.remaining file)
         (W.contents out.old) (W.contents out.new) (if fails then 1 else 0)) }
     ensures refused { IfErr result
-        (IsUnanswered W.contents question.now.path.now question.now.task.now (R.remaining file)
-        out.old out.new) }
+        (IsUnanswered W.contents R.remaining R.fails question.now.path.now question.now.task.now
+        (Some file) out.old out.new) }
 {
-    let text = bytes_of(alloc, file)?;
+    let text = file.text(alloc)?;
     let progress = Progress::new(rt, err, question.progress);
     let found = found(rt, alloc, question.task, text.as_slice(), &progress);
     drop(progress);

@@ -4,7 +4,8 @@ ghost use Rattle.std.specs.Prelude.{◌≡◌, Bool, IfOk, option_map};
 ghost use Rattle.reglang.specs.Sources.{source_programs};
 ghost use Rattle.orders.specs.declared.tasks.Task.TheVariants as asked;
 ghost use Rattle.explorer.specs.Running.{AreListsOf};
-ghost use Rattle.cli.specs.Findings.{Finds, part_head};
+ghost use Rattle.cli.specs.Parts.{part_head};
+ghost use Rattle.cli.specs.Refusals.{Finds};
 
 use crate::faults::AnswerFault;
 use crate::runs::Run;

@@ -1,10 +1,10 @@
 //! The parts of an exploration that are in a file, merged.
 
-ghost use Rattle.std.specs.Prelude.{IfOk, option_and_then};
+ghost use Rattle.std.specs.Prelude.{IfErr, IfOk, IsSome, OnOk, option_and_then};
 ghost use Rattle.merging.specs.Merged.{IsMergedOf};
 ghost use Rattle.merging.specs.MergedText.{merged_text};
-ghost use Rattle.cli.specs.Findings.{Tells};
-ghost use Rattle.cli.specs.Merges.{AreMergedIn};
+ghost use Rattle.cli.specs.Merges.{AreMergedIn, IsUnmerged};
+ghost use Rattle.cli.specs.Written.{Tells};
 
 use crate::faults::AnswerFault;
 use merging::{Merged, merge_parts, write_merged};
@@ -22,7 +22,7 @@ pub fn merge_file<R: Read + Drop, W: Write, E: Write>(
     out: &mut W,
     err: &mut E,
 ) -> u8
-    ensures { AreMergedIn W.contents (option_and_then R.remaining file) out.old out.new result }
+    ensures { AreMergedIn W.contents R.remaining file out.old out.new result }
 {
     let merged = match merged_in(alloc, file) {
         Ok(merged) => merged,
@@ -37,6 +37,8 @@ pub fn merge_file<R: Read + Drop, W: Write, E: Write>(
 /// What the parts in the file tell together.
 fn merged_in<R: Read + Drop>(alloc: Global, file: Option<R>) -> Result<Merged, AnswerFault>
     ensures merged { IfOk result (IsMergedOf (option_and_then R.remaining file)) }
+    ensures there { OnOk result (IsSome file) }
+    ensures refused { IfErr result (IsUnmerged R.remaining file) }
 {
     let Some(file) = file else {
         return Err(AnswerFault::Refused(Refusal::File));

@@ -1,6 +1,6 @@
 //! The whole program, over what opens its files and what takes its texts.
 
-ghost use Rattle.cli.specs.Performing.{AreAnswered, IsOpened, IsPerformed, IsVersionTold};
+ghost use Rattle.cli.specs.Performing.{AreAnswered, IsPerformed, IsVersionTold};
 
 use crate::answers::answer;
 use crate::faults::AnswerFault;
@@ -25,7 +25,7 @@ pub fn perform<H: Threads + Wait + Sync, O: Opener, W: Write, E: Write + Send>(
     out: &mut W,
     err: &mut E,
 ) -> u8
-    ensures { IsPerformed W.contents (IsOpened (O.opens opener.now) O.Reader.remaining)
+    ensures { IsPerformed W.contents O.Reader.remaining O.Reader.fails (O.opens opener.now)
         request.entry out.old out.new result }
 {
     match request {
@@ -58,8 +58,8 @@ fn answer_each<H: Threads + Wait + Sync, O: Opener, W: Write, E: Write + Send>(
     out: &mut W,
     err: &mut E,
 ) -> u8
-    ensures { AreAnswered W.contents (IsOpened (O.opens opener.now) O.Reader.remaining) order.now
-        out.old out.new result }
+    ensures { AreAnswered W.contents O.Reader.remaining O.Reader.fails (O.opens opener.now)
+        order.now out.old out.new result }
 {
     let mut worst = 0;
     for path in order.paths.as_slice() {

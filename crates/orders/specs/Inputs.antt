@@ -2,6 +2,8 @@
 use Rattle.std.specs.Prelude.{◌≡◌, ℕ, ◌<◌, ◌≤◌, Bool, List, length, Option, IfSome, codes, option_and_then}
 use Rattle.std.specs.Str.{bytes_eq}
 use Rattle.regmodel.specs.declared.limits.TheConstants.{MOST_SOURCE_BYTES}
+use Rattle.orders.specs.declared.refusals.Refusal.{Refusal}
+use Rattle.orders.specs.declared.refusals.Refusal.TheVariants.{File, LongFile, Memory}
 
 -- whether a path names standard input: it is one dash
 abbrev pub is_standard : List ℕ → Bool
@@ -21,3 +23,10 @@ pub record IsStandardText {R : Type 0} (opens : List ℕ → Option R → Type 0
 -- more bytes than that, where they are known
 abbrev pub IsTooLong : Option (List ℕ) → Type 0
 IsTooLong file = IfSome file (λ bytes. MOST_SOURCE_BYTES < length bytes)
+
+-- why what is read gives no text: by its own answer, since it is too long, or since memory does not hold it
+abbrev pub IsUnreadable : Option (List ℕ) → Refusal → Type 0
+IsUnreadable file File = Unit {0}
+IsUnreadable file LongFile = IsTooLong file
+IsUnreadable file Memory = Unit {0}
+IsUnreadable file _ = ⊥

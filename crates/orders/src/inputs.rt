@@ -1,8 +1,8 @@
 //! Where a source and patterns are read from: a file, or standard input.
 
-ghost use Rattle.std.specs.Prelude.{◌≡◌, ◌⊎◌, IfErr, IfOk, List, Option, Some, false, option_map, true, ℕ};
+ghost use Rattle.std.specs.Prelude.{◌≡◌, IfErr, IfOk, List, Option, Some, false, option_map, true, ℕ};
 ghost use Rattle.std.specs.Fn.{FnOnceReturnsAt};
-ghost use Rattle.orders.specs.Inputs.{IsTextOf, IsTooLong, is_standard};
+ghost use Rattle.orders.specs.Inputs.{IsTextOf, IsUnreadable, is_standard};
 ghost use Rattle.orders.specs.declared.inputs.Input.TheVariants as input;
 
 use crate::refusals::Refusal;
@@ -14,10 +14,23 @@ use std::io::{ErrorKind, Read};
 /// How standard input is named where a file may be.
 pub const STANDARD_INPUT: &str = "-";
 
+/// What a text can be read of.
+pub trait Readable: Read + Drop {
+    ghost use Rattle.orders.specs.declared.refusals.Refusal.{Refusal};
+
+    /// Why it gives no text.
+    ghost fails: { Self → Refusal → Type 0 };
+
+    /// All its bytes, where they are not too many.
+    fn text(self, alloc: Global) -> Result<Vec<u8>, Refusal>
+        ensures text { IfOk result (λ bytes. IsTextOf (Self.remaining self) bytes.items) }
+        ensures refused { IfErr result (fails self) };
+}
+
 /// What opens files by their paths.
 pub trait Opener {
     /// What is read of a file.
-    type Reader: Read + Drop;
+    type Reader: Readable;
 
     /// Which file a path opens, or that it opens none.
     ghost opens: { Self → List ℕ → Option Self.Reader → Type 0 };
@@ -44,6 +57,22 @@ impl<S: Read, F: Read> Read for Input<S, F> {
             Input::Standard(standard) => standard.read(buf),
             Input::File(file) => file.read(buf),
         }
+    }
+}
+
+impl<S: Read + Drop, F: Read + Drop> Readable for Input<S, F> {
+    ghost fails = { λ i. IsUnreadable (elim i [ input.Standard s ↦ S.remaining s | input.File f ↦ F.remaining f ]) };
+
+    fn text(self, alloc: Global) -> Result<Vec<u8>, Refusal> {
+        bytes_of(alloc, self)
+    }
+}
+
+impl Readable for &[u8] {
+    ghost fails = { λ bytes. IsUnreadable (Some bytes.now) };
+
+    fn text(self, alloc: Global) -> Result<Vec<u8>, Refusal> {
+        bytes_of(alloc, self)
     }
 }
 
@@ -78,11 +107,7 @@ pub(crate) fn is_standard(path: &str) -> bool
 /// All bytes of a file, where they are not too many.
 pub fn bytes_of<R: Read + Drop>(alloc: Global, file: R) -> Result<Vec<u8>, Refusal>
     ensures text { IfOk result (λ bytes. IsTextOf (R.remaining file) bytes.items) }
-    ensures err { IfErr result
-        (λ refusal. (refusal ≡ Refusal.File) ⊎ (refusal ≡ Refusal.LongFile)
-        ⊎ (refusal ≡ Refusal.Memory)) }
-    ensures long { IfErr result
-        (λ refusal. refusal ≡ Refusal.LongFile → IsTooLong (R.remaining file)) }
+    ensures refused { IfErr result (IsUnreadable (R.remaining file)) }
 {
     let mut bytes = Vec::new(alloc);
     match file

@@ -14,7 +14,7 @@ mod tasks;
 mod words;
 
 pub use bounds::Bound;
-pub use inputs::{Input, Opener, bytes_of, input_of};
+pub use inputs::{Input, Opener, Readable, bytes_of, input_of};
 pub use orders::{Order, Request, command};
 pub use reasons::{Reason, refuse};
 pub use refusals::Refusal;

@@ -19,6 +19,16 @@ const WRITER_AND_READER: &[u8] =
 const SPLITTER: &[u8] =
     b"registers 2\nprocess\nuse split 0 1\nend\nprocess\nuse split 0 2\nend\ncheck atmost 3 0\n";
 
+/// The only part of an exploration, in which no schedule fails.
+const PART: &[u8] =
+    b"part 1 of 1\nprocesses 1\nlength 0\ncrashes 0\ncut 0\nsource 0\ntried 1\noutcomes 1\noutcome done idle\nleast none\nend\n";
+
+/// Words that print no answer on a source, and what is told where it is not passed on.
+const BESIDES: [(&str, &[u8]); 2] = [
+    ("regtry --version", b"regtry: write\n"),
+    ("regtry merge FILE", b"the answer could not be written\n"),
+];
+
 /// Words of the command line.
 #[derive(Clone, Copy)]
 struct Words {
@@ -140,6 +150,16 @@ fn output_that_is_not_taken_is_a_write_fault(rt: HostRuntime) {
 fn output_that_is_not_passed_on_is_a_write_fault(rt: HostRuntime) {
     for words in PRINTING {
         assert_fault_told(&rt, words, &mut Stuck);
+    }
+}
+
+#[test]
+fn a_version_and_merged_parts_that_are_not_passed_on_are_write_faults(rt: HostRuntime) {
+    for (first, line) in BESIDES {
+        let mut err = Vec::new(rt.alloc());
+        let words = Words { first, last: None };
+        let status = asked(&rt, words, PART, &mut Stuck, &mut err);
+        assert!(rt; (status, err.as_slice()) == (3, line));
     }
 }
 

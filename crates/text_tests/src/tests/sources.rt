@@ -152,3 +152,20 @@ fn a_source_is_written_behind_what_is_there(rt: HostRuntime) -> Result<(), Fail>
     );
     Ok(())
 }
+
+/// Sources as they are written.
+const WRITTEN: [&[u8]; 3] = [
+    b"registers 1\nprocess\nwrite 0 5\nend\n",
+    b"registers 1\nprocess\nrepeat 8\nemit 1\ndone\nend\n",
+    b"registers 2\nprocess\nuse split 0 1\nend\nprocess\nuse split 0 2\nend\ncheck atmost 3 0\n",
+];
+
+#[test]
+fn a_source_that_was_written_is_read_and_written_again(rt: HostRuntime) -> Result<(), Fail> {
+    for text in WRITTEN {
+        let mut out = Vec::new(rt.alloc());
+        write_source(&read_source(rt.alloc(), text)?, &mut out)?;
+        assert!(rt; out.as_slice() == text);
+    }
+    Ok(())
+}

@@ -1,17 +1,18 @@
-use Rattle.std.proofs.Common.{option_and_then, refl, sym, arith}
+use Rattle.std.proofs.Common.{sym, arith}
 use Rattle.std.proofs.lemmas.List.{get_or_default}
-use Rattle.cli.specs.Performing.{IsNext, IsOpened}
+use Rattle.cli.specs.Performing.{IsNext}
 use Rattle.cli.proofs.Steps.{one_more}
 use Rattle.cli.proofs.program.answer_each.Goals as goal
 
 pub loop-path-preserved : goal.loop-path-preserved
 loop-path-preserved g c =
-    one_more (IsNext g.W.Write.contents (IsOpened (g.O.Opener.opens c.args.opener.now) g.O.Reader.Read.remaining) c.args.order.now.task) (λ path. path.now) c.as_slice-path-items.result.now c.loop-path.path-index _ _ (c.loop-path.out, c.loop-path.worst) (c.answer-status.new.out, c.worse-worst.result) (omega arith) (sym (get_or_default c.as_slice-path-items.result.now c.loop-path.path-index _ _ (omega arith))) c.loop-path.invariant
+    one_more (IsNext g.W.Write.contents g.O.Reader.Read.remaining g.O.Reader.Readable.fails (g.O.Opener.opens c.args.opener.now) c.args.order.now.task) (λ path. path.now) c.as_slice-path-items.result.now c.loop-path.path-index _ _ (c.loop-path.out, c.loop-path.worst) (c.answer-status.new.out, c.worse-worst.result) (omega arith) (sym (get_or_default c.as_slice-path-items.result.now c.loop-path.path-index _ _ (omega arith))) c.loop-path.invariant
     (record {
-      file = option_and_then g.O.Reader.Read.remaining c.open.result;
-      opened_so = (c.open.result, c.open.ensures, refl);
+      file = c.open.result;
+      opened = c.open.ensures;
       status = c.answer-status.result;
       done = record {
+        no_file = c.answer-status.ensures.no_file;
         answered = c.answer-status.ensures.answered;
         refused = c.answer-status.ensures.refused;
         status_is = c.answer-status.ensures.status;

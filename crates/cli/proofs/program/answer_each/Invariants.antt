@@ -1,10 +1,10 @@
 use Rattle.std.proofs.Common.{drop, map}
 use Rattle.std.specs.List.{FoldsTo}
-use Rattle.cli.specs.Performing.{IsNext, IsOpened}
+use Rattle.cli.specs.Performing.{IsNext}
 use Rattle.cli.proofs.program.answer_each.Given as goal
 
 -- what comes of the files from here on comes of all of them from the start
 abbrev pub invariant-loop-path : goal.invariant-loop-path
 invariant-loop-path g l =
-    (last : _) → FoldsTo (IsNext g.W.Write.contents (IsOpened (g.O.Opener.opens l.opener) g.O.Reader.Read.remaining) l.order.task) (l.out, l.worst) (map (λ path. path.now) (drop l.path-index l.path-items)) last
-    → FoldsTo (IsNext g.W.Write.contents (IsOpened (g.O.Opener.opens l.opener) g.O.Reader.Read.remaining) l.order.task) (l.initial.out, 0) (map (λ path. path.now) l.path-items) last
+    (last : _) → FoldsTo (IsNext g.W.Write.contents g.O.Reader.Read.remaining g.O.Reader.Readable.fails (g.O.Opener.opens l.opener) l.order.task) (l.out, l.worst) (map (λ path. path.now) (drop l.path-index l.path-items)) last
+    → FoldsTo (IsNext g.W.Write.contents g.O.Reader.Read.remaining g.O.Reader.Readable.fails (g.O.Opener.opens l.opener) l.order.task) (l.initial.out, 0) (map (λ path. path.now) l.path-items) last
