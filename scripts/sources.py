@@ -6,11 +6,20 @@ from use_lines import MOST_TURNS, Refused, lines_of
 
 MOST_NUMBER = 1000000000
 CLOSING = {"if": ("fi", "else"), "else": ("fi",), "repeat": ("done",), "process": ("end",)}
-LENGTHS = {"set": {3, 5}, "read": {3}, "write": {3, 5}, "scan": {4}, "if": {2, 4}, "repeat": {2, 4}, "emit": {2, 4}, "halt": {1}}
+LENGTHS = {
+    "set": {3, 5},
+    "read": {3},
+    "write": {3, 5},
+    "scan": {4},
+    "if": {2, 4},
+    "repeat": {2, 4},
+    "emit": {2, 4},
+    "halt": {1},
+}
 
 
 class Source:
-    """What a source says: how many registers there are, the block of each process, and the words of each check."""
+    """What a source says: how many registers there are, the block of each process, the words of checks."""
 
     def __init__(self, text):
         self.lines = [*lines_of(text)]
@@ -39,7 +48,8 @@ class Source:
         return self.lines[self.at - 1]
 
     def block(self, opened):
-        """The statements up to the word that closes a block, and that word. A statement is its line, its words and its blocks."""
+        """The statements up to the word that closes a block, and that word. A statement is its line, its
+        words and its blocks."""
         statements = []
         while True:
             number, words = self.next()
@@ -62,7 +72,8 @@ def int_of(line, word):
 
 
 def most(block, first, begin=None):
-    """How often a block at most does lines with one of these first words, or with a word that begins so, whatever its process reads."""
+    """How often a block at most does lines with one of these first words, or with a word that begins so,
+    whatever its process reads."""
     total = 0
     for _, words, blocks in block:
         inner = max((most(it, first, begin) for it in blocks), default=0)

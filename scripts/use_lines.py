@@ -54,7 +54,8 @@ def grid(base, side, name):
 
 
 def tree(base, depth, name, value):
-    """A tree: v0 is the vertex, v1 whether the process stopped; cell v tells that the parent of vertex v was seen marked."""
+    """A tree: v0 is the vertex, v1 whether the process stopped; cell v tells that the parent of vertex v was
+    seen marked."""
     return f"""
     set v0 1
     repeat {depth}
@@ -111,8 +112,8 @@ def tree(base, depth, name, value):
 
 
 def renaming(base, slots, slot, looked, look):
-    """Rounds of a renaming, by the lines that look at all slots first, and those that look at slot v3. v0 is the proposal, v1 tells a
-    clash, v2 is the rank."""
+    """Rounds of a renaming, by the lines that look at all slots first, and those that look at slot v3. v0 is
+    the proposal, v1 tells a clash, v2 is the rank."""
     return f"""
     set v0 1
     repeat {MOST_TURNS}
@@ -194,7 +195,8 @@ def lines_of_use(number, words):
 
 
 def lines_of(text):
-    """Of each line with words its number and its words, and those of what it stands for in the place of each `use` line."""
+    """Of each line with words its number and its words; in the place of a `use` line the words of each line
+    that it stands for."""
     for number, line in enumerate(text.split("\n"), 1):
         words = line.split()
         if words and not words[0].startswith("#"):

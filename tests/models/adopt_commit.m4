@@ -1,6 +1,6 @@
 include(`algorithms.m4')dnl
-# Adopt-commit of COUNT processes that propose 1, 2, 1, 2 and so on: E. Gafni, 1998. A process emits 10 and the
-# value where it commits to it, and else the value that it adopts.
+# Adopt-commit of COUNT processes that propose 1, 2, 1, 2 and so on: E. Gafni, 1998. A process emits 10 and
+# the value where it commits to it, and else the value that it adopts.
 named(`PROPOSED', COUNT)dnl
 named(`SECOND', COUNT)dnl
 define(`LAST', eval(COUNT - 1))dnl

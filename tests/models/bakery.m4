@@ -1,6 +1,6 @@
 include(`algorithms.m4')dnl
-# Mutual exclusion by a bakery, for COUNT processes: L. Lamport, 1974. Who would wait gives up, and who gets in
-# stays in. At most one gets in.
+# Mutual exclusion by a bakery, for COUNT processes: L. Lamport, 1974. Who would wait gives up, and who gets
+# in stays in. At most one gets in.
 named(`TICKET', COUNT)dnl
 define(`LAST', eval(COUNT - 1))dnl
 registers REGISTERS

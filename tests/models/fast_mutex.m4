@@ -1,6 +1,6 @@
 include(`algorithms.m4')dnl
-# Mutual exclusion that is fast where a process is alone, for COUNT processes: L. Lamport, 1987. Who would wait
-# gives up, and who gets in stays in. At most one gets in.
+# Mutual exclusion that is fast where a process is alone, for COUNT processes: L. Lamport, 1987. Who would
+# wait gives up, and who gets in stays in. At most one gets in.
 named(`FIRST')dnl
 named(`SECOND')dnl
 named(`WANTS', COUNT)dnl

@@ -1,6 +1,6 @@
 include(`algorithms.m4')dnl
-# Mutual exclusion by a waiting room with two doors, for COUNT processes: B. K. Szymanski, 1988. Who would wait
-# gives up, and who gets in stays in. At most one gets in.
+# Mutual exclusion by a waiting room with two doors, for COUNT processes: B. K. Szymanski, 1988. Who would
+# wait gives up, and who gets in stays in. At most one gets in.
 named(`FLAG', COUNT)dnl
 define(`LAST', eval(COUNT - 1))dnl
 registers REGISTERS
