@@ -1,5 +1,7 @@
 """The lines that a `use` line stands for, as docs/LANGUAGE.md describes them, for tools that read sources."""
 
+import re
+
 MOST_TURNS = 99
 
 
@@ -198,6 +200,8 @@ def lines_of(text):
     """Of each line with words its number and its words; in the place of a `use` line the words of each line
     that it stands for."""
     for number, line in enumerate(text.split("\n"), 1):
+        if not re.fullmatch("[ -~]*", line):
+            raise Refused(number, "a byte that is not printable ASCII")
         words = line.split()
         if words and not words[0].startswith("#"):
             for each in lines_of_use(number, words) if words[0] == "use" else [words]:
