@@ -99,8 +99,9 @@ pub(crate) fn processors<H: Threads>(rt: &H) -> ProcessorCount {
     ProcessorCount { number }
 }
 
-/// How many workers a check or a search has whose words do not say: one where it remembers states, and as many as there are processors
-/// where it remembers none. Each worker would have a part of the memory to itself, and meet again what others met.
+/// How many workers a check or a search has whose words do not say: one where it remembers states,
+/// and as many as there are processors where it remembers none. Each worker would have a part of
+/// the memory to itself, and meet again what others met.
 pub(crate) fn workers_for(processors: ProcessorCount, remembers: bool) -> u32
     ensures told { result ≡ spec.workers_for processors.number remembers }
     ensures within { (1 ≤ result) × (result ≤ MOST_WORKERS) }
@@ -108,8 +109,8 @@ pub(crate) fn workers_for(processors: ProcessorCount, remembers: bool) -> u32
     if remembers { 1 } else { processors.number }
 }
 
-/// How far the words of a check or a search ask to go, with so many workers where they do not say. The error tells the first bound whose
-/// text is no number, or not one that it takes.
+/// How far the words of a check or a search ask to go, with so many workers where they do not say.
+/// The error tells the first bound whose text is no number, or not one that it takes.
 pub(crate) fn bounds_of(words: &ArgMatches<'_>, workers: u32) -> Result<Settings, Refusal>
     requires { (1 ≤ workers) × (workers ≤ MOST_WORKERS) }
     ensures ok { IfOk result (AreBoundsTold (one_text (found_of words.now)) workers) }

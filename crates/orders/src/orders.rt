@@ -52,10 +52,12 @@ pub enum Request<'a> {
     Merge(&'a str),
 }
 
-/// Reads the words of the command line, the program's name first. Where they are refused, also where they ask for help, a setting is past
-/// its limit, or a schedule or a pattern is no text of one, it prints why, and the error is the status. A check or a search whose words do
-/// not say how many workers it has has one where it remembers states, and else as many as there are processors, 1 to 16: `rt` tells that.
-/// `opener` opens standard input by its path where the words say that patterns are read from it.
+/// Reads the words of the command line, the program's name first. Where they are refused, also
+/// where they ask for help, a setting is past its limit, or a schedule or a pattern is no text of
+/// one, it prints why, and the error is the status. A check or a search whose words do not say how
+/// many workers it has has one where it remembers states, and else as many as there are processors,
+/// 1 to 16: `rt` tells that. `opener` opens standard input by its path where the words say that
+/// patterns are read from it.
 pub fn command<'a, H: Threads + AllocGlobal, S: AsStr, O: Opener, E: Write>(
     rt: &H,
     words: &'a Result<Vec<S>, Refusal>,
