@@ -62,7 +62,8 @@ pub record AreBoundsTold (told : List ℕ → Option (List ℕ)) (otherwise : �
 
 -- so it is with a check or a search; the megabytes in which states are remembered are those of the words, or else CACHE
 abbrev pub IsEffortTold : (List ℕ → Option (List ℕ)) → ℕ → Effort → Type 0
-IsEffortTold told processors effort = AreBoundsTold told (workers_for processors (nat_lt 0 effort.cache)) effort.settings × IsBoundTold (told (codes "cache")) CACHE effort.cache
+IsEffortTold told processors effort =
+    AreBoundsTold told (workers_for processors (nat_lt 0 effort.cache)) effort.settings × IsBoundTold (told (codes "cache")) CACHE effort.cache
 
 -- the megabytes in which states are remembered are those of the words, or else so many; there is a limit
 abbrev pub IsCacheTold : (List ℕ → Option (List ℕ)) → ℕ → ℕ → Type 0
