@@ -29,3 +29,5 @@ ifdef(`LAST_SUM', `  read v1 SUM
 ')dnl
 ends(v1)
 end
+# expect: holds
+# with: --length 26

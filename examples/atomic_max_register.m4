@@ -46,3 +46,5 @@ deeper(begins(3))
 deeper(ends(v1))
   done
 end
+# expect: holds
+# with: --length 16

@@ -25,3 +25,5 @@ define(`parts', `      set v8 0
       done')dnl
 processes(0, 1, `atomic_snapshot_updater.m4')dnl
 processes(2, 2, `atomic_snapshot_scanner.m4')dnl
+# expect: holds
+# with: --length 28

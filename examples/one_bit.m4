@@ -12,3 +12,5 @@ registers REGISTERS
 check atmost 8 0
 check ended
 processes(0, 2, `one_bit_process.m4')dnl
+ifdef(`KEEPS_BIT', `# expect: fails check atmost 8 0', `# expect: holds')
+# with: --length 48

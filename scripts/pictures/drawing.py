@@ -1,109 +1,83 @@
-"""A picture as SVG, and as TikZ for LaTeX."""
+"""A picture as SVG, as TikZ for LaTeX, and on pages of HTML that ask for no other file."""
 
+import json
+import os
+import re
 from html import escape
 from pathlib import Path
+from string import Template
 
-from layout import Box, Line, draw
+from layout import NARROW, SCREEN, WIDE, Picture
+from reading import ask, run_of_text
 
 HERE = Path(__file__).resolve().parent
-# How round a corner of a line is, and how wide the margin.
-ROUND, MARGIN = 4, 4
 # What means something else in LaTeX, by what stands for it.
-TEX = {it: "\\" + it for it in "#$%&_{}"}
-TEX.update({"\\": r"\textbackslash{}", "^": r"\textasciicircum{}", "~": r"\textasciitilde{}"})
-TEX.update({"<": r"\textless{}", ">": r"\textgreater{}", "|": r"\textbar{}", " ": r"\ "})
+TEX = {"\\": r"\textbackslash{}", "^": r"\textasciicircum{}", "~": r"\textasciitilde{}"}
+TEX.update({"<": r"\textless{}", ">": r"\textgreater{}", "|": r"\textbar{}"})
+TEX.update({it: "\\" + it for it in "#$%&_{} "})
+# An exploration of an example that fails, and what examples/README.md says of examples.
+FAILING = re.compile(r"(?m)^\$ \./regtry explore (\S+) (--length \d+ --crashes \d+) [^$]*?^fails ")
+SAID = re.compile(r"(?m)^\| (`.*) \| (.*) \|$")
 
 
-def number(value):
-    """A number with at most one decimal place."""
-    return f"{value:.1f}".rstrip("0").rstrip(".")
-
-
-def place(x, y):
-    """A place as the data of a path."""
-    return f"{number(x)} {number(y)}"
-
-
-def corner(before, at, after):
-    """Where a line leaves a corner's side, for a round corner, and where it comes back."""
-    near = []
-    for x, y in (before, after):
-        length = max(abs(x - at[0]), abs(y - at[1]))
-        part = min(ROUND, length / 2) / length if length else 0
-        near.append((at[0] + (x - at[0]) * part, at[1] + (y - at[1]) * part))
-    return f"L{place(*near[0])}Q{place(*at)} {place(*near[1])}"
-
-
-def path(points):
-    """A line as the data of a path."""
-    bends = zip(points, points[1:], points[2:])
-    if points[0] == points[-1]:
-        return "M" + "L".join(place(*it) for it in points[:-1]) + "Z"
-    return f"M{place(*points[0])}" + "".join(corner(*it) for it in bends) + f"L{place(*points[-1])}"
+def filled(name, /, **parts):
+    """A template of this folder with its parts."""
+    return Template((HERE / name).read_text()).substitute(parts)
 
 
 def element(shape):
     """A shape as an element of SVG."""
-    words = f'class="{shape.kind}"' + (f' data-step="{shape.step}"' if shape.step else "")
-    if isinstance(shape, Line):
-        return f'<path {words} d="{path(shape.points)}"/>'
-    xy = f'x="{number(shape.x)}" y="{number(shape.y)}"'
-    if isinstance(shape, Box):
-        sees = f' data-sees="{" ".join(map(str, shape.sees))}"' if shape.sees else ""
-        at = f'{xy} width="{number(shape.width)}" height="{number(shape.height)}"'
-        rounded = ' rx="8"' * shape.kind.startswith(("read", "scan"))
-        return f"<rect {words}{sees} {at}{rounded}/>"
-    turn = f' transform="rotate(90 {place(shape.x, shape.y)})"' if shape.turned else ""
-    anchor = "" if shape.anchor == "middle" else f' text-anchor="{shape.anchor}"'
-    return f'<text {words} {xy} dy=".35em"{anchor}{turn}>{escape(shape.text)}</text>'
+    words = f'class="{shape.kind}"' + f' data-step="{shape.step}"' * (shape.step > 0)
+    (x, y), (right, bottom) = shape.points[0], shape.points[-1]
+    if shape.form == "line":
+        return f'<path {words} d="M{"L".join(f"{x:g} {y:g}" for x, y in shape.points)}"/>'
+    words += f' x="{x:g}" y="{y:g}"'
+    if shape.form == "text":
+        words += f' transform="rotate(90 {x:g} {y:g})"' * shape.is_turned
+        return f'<text {words} dy=".35em">{escape(shape.text)}</text>'
+    words += f' data-sees="{" ".join(map(str, shape.sees))}"' * bool(shape.sees)
+    words += ' rx="8"' * shape.kind.startswith(("read", "scan"))
+    return f'<rect {words} width="{right - x:g}" height="{bottom - y:g}"/>'
 
 
-def svg(run, form, label, attributes=""):
-    """A picture as an element `svg`."""
-    shapes, width, height = draw(run, form)
-    width, height = number(width + 2 * MARGIN), number(height + 2 * MARGIN)
-    size = f'viewBox="-{MARGIN} -{MARGIN} {width} {height}" width="{width}" height="{height}"'
-    told = [element(it) for it in shapes if it.kind != "now" or attributes.startswith("class")]
-    head = f'<svg {attributes} {size} role="img" aria-label="{escape(label)}">\n'
-    return head + "\n".join(told) + "\n</svg>\n"
-
-
-def svg_file(run, form, label):
-    """A picture as a file of its own."""
-    style = f"<style>\n{(HERE / 'picture.css').read_text()}</style>\n"
-    head, rest = svg(run, form, label, 'xmlns="http://www.w3.org/2000/svg"').split("\n", 1)
-    paper = f'<rect class="paper" x="-{MARGIN}" y="-{MARGIN}" width="100%" height="100%"/>'
-    return f"{head}\n<title>{escape(label)}</title>\n{style}{paper}\n{rest}"
-
-
-def tex(text):
-    """A text as LaTeX has it."""
-    return "".join(TEX.get(it, it) for it in text)
-
-
-def pair(x, y):
-    """A place, or how wide and high, as TikZ has it."""
-    return f"({number(x)},{number(y)})"
-
-
-def drawn(shape):
+def command(shape):
     """A shape as a command of TikZ."""
-    if isinstance(shape, Line):
-        closed = shape.points[0] == shape.points[-1]
-        points = [pair(*it) for it in shape.points[: -1 if closed else None]]
-        return rf"\path[{shape.kind}] " + " -- ".join(points) + " -- cycle" * closed + ";"
-    at = pair(shape.x, shape.y)
-    if isinstance(shape, Box):
-        kind = shape.kind.replace(" ", ",")
-        return rf"\path[{kind}] {at} rectangle +{pair(shape.width, shape.height)};"
-    anchor = {"middle": "center", "start": "west", "end": "east"}[shape.anchor]
-    turn = ",rotate=-90" * shape.turned
-    return rf"\node[{shape.kind},anchor={anchor}{turn}] at {at} {{{tex(shape.text)}}};"
+    kind, places = shape.kind.replace(" ", ","), [f"({x:g},{y:g})" for x, y in shape.points]
+    if shape.form == "text":
+        turn, text = ",rotate=-90" * shape.is_turned, shape.text.translate(str.maketrans(TEX))
+        return rf"\node[{kind}{turn}] at {places[0]} {{{text}}};"
+    return rf"\path[{kind}] {(' -- ' if shape.form == 'line' else ' rectangle ').join(places)};"
 
 
-def tikz(run, form, label):
-    """A picture as an environment of TikZ, which needs no more than that package."""
-    shapes, _, _ = draw(run, form)
-    told = [drawn(it) for it in shapes if it.kind != "now" and getattr(it, "text", " ")]
-    head = (HERE / "picture.tex").read_text()
-    return f"% {label}\n{head}" + "\n".join(told) + "\n\\end{tikzpicture}\n"
+def drawn(run, form, language="svg"):
+    """A picture in a language, svg or tex, by its template there."""
+    picture, write = Picture(run, form), element if language == "svg" else command
+    parts = {"width": picture.width + 8, "height": picture.height + 8, "label": escape(run.label)}
+    parts["kind"] = "narrow" if form.is_upright else "wide"
+    return filled(f"picture.{language}", shapes="\n".join(map(write, picture.shapes)), **parts)
+
+
+def page(run, lead=""):
+    """The page of a run, below some HTML; its script fills in all but the pictures."""
+    data = json.dumps(run, default=vars).replace("<", r"\u003c")
+    parts = {"pictures": drawn(run, SCREEN) + drawn(run, NARROW), "title": escape(run.name)}
+    script = (HERE / "page.js").read_text()
+    return filled("page.html", lead=lead, run=data, script=script, **parts)
+
+
+def write_gallery(folder, program):
+    """Writes a page for each example that fails, the list of them, and one of the pictures."""
+    gallery, links = folder.resolve() / "gallery", []
+    gallery.mkdir(parents=True, exist_ok=True)
+    os.chdir(HERE.parent.parent)  # Sources are named from the top, as in documents.
+    for names, told in SAID.findall(Path("examples/README.md").read_text()):
+        told = re.sub("`(.*?)`", r"<code>\1</code>", escape(told[0].upper() + told[1:] + "."))
+        for name in re.findall(r"`(\w+)\.reg`", names):
+            if found := FAILING.search(Path(f"examples/{name}.report").read_text()):
+                run = run_of_text(ask(1, program, "check", found[1], *found[2].split()), program)
+                back = f'<p><a href="index.html">Schedules that fail</a></p>\n<p>{told}</p>'
+                (gallery / f"{name}.html").write_text(page(run, back))
+                links.append(f'<li><a href="{name}.html">{name}</a>: {told}</li>')
+                if name == "max_register_switch_first":
+                    (gallery.parent / "picture.svg").write_text(drawn(run, WIDE))
+    (gallery / "index.html").write_text(filled("index.html", links="\n".join(links)))

@@ -1,199 +1,101 @@
-"""What a picture shows: the drawing that `regtry show`, `check` and `find` print, read step by step.
-
-Nothing is computed here but which write each read sees, and that is held to the values that stand there.
-"""
+"""What a picture shows: the drawing that `regtry show`, `check` and `find` print, step by step."""
 
 import re
 import shlex
 import subprocess
-from collections import namedtuple
 from pathlib import Path
 
-MOST_OF_NAME = 16
-HEAD = re.compile(r"^step  process 0\b.*$", re.MULTILINE)
-COLUMN = re.compile(r"process \d+|r\d+")
-ACT = re.compile(r"(write) (\d+) (\d+)|(read) (\d+) = (\d+)|(scan) (\d+) (\d+)|(crash)")
-VERDICT = re.compile(
-    r"^.*?: a schedule of \d+ letters? (?:(fails)(?:, and no shorter one)?: |(leads to) )(.*)$", re.MULTILINE
-)
-NAME = re.compile(r"^ *# *(process|register) (\d+): *([!-~](?:[ -~]*[!-~])?) *$", re.MULTILINE)
-SINCE = re.compile(r"^It fails from step (\d+) on\.$", re.MULTILINE)
-REPLAY = re.compile(r"^regtry replay (.+)$", re.MULTILINE)
-END = re.compile(r"(?:done|fault|crashed|running)\b")
-NOTE = re.compile(r"At its end process|left out: ")
-
-# A step: who took it, what it did, as `write`, `read`, `scan` or `crash`, from which register on, how many,
-# the value that it wrote or read, whether its process is at fault after it, and by register the step of the
-# write that it sees, 0 for the start.
-Step = namedtuple("Step", "number process verb register count value faulty sees")
-
-# A run: its name, which is that of its file; its schedule; whether it fails or leads to an outcome, and
-# which; from which step on; its steps; what each register held after each of them, as texts; how each process
-# stands at the end; the names of processes and registers; what is said below the drawing; and the source.
-Run = namedtuple("Run", "name schedule claim since steps values ends processes registers notes source")
+HEAD = re.compile(r"(?m)^step  process 0\b.*$")
+ACT = re.compile(r"(write|read|scan|crash)(?: (\d+)(?: =)? (\d+)(?: =[ \d]*)?)?(?:, [df][ \w]*)?")
+CLAIM = re.compile(r": a schedule of \d+ letters? (fails|leads to)(?:, and no shorter one)?(:? .*)")
+SINCE = re.compile(r"(?m)^It fails( from step (\d+) on)\.$")
+SHOW = re.compile(r"(?m)^regtry show (?:-- )?(.+)$")
+NOTE = re.compile(r"(?m)^(?:At its end process|left out: )[^;\n]*")
+# A comment line that gives a name of at most 16 characters.
+NAME = re.compile(r"(?m)^ *# *((?:process|register) \d+): *([!-~](?:[ -~]{0,14}[!-~])?) *$")
+# Why there is no drawing, by how a text begins.
+NO_DRAWING = {r"$": "standard input is empty", r"processes \d+$|part \d+ of ": "that is a report"}
+NO_DRAWING.update({".*: no schedule ": "no schedule is drawn there", "": "no drawing stands there"})
 
 
 class Refused(Exception):
     """Why there is no picture."""
 
 
-def ask(program, file, schedule):
-    """What `show` prints of a schedule, with all registers. Why it refuses one it says itself."""
-    words = [program, "show", "--all", "--", file, schedule]
-    try:
-        ran = subprocess.run(words, stdin=subprocess.DEVNULL, stdout=subprocess.PIPE)
-    except OSError as error:
-        raise Refused(f"{program} does not run: {error.strerror}") from error
-    if ran.returncode != 0:
-        raise Refused("regtry show draws no such schedule")
-    return ran.stdout.decode()
+class Step:
+    """What a process did to which registers, which writes it sees, and whether it is at fault."""
+
+    def __init__(self, row, names, wrote):
+        self.number, text = int(row[0]), " ".join(filter(None, row[1:]))
+        told = ACT.fullmatch(text)
+        if not told:
+            raise Refused(f"step {self.number} of the drawing cannot be read")
+        self.process, self.verb, self.is_fault = row[1:].index(text), told[1], ", fault" in text
+        first, value, is_read = int(told[2] or 0), int(told[3] or 0), told[1] in ("read", "scan")
+        self.registers = [*range(first, first + {"scan": value, "crash": 0}.get(self.verb, 1))]
+        self.sees = sorted(wrote[it][0] for it in self.registers if is_read and it in wrote)
+        if self.verb == "read" and value != wrote.get(first, (0, 0))[1]:
+            raise Refused(f"step {self.number} of the drawing reads what no step before it wrote")
+        if self.verb == "write":
+            wrote[first] = self.number, value
+        ends = sorted({*self.registers[:1], *self.registers[-1:]})
+        sign = {"write": f" := {value}", "read": f" = {value}"}.get(self.verb, "")
+        self.on = " .. ".join(names.get(it, f"r{it}") for it in ends) + sign + " !" * self.is_fault
+        self.act = f"{self.verb} {self.on}".strip()
 
 
-def source_of(file):
-    """The text of a source."""
-    try:
-        return Path(file).read_text(encoding="ascii")
-    except (OSError, ValueError) as error:
-        raise Refused(f"{file}: the source cannot be read") from error
+class Run:
+    """The steps of a schedule, what registers hold between them, and what else is said of it."""
+
+    def __init__(self, drawing, file, told=""):
+        lines = drawing[HEAD.search(drawing).start() :].splitlines()
+        starts = [it.start() for it in re.finditer(r"step|process \d+|r\d+", lines[0])]
+        columns = [slice(*it) for it in zip(starts, [*starts[1:], None])]
+        heads, *rows = [[line[it].strip(" *") for it in columns] for line in lines]
+        first, last = lines[0].count("process") + 1, [it[0] for it in rows + [[""]]].index("")
+        self.ends = rows[last][1:first] if rows[last:] else [""]
+        if [it[0] for it in rows[:last]] != [*map(str, range(last))] or not all(self.ends):
+            raise Refused("the drawing is cut off: hand over all of it")
+        try:
+            self.source = Path(file).read_text(encoding="ascii") if file != "-" else ""
+        except (OSError, ValueError) as error:
+            raise Refused(f"{file}: the source cannot be read") from error
+        names, wrote = dict(NAME.findall(self.source)), {}
+        self.processes = [names.get(it, it) for it in heads[1:first]]
+        self.registers = {int(it[1:]): names.get(f"register {it[1:]}", it) for it in heads[first:]}
+        self.values = [dict(zip(self.registers, it[first:])) for it in rows[:last]]
+        self.steps = [Step(it[:first], self.registers, wrote) for it in rows[1:last]]
+        letters = ["CR"[it.verb != "crash"] + str(it.process) for it in self.steps]
+        self.schedule, self.notes = " ".join(letters) or ".", NOTE.findall("\n".join(lines))
+        claim, since = CLAIM.search(told), SINCE.search(told) or ("", "", 0)
+        self.caption = claim[1].capitalize() + since[1] + claim[2] if claim else ""
+        name, self.since = file if file != "-" else "a schedule", int(since[2])
+        self.name = "".join(it if it.isprintable() else "?" for it in name)
+        self.label = f"{self.name}: {self.schedule}" + f". {self.caption}" * bool(claim)
 
 
-def no_drawing(text):
-    """Says what stands there in place of a drawing."""
-    if not text.strip():
-        return "standard input is empty: hand over what check, find or show prints"
-    if re.match(r"processes \d+$|part \d+ of", text, re.MULTILINE):
-        return "that is a report, which draws nothing: hand over what check, find or show prints"
-    if ": no schedule " in text:
-        return "no schedule is drawn there: " + text.strip().splitlines()[0]
-    return "no drawing stands there: hand over what check, find or show prints"
+def ask(status, *words):
+    """What a command prints that is to end with this status. Why it does not it says itself."""
+    ran = subprocess.run(words, stdin=subprocess.DEVNULL, stdout=subprocess.PIPE, text=True)
+    if ran.returncode != status:
+        raise Refused(f"{shlex.join(words)}: it ends with status {ran.returncode}")
+    return ran.stdout
 
 
 def run_of_text(text, program):
-    """The run that a text of `check`, `find` or `show` draws. Registers that it leaves out are asked for."""
-    heads = HEAD.findall(text)
-    if not heads:
-        raise Refused(no_drawing(text))
-    if len(heads) > 1:
-        raise Refused(f"{len(heads)} schedules are drawn there: hand over one")
-    verdict, since = VERDICT.search(text), SINCE.search(text)
-    file, schedule = replayed(text)
-    if file != "-" and "\nleft out: " in text:
-        text = ask(program, file, schedule)
-    claim = (verdict[1] or verdict[2], verdict[3]) if verdict else None
-    return read(text, file if file != "-" else None, claim, int(since[1]) if since else None)
-
-
-def replayed(text):
-    """The source and the schedule that a text says how to replay; a dash where it does not."""
-    replay = REPLAY.search(text)
+    """The run that `check`, `find` or `show` draws. Registers that are left out are asked for, but of
+    `show`, which does not name its source."""
+    first, count, drawing = text.strip().partition("\n")[0], len(HEAD.findall(text)), text
+    if not count:
+        why = next(it for begin, it in NO_DRAWING.items() if re.match(begin, first))
+        raise Refused(f"{why}: {first or 'hand over what check, find or show prints'}")
+    if count > 1:
+        raise Refused(f"{count} schedules are drawn there: hand over one")
+    show = SHOW.search(text)
     try:
-        words = [it for it in shlex.split(replay[1]) if it != "--"] if replay else ["-", ""]
-    except ValueError:
-        words = []
-    if len(words) != 2:
-        raise Refused(f"that is no line of a replay: {replay[0]}")
-    return words
-
-
-def run_of_schedule(file, schedule, program):
-    """The run of a schedule of a source."""
-    if file == "-":
-        raise Refused("the source has to be a file: standard input can be read once")
-    return read(ask(program, file, schedule), file, None, None)
-
-
-def names(source, word, numbers, short):
-    """What processes or registers are called, by the comment lines of a source."""
-    lines = [it for it in NAME.finditer(source or "") if it[1] == word and len(it[3]) <= MOST_OF_NAME]
-    told = {int(it[2]): it[3] for it in lines}
-    return {it: told.get(it, f"{short}{it}") for it in numbers}
-
-
-def cells(line, starts):
-    """The texts of a line, by the columns that begin at these places."""
-    return [line[start:end].strip() for start, end in zip(starts, [*starts[1:], None])]
-
-
-def read(text, file, claim, since):
-    """Reads a drawing, and the names that its source gives to processes and registers."""
-    lines = text[HEAD.search(text).start() :].splitlines()
-    columns = list(COLUMN.finditer(lines[0]))
-    starts = [it.start() for it in columns]
-    count = sum(it[0].startswith("process") for it in columns)
-    registers = [int(it[0][1:]) for it in columns[count:]]
-    told = [cells(it, starts) for it in rows_of_steps(lines[1:])]
-    ends = cells((lines[1 + len(told) :] or [""])[0], starts)[:count]
-    if not told or not all(END.match(it) for it in ends):
-        raise Refused("the drawing is cut off: hand over all of what check, find or show prints")
-    steps = []
-    for line in told[1:]:
-        steps.append(step_of(line[:count], steps))
-    values = [{it: value.rstrip("*") for it, value in zip(registers, line[count:])} for line in told]
-    schedule = " ".join("CR"[it.verb != "crash"] + str(it.process) for it in steps) or "."
-    source = source_of(file) if file else None
-    processes = names(source, "process", range(count), "process ")
-    called = names(source, "register", registers, "r")
-    notes = [it.split("; regtry")[0] for it in lines if NOTE.match(it)]
-    name = "".join(it if it.isprintable() else "?" for it in file or "a schedule")
-    return Run(name, schedule, claim, since, steps, values, ends, processes, called, notes, source)
-
-
-def rows_of_steps(lines):
-    """The lines of the start and of each step."""
-    for number, line in enumerate(lines):
-        if not re.match(rf"{number}(?: |$)", line):
-            return
-        yield line
-
-
-def step_of(told, earlier):
-    """The step that a line tells in the column of its process."""
-    number = len(earlier) + 1
-    acting = [process for process, text in enumerate(told) if text]
-    act = ACT.fullmatch(told[acting[0]].replace(" !", "")) if len(acting) == 1 else None
-    if not act:
-        raise Refused(f"step {number} of the drawing cannot be read")
-    verb, register, value = ([it for it in act.groups() if it] + [0, 0])[:3]
-    register, value = int(register), int(value)
-    span = range(register, register + value) if verb == "scan" else [register] if verb == "read" else []
-    sees = {it: last_write(it, earlier) for it in span}
-    if verb == "read" and value != (earlier[sees[register] - 1].value if sees[register] else 0):
-        raise Refused(f"step {number} of the drawing reads what no step before it wrote")
-    return Step(number, acting[0], verb, register, len(span) or 1, value, told[acting[0]].endswith("!"), sees)
-
-
-def last_write(register, earlier):
-    """The step of the last write of a register, 0 where there is none."""
-    return next((it.number for it in reversed(earlier) if it.verb == "write" and it.register == register), 0)
-
-
-def writes_of(step):
-    """The steps of the writes that a step sees."""
-    return sorted({it for it in step.sees.values() if it})
-
-
-def title(run, step):
-    """What a step does, as its verb and on what."""
-    name = run.registers.get(step.register, f"r{step.register}")
-    last = step.register + step.count - 1
-    on = {
-        "write": f"{name} := {step.value}",
-        "read": f"{name} = {step.value}",
-        "scan": f"{name} .. {run.registers.get(last, f'r{last}')}" if step.count > 1 else name,
-        "crash": "",
-    }[step.verb]
-    return step.verb, on + " !" * step.faulty
-
-
-def caption(run):
-    """What is said of a run: which check breaks, or where it leads."""
-    if not run.claim:
-        return []
-    word, rest = run.claim
-    since = f" from step {run.since} on" if run.since else ""
-    return [f"Fails{since}: {rest}" if word == "fails" else f"Leads to {rest}"]
-
-
-def label(run):
-    """What a picture shows, in words."""
-    return f"{run.name}: {run.schedule}" + "".join(f". {it}" for it in caption(run))
+        file, schedule = shlex.split(show[1]) if show else ("-", "")
+    except ValueError as error:
+        raise Refused(f"that is no command that draws: {show[0]}") from error
+    if file != "-" and "\nleft out: " in text:
+        drawing = ask(0, program, "show", "--all", "--", file, schedule)
+    return Run(drawing, file, text)

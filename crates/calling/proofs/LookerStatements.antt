@@ -1,7 +1,8 @@
 -- The statements of a looker's program.
 use Rattle.std.proofs.Common.{◌≡◌, ℕ, List, [], ◌∷◌, refl, ap, ◌∙◌}
 use Rattle.regmodel.specs.Program as program
-use Rattle.regmodel.specs.Program.{Program, block_of}
+use Rattle.regmodel.specs.Program.{Program}
+use Rattle.regmodel.specs.Blocks.{block_of}
 use Rattle.regmodel.specs.declared.programs.Expr.TheVariants.{One}
 use Rattle.regmodel.specs.declared.programs.Operand.TheVariants as operand
 use Rattle.regmodel.specs.declared.programs.Stmt.{Stmt}

@@ -1,5 +1,5 @@
 -- What the program does with what was ordered.
-use Rattle.std.specs.Prelude.{◌≡◌, ◌≢◌, ℕ, ◌≤◌, ◌++◌, List, codes, map, max, None, IsNone, Option, Result, Ok, Err, option_and_then}
+use Rattle.std.specs.Prelude.{◌≡◌, ◌≢◌, ⊤, ℕ, ◌≤◌, ◌++◌, List, codes, map, max, None, IsNone, Option, Result, Ok, Err, option_and_then}
 use Rattle.std.specs.List.{FoldsTo}
 use Rattle.texts.specs.Appending.{Writes}
 use Rattle.command_words.specs.declared.TheConstants.{VERSION}
@@ -21,7 +21,7 @@ pub record IsAnsweredOrRefused {W R : Type 0} (contents : W → Option (List ℕ
     (path : List ℕ) (asked : Task) (file : Option R) (old new : W) (status : ℕ) : Type 0 where
   pub no_file : IsNone file → status ≡ 2
   pub answered : status ≤ 1 → IsAnswered path asked (option_and_then remaining file) (contents old) (contents new) status
-  pub refused : 2 ≤ status → IsRefusedWith contents remaining fails path asked file old new status
+  pub refused : 2 ≤ status → IsRefusedWith contents remaining fails (λ why. ⊤) path asked file old new status
   pub status_is : status ≤ 3
 
 -- the file of one more path, which is opened so, is answered or refused; beside what the writer holds stands the highest status so far

@@ -10,15 +10,16 @@ use Rattle.reglang.specs.Grammar.{Spells}
 use Rattle.texts.specs.Appending.{Writes}
 use Rattle.orders.specs.Inputs.{IsTextOf}
 
--- the plain report of the source that the text spells, by its reduced schedules; refused are the outcomes that do not meet all of its
--- clauses
+-- the plain report of the source that the text spells, and how many its reduced schedules are;
+-- refused are the outcomes that do not meet all of its clauses
 pub record IsReportOf (settings : Settings) (text : List ℕ) (report : Findings) : Type 0 where
   pub source : Contents
   pub spelled : Spells text source
   pub report_is : IsPlainReport (programs_in source) settings.length settings.crashes (meets_all source.clauses) report
   pub tried : report.tried ≡ length (reduced_schedules (programs_in source) settings.crashes settings.length)
 
--- the report of the text of the file is written whole, and the status is 1 where a schedule fails, else 0
+-- the report of the text of the file is written whole, and the status is 1 where a schedule fails,
+-- else 0
 pub record IsReportWritten (settings : Settings) (file old new : Option (List ℕ)) (status : ℕ) : Type 0 where
   pub text : List ℕ
   pub read : IsTextOf file text

@@ -1,5 +1,5 @@
 -- The statuses with which the program tells that there is no answer.
-use Rattle.std.specs.Prelude.{ℕ}
+use Rattle.std.specs.Prelude.{ℕ, Bool, true, false}
 use Rattle.orders.specs.Statuses as orders
 use Rattle.part_texts.specs.declared.faults.Cause.{Cause}
 use Rattle.part_texts.specs.declared.faults.Cause.TheVariants as cause
@@ -19,6 +19,11 @@ merge_status (merging.Text bad) = line_status bad.cause
 merge_status merging.TooMany = 3
 merge_status merging.NoMemory = 3
 merge_status _ = 2
+
+-- whether the text is no source
+abbrev pub is_of_source : AnswerFault → Bool
+is_of_source (Source rejection) = true
+is_of_source other = false
 
 -- 2 where what was asked is refused, 3 where it could not be done
 abbrev pub status_of : AnswerFault → ℕ

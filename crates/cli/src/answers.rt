@@ -1,28 +1,35 @@
 //! Does what was asked, and gives the status.
 
-ghost use Rattle.std.specs.Prelude.{◌≡◌, ◌≤◌, ◌⊎◌, Bool, IfErr, IfOk, IsNone, None, Some, false, if◌then◌else◌, option_and_then};
+ghost use Rattle.std.specs.Prelude.{◌≡◌, ◌≤◌, ◌⊎◌, Bool, IfErr, IfOk, IsNone, List, None, Option, Some, false, if◌then◌else◌, option_and_then, true, ℕ};
 ghost use Rattle.findings.specs.FindingText.{finding_text};
 ghost use Rattle.report.specs.declared.effort.Effort.{Effort};
 ghost use Rattle.orders.specs.declared.tasks.Task.TheVariants as asked;
-ghost use Rattle.cli.specs.Answers.{IsAnswered, IsCutShort, IsRefusedWith, IsUnanswered};
+ghost use Rattle.cli.specs.Answers.{IsAnswered, IsCutShort, IsRefusedWith, IsTold, IsUnanswered};
+ghost use Rattle.cli.specs.Refusals.{Finds};
 ghost use Rattle.cli.specs.Reports.{IsReportWritten};
+ghost use Rattle.cli.specs.Statuses.{is_of_source, status_of};
 ghost use Rattle.cli.specs.Written.{Tells};
+ghost use Rattle.orders.specs.Inputs.{IsTextOf};
+ghost use Rattle.orders.specs.Orders.{is_in_words};
+ghost use Rattle.orders.specs.Reasons.{IsStatusOf};
 
 use crate::faults::AnswerFault;
 use crate::progress::Progress;
 use crate::tasks::found;
 use explanations::write_explanation;
 use findings::Finding;
-use orders::{Question, Readable, Refusal, refuse};
+use orders::{Question, Readable, Reason, Refusal, refuse};
 use std::alloc::Global;
 use std::io::Write;
 use std::sync::Wait;
 use std::thread::Threads;
 
-/// Does what is asked of the source in the file, and writes what it found. The status is 0 where that is done, but 1 where it tells of a
-/// schedule that fails or was looked for, unless it is of a part; 2 where the file, the source or a letter is refused; 3 where it could not be
-/// done. At 2 and 3 a line on `err` says why, and `out` is as before, unless it did not take the whole text: then it took a beginning of it, and
-/// the status is 3. `file` is None where it could not be opened. Where progress is asked for, `err` is told of it before.
+/// Does what is asked of the source in the file, and writes what it found. The status is 0 where
+/// that is done, but 1 where it tells of a schedule that fails or was looked for, unless it is of a
+/// part; 2 where the file, the source or a letter is refused; 3 where it could not be done. At 2
+/// and 3 `err` is told why, and `out` is as before, unless it did not take the whole text: then it
+/// took a beginning of it, and the status is 3. `file` is None where it could not be opened. Where
+/// progress is asked for, `err` is told of it before.
 pub fn answer<H: Threads + Wait + Sync, R: Readable, W: Write, E: Write + Send>(
     rt: &H,
     alloc: Global,
@@ -41,8 +48,11 @@ pub fn answer<H: Threads + Wait + Sync, R: Readable, W: Write, E: Write + Send>(
         → IsAnswered question.now.path.now question.now.task.now (option_and_then R.remaining file)
         (W.contents out.old) (W.contents out.new) result }
     ensures refused { 2 ≤ result
-        → IsRefusedWith W.contents R.remaining R.fails question.now.path.now question.now.task.now
-        file out.old out.new result }
+        → IsRefusedWith W.contents R.remaining R.fails
+        (λ fault. question.now.progress ≡ false → is_in_words question.now.task.now ≡ true
+        → IsTold question.now.path.now (option_and_then R.remaining file) fault
+        (E.contents err.old) (E.contents err.new))
+        question.now.path.now question.now.task.now file out.old out.new result }
     ensures silent { result ≡ 2 → out.new ≡ out.old }
     ensures cut_short { result ≡ 3
         → (out.new ≡ out.old)
@@ -55,8 +65,22 @@ pub fn answer<H: Threads + Wait + Sync, R: Readable, W: Write, E: Write + Send>(
     };
     match written {
         Ok(fails) => u8::from(fails),
-        Err(fault) => refuse(&fault, question.subject(), err),
+        Err(fault) => told(question, &fault, err),
     }
+}
+
+/// Tells why there is no answer, and gives the status. A source that is refused in words is
+/// explained already.
+fn told<E: Write>(question: &Question<'_>, fault: &AnswerFault, err: &mut E) -> u8
+    ensures status { IsStatusOf status_of fault.now result }
+    ensures explained { is_in_words question.now.task.now ≡ true → is_of_source fault.now ≡ true
+        → err.new ≡ err.old }
+{
+    let subject = question.subject();
+    if subject.is_some() && fault.is_of_source() {
+        return fault.status();
+    }
+    refuse(fault, subject, err)
 }
 
 /// Writes what is found of the source in the file. Whether a schedule fails. A source that is refused is explained on `err` where refusals
@@ -75,17 +99,37 @@ fn written<H: Threads + Wait + Sync, R: Readable, W: Write, E: Write + Send>(
     ensures refused { IfErr result
         (IsUnanswered W.contents R.remaining R.fails question.now.path.now question.now.task.now
         (Some file) out.old out.new) }
+    ensures told { IfErr result (λ fault. question.now.progress ≡ false
+        → is_in_words question.now.task.now ≡ true
+        → IsTold question.now.path.now (R.remaining file) fault (E.contents err.old)
+        (E.contents err.new)) }
 {
     let text = file.text(alloc)?;
-    let progress = Progress::new(rt, err, question.progress);
-    let found = found(rt, alloc, question.task, text.as_slice(), &progress);
-    drop(progress);
-    let finding = match found {
+    let finding = match found_in(rt, alloc, question, text.as_slice(), err) {
         Ok(finding) => finding,
         Err(fault) => return Err(explained(question, text.as_slice(), fault, err)),
     };
     tell(question.path, text.as_slice(), &finding, out)?;
     Ok(finding.fails())
+}
+
+/// What is found of a text. Where that is asked for, `err` is told meanwhile how far it has come.
+fn found_in<H: Threads + Wait + Sync, E: Write + Send>(
+    rt: &H,
+    alloc: Global,
+    question: &Question<'_>,
+    text: &[u8],
+    err: &mut E,
+) -> Result<Finding, AnswerFault>
+    ensures found { Finds question.now.task.now text.now result }
+    ensures silent { question.now.progress ≡ false → err.new ≡ err.old }
+{
+    if question.progress {
+        let progress = Progress::telling(rt, err);
+        return found(rt, alloc, question.task, text, &progress);
+    }
+    let silent: Progress<'_, H, E> = Progress::silent(rt);
+    found(rt, alloc, question.task, text, &silent)
 }
 
 /// Why nothing is found of a text. Where refusals are told in words, it is written what is wrong with the text of a refused source, as far as that
@@ -96,7 +140,10 @@ fn explained<E: Write>(
     fault: AnswerFault,
     err: &mut E,
 ) -> AnswerFault
-    ensures { result ≡ fault }
+    ensures same { result ≡ fault }
+    ensures told { (file : Option (List ℕ)) → IsTextOf file text.now
+        → is_in_words question.now.task.now ≡ true
+        → IsTold question.now.path.now file fault (E.contents err.old) (E.contents err.new) }
 {
     if let Some(path) = question.subject() {
         if let AnswerFault::Source(rejection) = &fault {

@@ -7,6 +7,7 @@ ghost use Rattle.cli.specs.Statuses.{line_status, merge_status};
 ghost use Rattle.cli.specs.declared.faults.AnswerFault.TheVariants.{Refused};
 
 use crate::standings::RefusedLetter;
+use explorer::faults::NOT_STARTED;
 use explorer::{NO_MEMORY, RunFault, TOO_MANY};
 use merging::MergeFault;
 use orders::{Reason, Refusal};
@@ -42,6 +43,17 @@ pub enum AnswerFault {
     /// A text that could not be written whole.
     #[error("write")]
     Write,
+}
+
+impl AnswerFault {
+    ghost use Rattle.cli.specs.Statuses as statuses;
+
+    /// Whether the text is no source.
+    pub(crate) fn is_of_source(&self) -> bool
+        ensures { result ≡ statuses.is_of_source self.now }
+    {
+        matches!(self, AnswerFault::Source(_))
+    }
 }
 
 impl Reason for AnswerFault {
@@ -151,6 +163,7 @@ fn run_reason(fault: &RunFault) -> &'static str {
     match fault.code {
         NO_MEMORY => "memory ran out while exploring",
         TOO_MANY => "there are more schedules than can be counted",
-        _ => "a worker's thread could not be started",
+        NOT_STARTED => "a worker's thread could not be started",
+        _ => "the exploration has no report",
     }
 }

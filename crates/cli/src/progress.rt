@@ -58,15 +58,18 @@ pub struct Progress<'a, H, E> {
 }
 
 impl<'a, H, E> Progress<'a, H, E> {
-    /// No piece was taken, and none is known.
-    pub fn new(rt: &'a H, err: &'a mut E, is_asked: bool) -> Progress<'a, H, E> {
+    /// It tells on this writer. No piece was taken, and none is known.
+    pub fn telling(rt: &'a H, err: &'a mut E) -> Progress<'a, H, E> {
         let counts = Counts { taken: 0, known: 0 };
-        let telling = if is_asked {
-            Some(Mutex::new(Telling { counts, err }))
-        } else {
-            None
-        };
-        Progress { rt, telling }
+        Progress {
+            rt,
+            telling: Some(Mutex::new(Telling { counts, err })),
+        }
+    }
+
+    /// It tells nothing.
+    pub fn silent(rt: &'a H) -> Progress<'a, H, E> {
+        Progress { rt, telling: None }
     }
 }
 

@@ -33,7 +33,7 @@ ninth number. With --allow-faults only a check that is broken counts.
 
 Where a schedule fails, it prints the least one that does: the first check that its outcome breaks and the line of
 that check, the lowest process at fault and why, the schedule as a drawing (see regtry show --help), and the command that
-replays it.
+draws it again.
 The least schedule is often not the shortest. With --shortest the lengths 0, 1, 2 and so on are tried one after another, and the
 least schedule of the first length at which one fails is printed. Below the greatest length a check for `ended` is left out.
 Where none fails, it prints how much was tried, and whether schedules were cut off at the greatest length with a process
@@ -65,7 +65,7 @@ Where several are given, an outcome has to match one of them. A dash in place of
 a line, also a line of a report that begins with `outcome`: regtry explore .. | grep .. | regtry find FILE -
 
 It prints the least schedule that leads to such an outcome, as a drawing (see regtry show --help), and the command that
-replays it; or that no schedule leads there.
+draws it again; or that no schedule leads there.
 
 Example: regtry find FILE 'done 1; done 1' shows how both processes can be done with 1.
 
@@ -99,10 +99,13 @@ Processes are numbered from 0, in the order of the source. A letter is possible 
 and has not crashed.
 
 Example: regtry show FILE 'R0 R1 C0' draws three steps.
-It prints a line a letter: in the column of its process `write 0 5` for a write of 5 into register 0, `read 0 = 5` for a read
-that found 5 there, `scan 0 3` for a scan of 3 registers from 0 on, or `crash`, with ! behind it where its process is at fault after it;
-then what each register holds after it, r0 first, with a star where the letter changed it. The line of step 0 has what they hold at
-the start. Below the letters a line says how each process stands, and then the lowest process at fault is told, if any, and why.
+It prints a line a letter: in the column of its process `write 0 5` for a write of 5 into register
+0, `read 0 = 5` for a read that found 5 there, `scan 0 3 = 5 0 7` for a scan of 3 registers from 0
+on with what it found in each, or `crash`; behind the last letter of a process how that came to its
+end by it, as `, done 4` or `, fault 2`; then what each register holds after it, r0 first, with a
+star where the letter changed it. The line of step 0 has what they hold at the start. Below the
+letters a line says how each process stands, and then the lowest process at fault is told, if any,
+and why.
 
 A line is at most 80 places long where there are at most two processes, else 132. Registers are left out until that holds or none is left,
 first those that no letter changes, and each time the last one; a line below then says how many. With --all none is left out.

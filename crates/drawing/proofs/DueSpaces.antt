@@ -1,7 +1,8 @@
 -- The spaces that are due, and texts whose loop has ended.
 use Rattle.std.proofs.Common.{◌≡◌, ℕ, ◌+◌, ◌≤◌, ◌==◌, Bool, true, false, List, length, Option, if◌then◌else◌, subst, arith}
 use Rattle.texts.specs.Appending.{Puts}
-use Rattle.drawing.specs.DrawingText.{gap_past, joined}
+use Rattle.drawing.specs.Cells.{joined}
+use Rattle.drawing.specs.DrawingText.{gap_past}
 
 either-low : (empty : Bool) (a b limit : ℕ) → a ≤ limit → b ≤ limit → (if empty then a else b) ≤ limit
 either-low true a b limit h k = h

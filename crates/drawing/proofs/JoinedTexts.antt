@@ -3,7 +3,8 @@ use Rattle.std.proofs.Common.{◌≡◌, ℕ, zero, suc, ◌+◌, ◌-◌, ◌<�
 use Rattle.std.proofs.lemmas.List.{append-nil}
 use Rattle.texts.specs.Appending.{Puts}
 use Rattle.texts.proofs.Appending.{after_text, fault_before}
-use Rattle.drawing.specs.DrawingText.{drawing_text, gap_before, gap_past, joined, table_text}
+use Rattle.drawing.specs.Cells.{joined}
+use Rattle.drawing.specs.DrawingText.{drawing_text, gap_before, gap_past, table_text}
 use Rattle.drawing.specs.Layout.{columns_shown, widths}
 use Rattle.drawing.specs.Pictures.{Picture}
 

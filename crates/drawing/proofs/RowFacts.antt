@@ -11,7 +11,7 @@ use Rattle.regmodel.specs.Replies.{value_after}
 use Rattle.world.specs.Registers.{values_after}
 use Rattle.drawing.specs.declared.drawings.Held.{Held}
 use Rattle.drawing.specs.declared.drawings.Row.{Row}
-use Rattle.drawing.specs.Pictures.{AreRowsOf, IsPictureOf, IsRowOf, Picture, is_fault_of}
+use Rattle.drawing.specs.Pictures.{AreRowsOf, IsPictureOf, IsRowOf, Picture}
 use Rattle.drawing.specs.Registers.{all_held, held_after}
 use Rattle.regmodel.proofs.NumberedLists.{at_place}
 
@@ -30,10 +30,6 @@ held-told programs v w n r before now made told there =
 -- what registers hold, of programs and registers that have stayed the same
 pub values-same : (ps qs : List Program) (n m : ℕ) (v w : Schedule) (now : List ℕ) → qs ≡ ps → m ≡ n → w ≡ v → now ≡ values_after qs w m → now ≡ values_after ps v n
 values-same ps qs n m v w now same count went told = told ∙ (ap (λ rs. values_after rs w m) same ∙ (ap (values_after ps w) count ∙ ap (λ u. values_after ps u n) went))
-
--- whether a process is at fault, of programs that have stayed the same
-pub fault-same : (ps qs : List Program) (v w : Schedule) (p q : ℕ) (found : Bool) → qs ≡ ps → w ≡ v → q ≡ p → found ≡ is_fault_of q (outcome_of qs w) → found ≡ is_fault_of p (outcome_of ps v)
-fault-same ps qs v w p q found same went one told = told ∙ (ap (λ rs. is_fault_of q (outcome_of rs w)) same ∙ (ap (λ u. is_fault_of q (outcome_of ps u)) went ∙ ap (λ r. is_fault_of r (outcome_of ps v)) one))
 
 -- what registers hold past a letter, of programs and registers that have stayed the same
 pub held-past : (ps qs : List Program) (n m : ℕ) (v w : Schedule) (a : Letter) (before now : List ℕ) (held : List Held) → ((programs : List Program) → (x y : Schedule) → (k : ℕ) → before ≡ values_after programs x k → now ≡ values_after programs y k → held ≡ all_held programs k x y)

@@ -1,7 +1,11 @@
 -- The texts of a drawing, cell by cell: lines from 0, the header, the start, a line a letter, the ends; columns from 0, the letters'
 -- numbers, a column a process, a column a register.
-use Rattle.std.specs.Prelude.{ℕ, ◌-◌, ◌==◌, List, [], ◌++◌, length, Option, Some, None, codes, decimal, if◌then◌else◌, nat_le, slice_get}
-use Rattle.texts.specs.OutcomeText.{end_text}
+use Rattle.std.specs.Prelude.{ℕ, zero, suc, ◌+◌, ◌-◌, ◌==◌, ◌&&◌, Bool, true, false, not, List, [], ◌++◌, length, Option, Some, None}
+use Rattle.std.specs.Prelude.{codes, decimal, if◌then◌else◌, nat_le, nat_lt, slice_get}
+use Rattle.std.specs.List.{list_any}
+use Rattle.texts.specs.OutcomeText.{end_text, fate_text}
+use Rattle.regmodel.specs.declared.outcomes.End as fates
+use Rattle.regmodel.specs.declared.outcomes.End.TheVariants as fate
 use Rattle.regmodel.specs.declared.outcomes.ProcEnd.{ProcEnd}
 use Rattle.drawing.specs.declared.cells.Line as lines
 use Rattle.drawing.specs.declared.cells.Line.TheVariants as line
@@ -11,12 +15,10 @@ use Rattle.drawing.specs.declared.drawings.Held.{Held}
 use Rattle.drawing.specs.declared.drawings.Row.{Row}
 use Rattle.drawing.specs.Pictures.{Picture}
 
--- what a letter did
-abbrev pub deed_text : Deed → List ℕ
-deed_text (Read r v) = codes "read " ++ decimal r ++ codes " = " ++ decimal v
-deed_text (Write r v) = codes "write " ++ decimal r ++ codes " " ++ decimal v
-deed_text (Scan first count) = codes "scan " ++ decimal first ++ codes " " ++ decimal count
-deed_text Crash = codes "crash"
+-- the texts f 0, f 1 and so on, n of them, one after another
+abbrev pub joined : (ℕ → List ℕ) → ℕ → List ℕ
+joined f zero = []
+joined f (suc n) = joined f n ++ f n
 
 -- what a register holds; a star follows where the letter changed it
 abbrev pub held_text : Held → List ℕ
@@ -27,9 +29,49 @@ abbrev pub text_at : {X : Type 0} → (X → List ℕ) → Option X → List ℕ
 text_at text (Some x) = text x
 text_at text None = []
 
--- what a row's letter did; a mark follows where its process is at fault after it
-abbrev pub row_text : Row → List ℕ
-row_text row = deed_text row.deed ++ (if row.is_at_fault then codes " !" else [])
+-- what a register holds, behind a space
+abbrev pub value_text : Held → List ℕ
+value_text held = codes " " ++ decimal held.value
+
+-- what a scan of so many registers from the first on finds in a register, where it is one of them
+abbrev pub found_text : List Held → ℕ → ℕ → ℕ → List ℕ
+found_text registers first count r = if nat_le first r && nat_lt r (first + count) then text_at value_text (slice_get registers r) else []
+
+-- what it finds in all of them
+abbrev pub scanned_text : List Held → ℕ → ℕ → List ℕ
+scanned_text registers first count = joined (found_text registers first count) (length registers)
+
+-- what a letter did, after which registers hold this
+abbrev pub deed_text : List Held → Deed → List ℕ
+deed_text registers (Read r v) = codes "read " ++ decimal r ++ codes " = " ++ decimal v
+deed_text registers (Write r v) = codes "write " ++ decimal r ++ codes " " ++ decimal v
+deed_text registers (Scan first count) =
+    codes "scan " ++ decimal first ++ codes " " ++ decimal count ++ codes " =" ++ scanned_text registers first count
+deed_text registers Crash = codes "crash"
+
+-- whether a process has come to its end by itself
+abbrev pub is_over : fates.End → Bool
+is_over (fate.Done numbers) = true
+is_over (fate.Fault code) = true
+is_over fate.Crashed = false
+is_over fate.Running = false
+
+-- how a process came to its end by its last letter: done, or at fault
+abbrev pub ending_text : ProcEnd → List ℕ
+ending_text end = if is_over end.fate then codes ", " ++ fate_text end.fate else []
+
+-- whether a letter comes after the one with this number and is one of this process
+abbrev pub is_later : ℕ → ℕ → Row → Bool
+is_later number process row = row.process == process && nat_lt number row.number
+
+-- whether no later letter is one of the same process
+abbrev pub is_last : List Row → Row → Bool
+is_last rows row = not (list_any (is_later row.number row.process) rows)
+
+-- what a row's letter did, and where it is the last one of its process, how that came to its end
+abbrev pub row_text : Picture → Row → List ℕ
+row_text picture row =
+    deed_text row.registers.items row.deed ++ (if is_last picture.rows row then text_at ending_text (slice_get picture.ends row.process) else [])
 
 -- what a line is: the header, the start, one letter's row, or the ends
 pub data Line : Type 0 where
@@ -62,12 +104,12 @@ number_cell Start = codes "0"
 number_cell (Letter row) = decimal row.number
 number_cell End = []
 
--- a line in the column of process p: what the letter did, where it is one of p, and at the end how p stands
-abbrev pub process_cell : List ProcEnd → ℕ → Line → List ℕ
-process_cell ends p Head = codes "process " ++ decimal p
-process_cell ends p Start = []
-process_cell ends p (Letter row) = if row.process == p then row_text row else []
-process_cell ends p End = text_at end_text (slice_get ends p)
+-- a line in the column of process p: what the letter did, where it is one of p, and by its last one how p came to its end; then how p stands
+abbrev pub process_cell : Picture → ℕ → Line → List ℕ
+process_cell picture p Head = codes "process " ++ decimal p
+process_cell picture p Start = []
+process_cell picture p (Letter row) = if row.process == p then row_text picture row else []
+process_cell picture p End = text_at end_text (slice_get picture.ends p)
 
 -- a line in the column of register r
 abbrev pub register_cell : List Held → ℕ → Line → List ℕ
@@ -80,7 +122,7 @@ register_cell start r End = []
 abbrev pub line_cell : Picture → Line → ℕ → List ℕ
 line_cell picture line column =
     if column == 0 then number_cell line else
-    (if nat_le column (length picture.ends) then process_cell picture.ends (column - 1) line
+    (if nat_le column (length picture.ends) then process_cell picture (column - 1) line
     else register_cell picture.start (column - 1 - length picture.ends) line)
 
 -- the text at a line and a column

@@ -1,14 +1,9 @@
 -- The text of a drawing.
 use Rattle.std.specs.Prelude.{ℕ, zero, suc, ◌+◌, ◌-◌, ◌==◌, Bool, List, [], ◌++◌, length, codes, decimal, if◌then◌else◌, get_or}
 use Rattle.drawing.specs.declared.layout.TheConstants.{PARTING}
-use Rattle.drawing.specs.Cells.{cell_text}
+use Rattle.drawing.specs.Cells.{cell_text, joined}
 use Rattle.drawing.specs.Layout.{columns_shown, line_count, widths}
 use Rattle.drawing.specs.Pictures.{Picture}
-
--- the texts f 0, f 1 and so on, n of them, one after another
-abbrev pub joined : (ℕ → List ℕ) → ℕ → List ℕ
-joined f zero = []
-joined f (suc n) = joined f n ++ f n
 
 -- so many spaces
 abbrev pub spaces : ℕ → List ℕ

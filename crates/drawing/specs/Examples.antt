@@ -1,5 +1,5 @@
 -- Worked examples: the definitions compute.
-use Rattle.std.specs.Prelude.{◌≡◌, ℕ, true, false, [], ◌∷◌, refl, Some, codes}
+use Rattle.std.specs.Prelude.{◌≡◌, ℕ, true, false, [], ◌∷◌, ◌++◌, refl, Some, codes}
 use Rattle.std.specs.Fmt.{digits}
 use Rattle.regmodel.specs.declared.letters.Letter.TheVariants.{Run, Crash}
 use Rattle.regmodel.specs.declared.outcomes.End.TheVariants as end
@@ -8,6 +8,7 @@ use Rattle.regmodel.specs.Examples.{scans_two, two_writers, writer_and_reader}
 use Rattle.regmodel.specs.Replies.{value_after}
 use Rattle.drawing.specs.declared.drawings.Deed.TheVariants as deed
 use Rattle.drawing.specs.declared.drawings.Held.{Held}
+use Rattle.drawing.specs.declared.drawings.Row.{Row}
 use Rattle.drawing.specs.Cells.{row_text}
 use Rattle.drawing.specs.DrawingText.{drawing_text, left_out_text}
 use Rattle.drawing.specs.Layout.{columns_shown}
@@ -40,8 +41,8 @@ abbrev both : Picture
 both = record {
   start = kept 0 ∷ [];
   rows =
-      record { number = 1; process = 0; deed = deed.Write 0 5; is_at_fault = false; registers = record { items = changed_to 5 ∷ [] } }
-      ∷ record { number = 2; process = 1; deed = deed.Read 0 5; is_at_fault = false; registers = record { items = kept 5 ∷ [] } } ∷ [];
+      record { number = 1; process = 0; deed = deed.Write 0 5; registers = record { items = changed_to 5 ∷ [] } }
+      ∷ record { number = 2; process = 1; deed = deed.Read 0 5; registers = record { items = kept 5 ∷ [] } } ∷ [];
   ends =
       record { started = true; fate = end.Done (record { items = [] }) }
       ∷ record { started = true; fate = end.Done (record { items = 5 ∷ [] }) } ∷ [];
@@ -51,21 +52,33 @@ pub picture_of_both : IsPictureOf writer_and_reader 1 (Run 0 ∷ Run 1 ∷ []) b
 picture_of_both = record {
   start = refl;
   rows = (
-    record { number = refl; process = refl; deed = refl; at_fault = refl; registers_are = refl },
-    (record { number = refl; process = refl; deed = refl; at_fault = refl; registers_are = refl }, tt),
+    record { number = refl; process = refl; deed = refl; registers_are = refl },
+    (record { number = refl; process = refl; deed = refl; registers_are = refl }, tt),
   );
   ends = refl;
 }
 
-pub text_of_both : drawing_text false both ≡ codes "step  process 0  process 1   r0\n0                            0\n1     write 0 5              5*\n2                read 0 = 5  5\n      done       done 5\n"
+pub text_of_both : drawing_text false both ≡
+    codes "step  process 0        process 1           r0\n"
+    ++ codes "0                                          0\n"
+    ++ codes "1     write 0 5, done                      5*\n"
+    ++ codes "2                      read 0 = 5, done 5  5\n"
+    ++ codes "      done             done 5\n"
 unfolding digits
 text_of_both = refl
 
 -- ---- a fault
 
-pub a_fault_is_marked : row_text (record { number = 1; process = 0; deed = deed.Write 0 5; is_at_fault = true; registers = record { items = [] } }) ≡ codes "write 0 5 !"
+-- a process that scans two registers and names then one that is not there
+abbrev scan_row : Row
+scan_row = record { number = 1; process = 0; deed = deed.Scan 1 2; registers = record { items = kept 0 ∷ kept 7 ∷ kept 12 ∷ [] } }
+
+abbrev faulty : Picture
+faulty = record { start = kept 0 ∷ kept 7 ∷ kept 12 ∷ []; rows = scan_row ∷ []; ends = record { started = true; fate = end.Fault 2 } ∷ [] }
+
+pub a_scan_and_a_fault_are_told : row_text faulty scan_row ≡ codes "scan 1 2 = 7 12, fault 2"
 unfolding digits
-a_fault_is_marked = refl
+a_scan_and_a_fault_are_told = refl
 
 -- ---- what is left out
 
@@ -73,7 +86,7 @@ a_fault_is_marked = refl
 abbrev last_of_three : Picture
 last_of_three = record {
   start = kept 0 ∷ kept 0 ∷ kept 0 ∷ [];
-  rows = record { number = 1; process = 0; deed = deed.Write 2 5; is_at_fault = false; registers = record { items = kept 0 ∷ kept 0 ∷ changed_to 5 ∷ [] } } ∷ [];
+  rows = record { number = 1; process = 0; deed = deed.Write 2 5; registers = record { items = kept 0 ∷ kept 0 ∷ changed_to 5 ∷ [] } } ∷ [];
   ends = record { started = true; fate = end.Done (record { items = [] }) } ∷ [];
 }
 

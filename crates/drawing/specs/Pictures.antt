@@ -1,5 +1,5 @@
 -- What is drawn of a schedule.
-use Rattle.std.specs.Prelude.{◌≡◌, ℕ, ◌+◌, Bool, false, List, [], ◌∷◌, ◌++◌, length, slice_get, IfErr, IfOk, OnOk, Option, Result, Some, None}
+use Rattle.std.specs.Prelude.{◌≡◌, ℕ, ◌+◌, List, [], ◌∷◌, ◌++◌, length, IfErr, IfOk, OnOk, Option, Result, Some, None}
 use Rattle.regmodel.specs.declared.accesses.Access.{Access}
 use Rattle.regmodel.specs.declared.accesses.Access.TheVariants as access
 use Rattle.regmodel.specs.declared.accesses.Pending.{Pending}
@@ -7,7 +7,6 @@ use Rattle.regmodel.specs.declared.letters.Letter.{Letter}
 use Rattle.regmodel.specs.declared.letters.Letter.TheVariants as letter
 use Rattle.regmodel.specs.declared.outcomes.ProcEnd.{ProcEnd}
 use Rattle.regmodel.specs.Wanted.{wanted_after}
-use Rattle.regmodel.specs.Judging.{is_faulty}
 use Rattle.regmodel.specs.Letters.{Schedule, process_of}
 use Rattle.regmodel.specs.Outcomes.{outcome_of}
 use Rattle.regmodel.specs.Program.{Program}
@@ -39,16 +38,11 @@ deed_by values (letter.Run p) (Some (access.Scan first count)) = Some (deed.Scan
 deed_by values (letter.Run p) None = None
 deed_by values (letter.Crash p) wanted = Some deed.Crash
 
--- whether a process ends at fault
-abbrev pub is_fault_of : ℕ → List ProcEnd → Bool
-is_fault_of p ends = elim (slice_get ends p) [ Some end ↦ is_faulty end | None ↦ false ]
-
 -- the row of a letter that comes after `before`
 pub record IsRowOf (programs : List Program) (registers : ℕ) (before : Schedule) (letter : Letter) (row : Row) : Type 0 where
   pub number : row.number ≡ length before + 1
   pub process : row.process ≡ process_of letter
   pub deed : deed_by (value_after programs before) letter (wanted_after programs before (process_of letter)) ≡ Some row.deed
-  pub at_fault : row.is_at_fault ≡ is_fault_of (process_of letter) (outcome_of programs (before ++ letter ∷ []))
   pub registers_are : row.registers.items ≡ all_held programs registers before (before ++ letter ∷ [])
 
 -- a row for each letter of `later`, which comes after `before`

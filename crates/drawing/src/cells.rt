@@ -1,6 +1,7 @@
 //! The texts of a drawing, cell by cell.
 
 ghost use Rattle.std.specs.Prelude.{◌≡◌, ◌≤◌, ◌<◌, ◌+◌, ◌++◌, [], codes, decimal, length};
+ghost use Rattle.std.specs.List.{list_any};
 ghost use Rattle.texts.specs.OutcomeText.{end_text, fate_text};
 ghost use Rattle.drawing.specs.Cells as texts;
 ghost use Rattle.drawing.specs.Layout.{column_count, line_count};
@@ -11,8 +12,9 @@ use itoa::Buffer;
 use regmodel::{End, ProcEnd};
 use std::marker::Model;
 
-/// The most bytes of a cell: those of a process that is done with eight numbers of ten digits, and of ` idle`.
-pub(crate) const MOST_CELL_BYTES: usize = 97;
+/// The most bytes of a cell: those of a scan of 64 numbers of ten digits, by which its process is
+/// done with eight of them.
+pub(crate) const MOST_CELL_BYTES: usize = 832;
 
 /// The most bytes of a number.
 const MOST_DIGITS: usize = 10;
@@ -73,10 +75,11 @@ impl Cell {
     }
 }
 
-/// What a letter did.
-fn deed_cell(deed: Deed) -> Cell
-    ensures text { result ≡ texts.deed_text deed }
-    ensures long { length result ≤ 30 }
+/// What a letter did, after which registers hold this.
+fn deed_cell(deed: Deed, registers: &[Held]) -> Cell
+    requires { length registers.now ≤ 64 }
+    ensures text { result ≡ texts.deed_text registers.now deed }
+    ensures long { length result ≤ 734 }
 {
     match deed {
         Deed::Read(r, value) => Cell::new()
@@ -89,24 +92,46 @@ fn deed_cell(deed: Deed) -> Cell
             .with_number(u32::from(r))
             .with(b" ")
             .with_number(value),
-        Deed::Scan(first, count) => Cell::new()
-            .with(b"scan ")
-            .with_number(u32::from(first))
-            .with(b" ")
-            .with_number(u32::from(count)),
+        Deed::Scan(first, count) => {
+            let scan = Cell::new()
+                .with(b"scan ")
+                .with_number(u32::from(first))
+                .with(b" ")
+                .with_number(u32::from(count))
+                .with(b" =");
+            with_scanned(scan, registers, usize::from(first), usize::from(count))
+        }
         Deed::Crash => Cell::new().with(b"crash"),
     }
 }
 
-/// What a row's letter did, and a mark where its process is at fault after it.
-fn row_cell(row: &Row) -> Cell
-    ensures { result ≡ texts.row_text row.now }
+/// The same with what a scan of so many registers from the first on finds in them last.
+fn with_scanned(cell: Cell, registers: &[Held], first: usize, count: usize) -> Cell
+    requires short { length cell ≤ 30 }
+    requires few { (length registers.now ≤ 64) × (first ≤ 255) × (count ≤ 255) }
+    ensures text { result ≡ cell ++ texts.scanned_text registers.now first count }
+    ensures long { length result ≤ 734 }
 {
-    let cell = deed_cell(row.deed);
-    if row.is_at_fault {
-        cell.with(b" !")
-    } else {
-        cell
+    let mut cell = cell;
+    for r in 0..registers.len() {
+        let found = found_cell(registers, first, count, r);
+        cell = cell.with(found.bytes().as_slice());
+    }
+    cell
+}
+
+/// What a scan of so many registers from the first on finds in a register, where it is one of them.
+fn found_cell(registers: &[Held], first: usize, count: usize, r: usize) -> Cell
+    requires { (first ≤ 255) × (count ≤ 255) }
+    ensures text { result ≡ texts.found_text registers.now first count r }
+    ensures long { length result ≤ 11 }
+{
+    if r < first || first + count <= r {
+        return Cell::new();
+    }
+    match registers.get(r) {
+        Some(held) => Cell::new().with(b" ").with_number(held.value),
+        None => Cell::new(),
     }
 }
 
@@ -147,6 +172,27 @@ fn end_cell(end: &ProcEnd) -> Cell
     } else {
         cell.with(b" idle")
     }
+}
+
+/// The same with how a process came to its end last, where it is done or at fault.
+fn with_ending(cell: Cell, end: &ProcEnd) -> Cell
+    requires { length cell ≤ 734 }
+    ensures { result ≡ cell ++ texts.ending_text end.now }
+{
+    match &end.fate {
+        End::Done(_) | End::Fault(_) => {
+            let ending = fate_cell(&end.fate);
+            cell.with(b", ").with(ending.bytes().as_slice())
+        }
+        End::Crashed | End::Running => cell,
+    }
+}
+
+/// Whether a letter comes after the one with this number and is one of this process.
+fn is_later(number: u8, process: u8, row: &Row) -> bool
+    ensures { result ≡ texts.is_later number process row.now }
+{
+    row.process == process && number < row.number
 }
 
 /// A line of a drawing.
@@ -219,13 +265,42 @@ impl Drawing {
         }
     }
 
+    /// What a row's letter did, and where it is the last one of its process, how that came to its
+    /// end.
+    fn row_cell(&self, row: &Row) -> Cell
+        ensures { result ≡ texts.row_text self.now row.now }
+    {
+        let cell = deed_cell(row.deed, row.registers.as_slice());
+        if !self.is_last(row) {
+            return cell;
+        }
+        match self.outcome().ends().get(usize::from(row.process)) {
+            Some(end) => with_ending(cell, end),
+            None => cell,
+        }
+    }
+
+    /// Whether no later letter is one of the same process.
+    fn is_last(&self, row: &Row) -> bool
+        ensures { result ≡ texts.is_last self.now.rows row.now }
+    {
+        !self.has_later(row.number, row.process)
+    }
+
+    /// Whether a letter comes after the one with this number and is one of this process.
+    fn has_later(&self, number: u8, process: u8) -> bool
+        ensures { result ≡ list_any (texts.is_later number process) self.now.rows }
+    {
+        self.rows().iter().any(|row| is_later(number, process, row))
+    }
+
     /// The text of a line in the column of a process.
     fn process_cell(&self, line: Line<'_>, p: u8) -> Cell
-        ensures { result ≡ texts.process_cell self.now.ends p (texts.line_of line.entry) }
+        ensures { result ≡ texts.process_cell self.now p (texts.line_of line.entry) }
     {
         match line {
             Line::Head => Cell::new().with(b"process ").with_number(u32::from(p)),
-            Line::Row(row) if row.process == p => row_cell(row),
+            Line::Row(row) if row.process == p => self.row_cell(row),
             Line::Start | Line::Row(_) => Cell::new(),
             Line::End => match self.outcome().ends().get(usize::from(p)) {
                 Some(end) => end_cell(end),

@@ -13,7 +13,7 @@ pub enum Deed {
     Read(u8, u32),
     /// It wrote into this register this value.
     Write(u8, u32),
-    /// It read from this register on so many at once; what they held stands in their columns.
+    /// It read from this register on so many at once; what they held is what they hold after it.
     Scan(u8, u8),
     /// Its process crashed. It is the default because `ArrayVec` asks for one.
     #[default]
@@ -38,8 +38,6 @@ pub struct Row {
     pub process: u8,
     /// What the letter did.
     pub deed: Deed,
-    /// Whether its process is at fault after it.
-    pub is_at_fault: bool,
     /// What each register holds after it, registers from 0.
     pub registers: ArrayVec<Held, 64>,
 }

@@ -17,15 +17,15 @@ pub(crate) const NARROW: usize = 80;
 pub(crate) const WIDE: usize = 132;
 
 /// How wide columns are, at most all of them.
-pub(crate) type Widths = ArrayVec<u8, MOST_COLUMNS>;
+pub(crate) type Widths = ArrayVec<u16, MOST_COLUMNS>;
 
 /// How wide the column is: as wide as its widest text.
-fn width_of(drawing: &Drawing, column: u8) -> u8
+fn width_of(drawing: &Drawing, column: u8) -> u16
     ensures { result ≡ layout.width_of drawing.now column }
 {
     let mut width = 0;
     for line in 0..drawing.lines() {
-        let long = drawing.cell(line, column).bytes().len() as u8;
+        let long = drawing.cell(line, column).bytes().len() as u16;
         width = width.max(long);
     }
     width
@@ -70,7 +70,7 @@ fn fixed_columns(drawing: &Drawing) -> usize
 fn room_of(drawing: &Drawing, widths: &Widths, first: bool, columns: usize) -> usize
     requires { columns ≤ length widths.now.items }
     ensures value { result ≡ layout.room_of drawing.now widths.now.items first columns }
-    ensures few { result ≤ 257 * columns }
+    ensures few { result ≤ 65537 * columns }
 {
     let mut room = 0;
     for column in 0..columns {

@@ -14,7 +14,7 @@ use texts::{Block, Text, WriteFault};
 #[derive(Clone, Copy)]
 pub(crate) struct Table<'a> {
     pub(crate) drawing: &'a Drawing,
-    pub(crate) widths: &'a [u8],
+    pub(crate) widths: &'a [u16],
     pub(crate) columns: &'a [u8],
     ghost few: { length columns.now ≤ MOST_COLUMNS },
     ghost wide: { length widths.now ≤ MOST_COLUMNS },

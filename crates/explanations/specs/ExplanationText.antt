@@ -1,5 +1,5 @@
 -- What is wrong with a source that is refused, in words.
-use Rattle.std.specs.Prelude.{ℕ, ◌+◌, ◌-◌, not, if◌then◌else◌, List, [], ◌++◌, Option, Some, None, codes, decimal, is_some, slice_index}
+use Rattle.std.specs.Prelude.{ℕ, ◌+◌, ◌-◌, not, if◌then◌else◌, List, [], ◌++◌, Option, Some, None, codes, decimal, is_some, option_map, slice_index}
 use Rattle.std.specs.List.{position}
 use Rattle.explanations.specs.Advice.{advice_text}
 use Rattle.explanations.specs.OpenBlocks.{innermost, open_after}
@@ -12,7 +12,7 @@ use Rattle.explanations.specs.declared.wording.Culprit.TheVariants.{End, Line, W
 use Rattle.reglang.specs.Checks.{line_at}
 use Rattle.reglang.specs.declared.refusals.LineFault.TheVariants as fault
 use Rattle.reglang.specs.declared.refusals.LineRefusal.{LineRefusal}
-use Rattle.reglang.specs.declared.refusals.LineRefusal.TheVariants.{Fault, Memory}
+use Rattle.reglang.specs.declared.refusals.LineRefusal.TheVariants.{Fault}
 use Rattle.reglang.specs.declared.reader.Rejection.{Rejection}
 use Rattle.explanations.specs.Shown.{is_shown, printable_text, shown}
 
@@ -62,9 +62,10 @@ line_explained path number rejection line opened =
 abbrev pub lines_before : Rejection → ℕ
 lines_before rejection = if rejection.is_of_end then rejection.line else rejection.line - 1
 
--- a block of a text, with the number that is told of its line
+-- a block of a text, with the numbers that are told of its lines
 abbrev pub block_told : List ℕ → Option Opened → Option Opened
-block_told text (Some opened) = Some (record { block = opened.block; line = line_told text opened.line })
+block_told text (Some opened) =
+    Some (record { block = opened.block; line = line_told text opened.line; else_line = option_map (line_told text) opened.else_line })
 block_told text None = None
 
 -- what is wrong with a text that is refused, in the file of this path

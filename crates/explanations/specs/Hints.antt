@@ -1,18 +1,24 @@
 -- What to write in place of an unknown word.
-use Rattle.std.specs.Prelude.{ℕ, ◌==◌, ◌||◌, Bool, true, false, if◌then◌else◌, List, [], ◌∷◌, Option, Some, None, codes, is_some}
+use Rattle.std.specs.Prelude.{ℕ, ◌==◌, ◌||◌, ◌&&◌, Bool, true, false, if◌then◌else◌, List, [], ◌∷◌, ◌++◌, Option, Some, None, codes, is_some}
 use Rattle.std.specs.List.{list_any}
-use Rattle.std.specs.Str.{bytes_eq}
-use Rattle.explanations.specs.LineForms.{first_of, form_of}
-use Rattle.explanations.specs.Misfits.{first_that, is_keyword, is_unknown}
+use Rattle.std.specs.Option.{unwrap_or}
+use Rattle.explanations.specs.Idioms.{idiom_of}
+use Rattle.explanations.specs.LineForms.{first_of, keyword_form, own_line_text, wanted_form}
+use Rattle.explanations.specs.Misfits.{first_that, is_unknown}
+use Rattle.explanations.specs.Nearest.{meant_text, nearest}
 use Rattle.reglang.specs.Forms.{target_of}
-use Rattle.reglang.specs.Words.{word_of}
+use Rattle.reglang.specs.Sorts.{sorts_after}
+use Rattle.reglang.specs.Words.{first_byte_is, word_of}
+use Rattle.reglang.specs.declared.sorts.Sort.{Sort}
+use Rattle.reglang.specs.declared.sorts.Sort.TheVariants as sort
+use Rattle.reglang.specs.declared.vocabulary.Keyword.{Keyword}
 use Rattle.reglang.specs.declared.vocabulary.Keyword.TheVariants as keyword
 use Rattle.reglang.specs.declared.words.Word.{Word}
 use Rattle.reglang.specs.declared.words.Word.TheVariants as word
 
--- whether a byte stands in an operator
+-- whether a byte stands in an operator, here or in another language
 abbrev pub is_operator_byte : ℕ → Bool
-is_operator_byte b = b == 43 || (b == 45 || (b == 42 || (b == 61 || b == 60)))
+is_operator_byte b = b == 43 || (b == 45 || (b == 42 || (b == 61 || (b == 60 || (b == 62 || (b == 47 || (b == 37 || (b == 38 || b == 124))))))))
 
 -- where no more is known of a word
 abbrev pub any_word : List ℕ
@@ -21,50 +27,90 @@ any_word = codes "write numbers, variables v0 to v15, cells [0] to [31] or [v0] 
 -- of a word that begins with this byte
 abbrev pub hint_of_start : ℕ → List ℕ
 hint_of_start b =
-    if b == 118 then codes "write one of the variables v0 to v15" else
-    (if b == 91 then codes "write one of the cells [0] to [31] and [v0] to [v15]" else
-    (if b == 114 then codes "name a register by its number alone" else any_word))
+    if b == 118 || b == 86 then codes "write one of the variables v0 to v15" else
+    (if b == 114 || b == 82 then codes "name a register by its number alone" else any_word)
 
--- of a word that begins with this byte, and has a byte of an operator or not
-abbrev pub hint_with : ℕ → Bool → List ℕ
-hint_with b with_operator =
-    if b == 35 then codes "write the comment on a line of its own" else
-    (if with_operator then codes "part operands and operators by spaces, as in v0 + 1" else hint_of_start b)
+-- of a word that begins with this byte, and has a byte of an operator or not, and a bracket or not
+abbrev pub hint_with : ℕ → Bool → Bool → List ℕ
+hint_with b with_operator with_bracket =
+    if b == 45 then codes "there are no negative numbers; to subtract, write spaces around -, as in v0 - 1" else
+    (if b == 33 then codes "write A = 0 for not A" else
+    (if with_operator then codes "part operands and operators by spaces, as in v0 + 1" else
+    (if with_bracket then codes "a cell is [0] to [31], or [v0] to [v15], and has no name before it" else hint_of_start b)))
 
--- of a word, by what it is made of
-abbrev pub hint_of_shape : List ℕ → List ℕ
-hint_of_shape [] = any_word
-hint_of_shape (b ∷ bs) = hint_with b (list_any is_operator_byte (b ∷ bs))
+-- of a word that stands for an operand or operator, by what it is made of
+abbrev pub operand_hint : List ℕ → List ℕ
+operand_hint [] = any_word
+operand_hint (b ∷ bs) = hint_with b (list_any is_operator_byte (b ∷ bs)) (list_any (λ it. it == 91) (b ∷ bs))
 
--- of a word behind a first one
-abbrev pub later_hint : List ℕ → List ℕ
-later_hint word =
-    if bytes_eq word (codes ">") then codes "write B < A for A > B" else
-    (if bytes_eq word (codes "<=") then codes "A <= B holds where B < A is 0: write B < A, and compare that with 0" else
-    (if bytes_eq word (codes ">=") then codes "A >= B holds where A < B is 0: write A < B, and compare that with 0" else
-    (if bytes_eq word (codes "!=") then codes "A and B differ where A = B is 0: write A = B, and compare that with 0" else
-    (if bytes_eq word (codes "==") then codes "write = for equality" else
-    hint_of_shape word))))
+-- whether variables may stand at a place of this sort
+abbrev pub takes_variables : Sort → Bool
+takes_variables sort.Number = false
+takes_variables (sort.NumberTo limit) = false
+takes_variables _ = true
+
+-- whether they may stand in a line with this first word
+abbrev pub has_operands : Keyword → Bool
+has_operands key = list_any takes_variables (sorts_after key)
+
+-- whether a word begins a comment, here or in another language
+abbrev pub begins_comment : List ℕ → Bool
+begins_comment [] = false
+begins_comment (b ∷ bs) = b == 35 || (b == 47 && first_byte_is (λ it. it == 47) bs)
+
+-- how a comment is written
+abbrev pub comment_words : List ℕ
+comment_words = codes "write the comment on a line of its own that begins with #"
+
+-- of a word that begins a line, or else
+abbrev pub own_line_or : Word → List ℕ → List ℕ
+own_line_or (word.Keyword key) other = own_line_text key
+own_line_or _ other = other
+
+-- of a word of a line with this first word that is none of another language, and begins no line
+abbrev pub hint_of_shape : Keyword → List ℕ → List ℕ
+hint_of_shape key word =
+    if begins_comment word then comment_words else
+    (if has_operands key then operand_hint word else codes "give the line its form: " ++ keyword_form key)
+
+-- of a word behind this first one
+abbrev pub later_hint : Keyword → List ℕ → List ℕ
+later_hint key word = unwrap_or (idiom_of word) (own_line_or (word_of word) (hint_of_shape key word))
 
 -- whether a word is a variable or a cell
 abbrev pub is_target : Word → Bool
 is_target word = is_some (target_of word)
 
+-- of a first word that is near to no other
+abbrev pub first_hint_of_shape : List ℕ → List ℕ
+first_hint_of_shape word =
+    if begins_comment word then comment_words else
+    (if is_target (word_of word) then codes "write set before it, as in set v0 v0 + 1" else
+    codes "begin the line with one of registers, process, end, set, read, write, scan, if, else, fi, repeat, done, emit, halt, use and check")
+
+-- of a first word that is none of another language, by the one to which it is nearest
+abbrev pub meant_or : Option Keyword → List ℕ → List ℕ
+meant_or (Some key) other = meant_text key
+meant_or None other = other
+
 -- of a first word
 abbrev pub first_hint : List ℕ → List ℕ
-first_hint word =
-    if is_target (word_of word) then codes "write set before it, as in set v0 v0 + 1" else
-    codes "begin the line with one of registers, process, end, set, read, write, scan, if, else, fi, repeat, done, emit, halt, use and check"
+first_hint word = unwrap_or (idiom_of word) (meant_or (nearest word) (first_hint_of_shape word))
 
--- of the first unknown word behind a first one, where there is one
-abbrev pub maybe_hint : Option (List ℕ) → List ℕ
-maybe_hint (Some word) = later_hint word
-maybe_hint None = []
+-- of the first unknown word behind this first one, where there is one
+abbrev pub maybe_hint : Keyword → Option (List ℕ) → List ℕ
+maybe_hint key (Some word) = later_hint key word
+maybe_hint key None = []
+
+-- of the unknown word of a line that begins with this word, and has these behind it
+abbrev pub hint_after : Word → List ℕ → List (List ℕ) → List ℕ
+hint_after (word.Keyword key) first more = maybe_hint key (first_that is_unknown more)
+hint_after _ first more = first_hint first
 
 -- of the unknown word of a line with these words, which is no use
 abbrev pub hint_in : List (List ℕ) → List ℕ
 hint_in [] = []
-hint_in (first ∷ more) = if is_keyword (word_of first) then maybe_hint (first_that is_unknown more) else first_hint first
+hint_in (first ∷ more) = hint_after (word_of first) first more
 
 -- whether a line with this first word is a use
 abbrev pub is_use : Word → Bool
@@ -73,4 +119,4 @@ is_use _ = false
 
 -- of the unknown word of a line with these words; for a use its form
 abbrev pub hint_of : List (List ℕ) → List ℕ
-hint_of line = if is_use (first_of line) then form_of line else hint_in line
+hint_of line = if is_use (first_of line) then wanted_form line else hint_in line

@@ -3,8 +3,11 @@ pub mod ClauseForms
 pub mod ExplanationExamples
 pub mod ExplanationText
 pub mod Hints
+pub mod Idioms
 pub mod LineForms
 pub mod Misfits
+pub mod Misplaced
+pub mod Nearest
 pub mod OpenBlocks
 pub mod Origins
 pub mod PassedLimits

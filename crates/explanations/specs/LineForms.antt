@@ -70,3 +70,26 @@ form_after _ more = []
 abbrev pub form_of : List (List ℕ) → List ℕ
 form_of [] = []
 form_of (first ∷ more) = form_after (word_of first) more
+
+-- that a line with these words is to have its form
+abbrev pub wanted_form : List (List ℕ) → List ℕ
+wanted_form line = codes "give the line its form: " ++ form_of line
+
+-- a line with this first word, where more stands in it, or what closes the block that it opens
+abbrev pub example : Keyword → List ℕ
+example keyword.Registers = codes ": registers 2"
+example keyword.Process = codes ", and end closes it"
+example keyword.Set = codes ": set v0 v0 + 1"
+example keyword.Read = codes ": read v0 1"
+example keyword.Write = codes ": write 1 v0"
+example keyword.Scan = codes ": scan 0 1 2"
+example keyword.If = codes ": if v0 < 1, and fi closes it"
+example keyword.Repeat = codes ": repeat 2, and done closes it"
+example keyword.Emit = codes ": emit v0"
+example keyword.Use = codes ": use split 0 1"
+example keyword.Check = codes ": check distinct"
+example key = []
+
+-- that a line begins with this word
+abbrev pub own_line_text : Keyword → List ℕ
+own_line_text key = keyword_text key ++ codes " is a line of its own" ++ example key

@@ -1,5 +1,5 @@
 -- The blocks that are open where a line stands.
-use Rattle.std.specs.Prelude.{ℕ, suc, ◌-◌, if◌then◌else◌, List, [], ◌∷◌, ◌++◌, Option, Some, Result, Ok, length, nat_lt, slice_get, take}
+use Rattle.std.specs.Prelude.{ℕ, suc, ◌-◌, if◌then◌else◌, List, [], ◌∷◌, ◌++◌, Option, Some, None, Result, Ok, length, nat_lt, slice_get, take}
 use Rattle.explanations.specs.declared.open_blocks.Block.TheVariants as block
 use Rattle.explanations.specs.declared.open_blocks.Opened.{Opened}
 use Rattle.explanations.specs.declared.open_blocks.TheConstants.{MOST_OPEN}
@@ -17,11 +17,25 @@ with_one blocks one = if nat_lt (length blocks) MOST_OPEN then blocks ++ one ∷
 abbrev pub without_one : List Opened → List Opened
 without_one blocks = take (length blocks - 1) blocks
 
+-- that block with its else at the line with this number
+abbrev pub with_else : ℕ → Opened → Opened
+with_else number opened = record { block = opened.block; line = opened.line; else_line = Some number }
+
+-- where the innermost of these has its else at the line with this number
+abbrev pub past_else : ℕ → Option Opened → List Opened → List Opened
+past_else number None blocks = blocks
+past_else number (Some opened) blocks = with_one (without_one blocks) (with_else number opened)
+
+-- the innermost of these, which is the last
+abbrev pub innermost : List Opened → Option Opened
+innermost blocks = slice_get blocks (length blocks - 1)
+
 -- what is open behind a line with this number that says this, the innermost block last
 abbrev pub open_past : ℕ → Result (Option Line) LineFault → List Opened → List Opened
-open_past number (Ok (Some line.Process)) blocks = with_one blocks (record { block = block.Process; line = number })
-open_past number (Ok (Some (line.If test))) blocks = with_one blocks (record { block = block.If; line = number })
-open_past number (Ok (Some (line.Repeat count))) blocks = with_one blocks (record { block = block.Repeat; line = number })
+open_past number (Ok (Some line.Process)) blocks = with_one blocks (record { block = block.Process; line = number; else_line = None })
+open_past number (Ok (Some (line.If test))) blocks = with_one blocks (record { block = block.If; line = number; else_line = None })
+open_past number (Ok (Some (line.Repeat count))) blocks = with_one blocks (record { block = block.Repeat; line = number; else_line = None })
+open_past number (Ok (Some line.Else)) blocks = past_else number (innermost blocks) blocks
 open_past number (Ok (Some line.End)) blocks = without_one blocks
 open_past number (Ok (Some line.Fi)) blocks = without_one blocks
 open_past number (Ok (Some line.Done)) blocks = without_one blocks
@@ -35,7 +49,3 @@ open_behind before (line ∷ lines) blocks = open_behind (suc before) lines (ope
 -- what is open behind the first so many lines of a text
 abbrev pub open_after : ℕ → List ℕ → List Opened
 open_after count text = open_behind 0 (take count (lines text)) []
-
--- the innermost of these, which is the last
-abbrev pub innermost : List Opened → Option Opened
-innermost blocks = slice_get blocks (length blocks - 1)

@@ -1,6 +1,6 @@
 -- Where the lines of a text come from, as a tool tells that made it: behind a line `#line N "FILE"` stands line N of that file.
 use Rattle.std.specs.Prelude.{ℕ, ◌+◌, ◌-◌, if◌then◌else◌, List, [], ◌∷◌, Option, Some, None, codes, is_some, take}
-use Rattle.std.specs.Str.{bytes_eq}
+use Rattle.std.specs.Str.{byte, bytes_eq}
 use Rattle.reglang.specs.Forms.{number_in}
 use Rattle.reglang.specs.Lines.{lines, words}
 use Rattle.reglang.specs.Words.{enclosed, word_of}
@@ -20,7 +20,7 @@ abbrev pub told_file : List (List ℕ) → Option (List ℕ)
 told_file [] = None
 told_file (first ∷ []) = None
 told_file (first ∷ second ∷ []) = None
-told_file (first ∷ second ∷ file ∷ more) = enclosed 34 34 file
+told_file (first ∷ second ∷ file ∷ more) = enclosed (byte "\"") (byte "\"") file
 
 -- the number of the line behind this one, which has this number: what it tells, or one more
 abbrev pub number_or_next : Option ℕ → ℕ → ℕ

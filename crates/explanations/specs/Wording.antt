@@ -1,8 +1,10 @@
 -- The words in which a refused source is explained.
-use Rattle.std.specs.Prelude.{ℕ, Bool, true, false, if◌then◌else◌, List, codes}
-use Rattle.explanations.specs.LineForms.{form_text}
+use Rattle.std.specs.Prelude.{ℕ, Bool, true, false, if◌then◌else◌, List, ◌++◌, codes}
+use Rattle.explanations.specs.LineForms.{form_text, own_line_text}
+use Rattle.explanations.specs.Misplaced.{place_text}
+use Rattle.explanations.specs.Nearest.{meant_text}
 use Rattle.explanations.specs.declared.wording.Change.{Change}
-use Rattle.explanations.specs.declared.wording.Change.TheVariants.{Words, Form}
+use Rattle.explanations.specs.declared.wording.Change.TheVariants.{Words, Form, Own, Meant, Move}
 use Rattle.explanations.specs.declared.wording.Culprit.{Culprit}
 use Rattle.explanations.specs.declared.wording.Culprit.TheVariants as culprit
 use Rattle.reglang.specs.declared.refusals.LineFault.{LineFault}
@@ -28,7 +30,10 @@ is_end _ = false
 -- what to change, in words
 abbrev pub told_text : Change → List ℕ
 told_text (Words words) = words.now
-told_text (Form form) = form_text form
+told_text (Form form) = codes "give the line its form: " ++ form_text form
+told_text (Own line) = own_line_text line.0
+told_text (Meant near) = meant_text near.0
+told_text (Move place) = place_text place
 
 -- what is wrong with a line or an end that has this fault, where this is at fault
 abbrev pub fault_words : LineFault → Culprit → List ℕ

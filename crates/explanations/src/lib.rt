@@ -4,9 +4,12 @@
 mod advice;
 mod clause_forms;
 mod hints;
+mod idioms;
 mod line_forms;
 mod lines;
 mod misfits;
+mod misplaced;
+mod nearest;
 mod open_blocks;
 mod origins;
 mod passed_limits;

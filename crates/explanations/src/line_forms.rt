@@ -33,8 +33,11 @@ impl Text for Form {
     }
 }
 
+/// With what it is told that a line is to have its form.
+pub(crate) const FORM_LEAD: &str = "give the line its form: ";
+
 /// The form of a line with this first word.
-fn keyword_form(key: Keyword) -> Form
+pub(crate) fn keyword_form(key: Keyword) -> Form
     ensures { spec.form_text result ≡ spec.keyword_form key }
 {
     match key {
@@ -113,5 +116,38 @@ pub(crate) fn form_of(line: &[u8]) -> Form
     match split_word(line) {
         Some((first, rest)) => form_after(word_of(first), rest),
         None => Form::Words(""),
+    }
+}
+
+/// What to tell of a line with this first word: such a line, where more stands in it, or what
+/// closes the block that it opens.
+fn example(key: Keyword) -> &'static str
+    ensures { result.now ≡ spec.example key }
+{
+    match key {
+        Keyword::Registers => ": registers 2",
+        Keyword::Process => ", and end closes it",
+        Keyword::Set => ": set v0 v0 + 1",
+        Keyword::Read => ": read v0 1",
+        Keyword::Write => ": write 1 v0",
+        Keyword::Scan => ": scan 0 1 2",
+        Keyword::If => ": if v0 < 1, and fi closes it",
+        Keyword::Repeat => ": repeat 2, and done closes it",
+        Keyword::Emit => ": emit v0",
+        Keyword::Use => ": use split 0 1",
+        Keyword::Check => ": check distinct",
+        _ => "",
+    }
+}
+
+/// That a line begins with this word.
+#[derive(Clone, Copy)]
+pub(crate) struct OwnLine(pub(crate) Keyword);
+
+impl Text for OwnLine {
+    ghost text = { λ line. spec.own_line_text line.0 };
+
+    fn put<W: Write>(&self, out: &mut W, block: &mut Block) -> Result<(), WriteFault> {
+        (self.0.text(), " is a line of its own", example(self.0)).put(out, block)
     }
 }

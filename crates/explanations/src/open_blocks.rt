@@ -1,6 +1,6 @@
 //! The blocks that are open where a line stands.
 
-ghost use Rattle.std.specs.Prelude.{◌≡◌, ◌≤◌, length};
+ghost use Rattle.std.specs.Prelude.{◌≡◌, ◌≤◌, None, length};
 ghost use Rattle.explanations.specs.OpenBlocks as spec;
 ghost use Rattle.reglang.specs.Forms.{read_line};
 
@@ -26,17 +26,48 @@ pub(crate) struct Opened {
     pub(crate) block: Block,
     /// The number of the line that opened it, counted from 1.
     pub(crate) line: u64,
+    /// The number of the line of its `else`, where it has one.
+    pub(crate) else_line: Option<u64>,
 }
 
 /// The blocks that are open, the innermost one last.
 type Open = ArrayVec<Opened, MOST_OPEN>;
 
 /// Opens one more block.
-fn open_one(blocks: &mut Open, block: Block, line: u64)
-    ensures { blocks.new.items
-        ≡ spec.with_one blocks.old.items (record { block = block; line = line }) }
+fn open_one(blocks: &mut Open, opened: Opened)
+    ensures { blocks.new.items ≡ spec.with_one blocks.old.items opened }
 {
-    let _ = blocks.try_push(Opened { block, line });
+    let _ = blocks.try_push(opened);
+}
+
+/// A block that a line with this number opens.
+fn opened_at(block: Block, line: u64) -> Opened
+    ensures { result ≡ record { block = block; line = line; else_line = None } }
+{
+    Opened {
+        block,
+        line,
+        else_line: None,
+    }
+}
+
+/// Notes that the innermost block has its `else` at the line with this number.
+fn note_else(blocks: &mut Open, number: u64)
+    ensures { blocks.new.items
+        ≡ spec.past_else number (spec.innermost blocks.old.items) blocks.old.items }
+{
+    let Some(opened) = blocks.last().copied() else {
+        return;
+    };
+    close_one(blocks);
+    open_one(
+        blocks,
+        Opened {
+            block: opened.block,
+            line: opened.line,
+            else_line: Some(number),
+        },
+    );
 }
 
 /// Closes the innermost block.
@@ -51,9 +82,10 @@ fn go_past(blocks: &mut Open, number: u64, line: &[u8])
     ensures { blocks.new.items ≡ spec.open_past number (read_line line.now) blocks.old.items }
 {
     match read_line(line) {
-        Ok(Some(Line::Process)) => open_one(blocks, Block::Process, number),
-        Ok(Some(Line::If(_))) => open_one(blocks, Block::If, number),
-        Ok(Some(Line::Repeat(_))) => open_one(blocks, Block::Repeat, number),
+        Ok(Some(Line::Process)) => open_one(blocks, opened_at(Block::Process, number)),
+        Ok(Some(Line::If(_))) => open_one(blocks, opened_at(Block::If, number)),
+        Ok(Some(Line::Repeat(_))) => open_one(blocks, opened_at(Block::Repeat, number)),
+        Ok(Some(Line::Else)) => note_else(blocks, number),
         Ok(Some(Line::End | Line::Fi | Line::Done)) => close_one(blocks),
         _ => {}
     }

@@ -3,7 +3,9 @@
 ghost use Rattle.std.specs.Prelude.{◌≡◌};
 ghost use Rattle.explanations.specs.Wording.{fault_words, wrong_text};
 
-use crate::line_forms::Form;
+use crate::line_forms::{FORM_LEAD, Form, OwnLine};
+use crate::misplaced::Place;
+use crate::nearest::Meant;
 use reglang::{LineFault, LineRefusal};
 use std::io::Write;
 use texts::{Block, Text, WriteFault};
@@ -51,6 +53,12 @@ pub(crate) enum Change {
     Words(&'static str),
     /// The line is to have this form.
     Form(Form),
+    /// A word of it begins a line.
+    Own(OwnLine),
+    /// This first word may be meant.
+    Meant(Meant),
+    /// It cannot stand where it is.
+    Move(Place),
 }
 
 impl Text for Change {
@@ -61,7 +69,10 @@ impl Text for Change {
     fn put<W: Write>(&self, out: &mut W, block: &mut Block) -> Result<(), WriteFault> {
         match *self {
             Change::Words(words) => words.put(out, block),
-            Change::Form(form) => form.put(out, block),
+            Change::Form(form) => (FORM_LEAD, form).put(out, block),
+            Change::Own(line) => line.put(out, block),
+            Change::Meant(meant) => meant.put(out, block),
+            Change::Move(place) => place.put(out, block),
         }
     }
 }

@@ -5,6 +5,7 @@ ghost use Rattle.std.specs.List.{position};
 ghost use Rattle.texts.specs.Appending.{Wrote};
 ghost use Rattle.explanations.specs.ExplanationText as spec;
 ghost use Rattle.explanations.specs.ExplanationText.{explained, line_explained, word_text};
+ghost use Rattle.explanations.specs.Origins as origins;
 ghost use Rattle.explanations.specs.Shown.{is_shown, printable, printable_text};
 
 use crate::advice::Advice;
@@ -54,14 +55,22 @@ fn lines_before(rejection: &Rejection) -> u64
     }
 }
 
-/// A block of a text, with the number that is told of its line.
+/// The number that is told of a line of a text.
+fn line_told(text: &[u8], line: u64) -> u64
+    ensures { result ≡ origins.line_told text.now line }
+{
+    origin_of(&[], text, line).line
+}
+
+/// A block of a text, with the numbers that are told of its lines.
 fn block_told(text: &[u8], opened: Option<Opened>) -> Option<Opened>
     ensures { result ≡ spec.block_told text.now opened }
 {
     match opened {
         Some(opened) => Some(Opened {
             block: opened.block,
-            line: origin_of(&[], text, opened.line).line,
+            line: line_told(text, opened.line),
+            else_line: opened.else_line.map(|line| line_told(text, line)),
         }),
         None => None,
     }

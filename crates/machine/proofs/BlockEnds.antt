@@ -3,7 +3,8 @@ use Rattle.std.proofs.Common.{◌≡◌, ℕ, ◌+◌, ◌<◌, List, [], ◌∷
 use Rattle.regmodel.specs.Act.{exec, then_do, times}
 use Rattle.regmodel.specs.Act as flow
 use Rattle.regmodel.specs.Program as program
-use Rattle.regmodel.specs.Program.{Block, block_of, with_stmt}
+use Rattle.regmodel.specs.Program.{Block}
+use Rattle.regmodel.specs.Blocks.{block_of, with_stmt}
 use Rattle.regmodel.specs.Reply.{Reply, Replies}
 use Rattle.regmodel.specs.Values.{Env}
 use Rattle.regmodel.specs.declared.programs.Expr.{Expr}

@@ -3,7 +3,8 @@ use Rattle.std.proofs.Common.{◌≡◌, ℕ, suc, ◌+◌, ◌<◌, ◌≤◌, 
 use Rattle.regmodel.specs.declared.programs.Expr.{Expr}
 use Rattle.regmodel.specs.declared.programs.Stmt.{Stmt, If, Repeat}
 use Rattle.regmodel.specs.Program as program
-use Rattle.regmodel.specs.Program.{Block, Stop, with_stmt, block_of}
+use Rattle.regmodel.specs.Program.{Block, Stop}
+use Rattle.regmodel.specs.Blocks.{with_stmt, block_of}
 use Rattle.regmodel.specs.Limits.{open_blocks}
 use Rattle.regmodel.proofs.Rows.{with_stmt-If, with_stmt-Repeat}
 use Rattle.regmodel.proofs.Blocks.{nesting-step, nesting-drop}

@@ -11,7 +11,8 @@ use Rattle.regmodel.specs.Values.{Env, expr_value}
 use Rattle.regmodel.specs.Act.{Flow, Faults, exec, then_do, times, times_or_fault, with_value, choose}
 use Rattle.regmodel.specs.Limits.{open_blocks}
 use Rattle.regmodel.specs.Program as program
-use Rattle.regmodel.specs.Program.{Block, with_stmt, block_of}
+use Rattle.regmodel.specs.Program.{Block}
+use Rattle.regmodel.specs.Blocks.{with_stmt, block_of}
 use Rattle.machine.specs.declared.run.Arm.{Arm}
 use Rattle.machine.specs.declared.run.Arm.TheVariants as arm
 use Rattle.machine.specs.declared.run.Part.{Part}

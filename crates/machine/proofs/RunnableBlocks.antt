@@ -4,7 +4,8 @@ use Rattle.std.proofs.lemmas.Bool.{and_parts}
 use Rattle.regmodel.specs.declared.programs.Expr.{Expr}
 use Rattle.regmodel.specs.declared.programs.Stmt.{Stmt, If, Repeat}
 use Rattle.regmodel.specs.Limits.{expr_fits, open_blocks, operands_fit}
-use Rattle.regmodel.specs.Program.{Block, Stop, with_stmt, block_of}
+use Rattle.regmodel.specs.Program.{Block, Stop}
+use Rattle.regmodel.specs.Blocks.{with_stmt, block_of}
 use Rattle.machine.specs.declared.run.Arm.{Arm}
 use Rattle.machine.specs.declared.run.Arm.TheVariants as arm
 use Rattle.machine.specs.declared.run.Frame.{Frame}

@@ -1,7 +1,8 @@
 //! Goes on past a reply from the place where a program stopped.
 
 ghost use Rattle.std.specs.Prelude.{◌≡◌, ◌+◌, [], ◌∷◌, drop, length};
-ghost use Rattle.regmodel.specs.Program.{Block, Stop, with_stmt, block_of};
+ghost use Rattle.regmodel.specs.Program.{Block, Stop};
+ghost use Rattle.regmodel.specs.Blocks.{with_stmt, block_of};
 ghost use Rattle.machine.specs.Stores.{env_of};
 ghost use Rattle.machine.specs.Paths.{resume, part_flow};
 ghost use Rattle.machine.specs.Exits.{IsWanting};

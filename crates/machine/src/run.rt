@@ -2,7 +2,8 @@
 
 ghost use Rattle.std.specs.Prelude.{◌≡◌, ℕ, ◌+◌, ◌≤◌, IsTrue, List, Ok, drop};
 ghost use Rattle.regmodel.specs.declared.programs.Expr.{Expr};
-ghost use Rattle.regmodel.specs.Program.{Block, Stop, Assign, Read, Write, Scan, Repeat, Emit, with_stmt, block_of};
+ghost use Rattle.regmodel.specs.Program.{Block, Stop, Assign, Read, Write, Scan, Repeat, Emit};
+ghost use Rattle.regmodel.specs.Blocks.{with_stmt, block_of};
 ghost use Rattle.regmodel.specs.Act.{exec};
 ghost use Rattle.regmodel.specs.Values.{Env, operand_value, and_then, below_or_fault};
 ghost use Rattle.regmodel.specs.Limits.{scan_fits};

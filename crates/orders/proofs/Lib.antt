@@ -1,3 +1,4 @@
+pub mod AskedRequests
 mod BoundedReads
 mod Numbers
 mod PartWords

@@ -3,7 +3,7 @@ use Rattle.std.specs.Prelude.{◌≡◌, ◌≤◌, ℕ, Bool, List, Option, Som
 use Rattle.std.specs.Str.Parse.{digits_value, without_leading_plus}
 use Rattle.regmodel.specs.declared.limits.TheConstants.{MOST_CRASHES, MOST_LETTERS, MOST_WORKERS}
 use Rattle.orders.specs.NumberTexts.{IsNumberText}
-use Rattle.orders.specs.declared.bounds.TheConstants.{MOST_CACHE}
+use Rattle.orders.specs.declared.bounds.TheConstants.{CACHE, MOST_CACHE}
 use Rattle.orders.specs.declared.bounds.Bound.{Bound}
 use Rattle.orders.specs.declared.bounds.Bound.TheVariants.{Length, Crashes, Workers, Cache}
 use Rattle.orders.specs.declared.refusals.Refusal.{Refusal}
@@ -37,10 +37,23 @@ IsBoundTold (Some text) other n = IsNumberText text × (n ≡ digits_value 10 (w
 abbrev pub IsNoBound : Option (List ℕ) → Bound → ℕ → Type 0
 IsNoBound told bound other = (number : ℕ) → IsBoundTold told other number → least_of bound ≤ number → number ≤ most_of bound → ⊥
 
--- a refusal that tells of a bound
-abbrev pub IsBoundRefused : Refusal → Type 0
-IsBoundRefused r = (bound : Bound) × (r ≡ refusal.Bound bound)
+-- the number of a bound of which the words tell nothing, where there are so many workers then
+abbrev pub default_of : ℕ → Bound → ℕ
+default_of workers Length = MOST_LETTERS
+default_of workers Crashes = 0
+default_of workers Workers = workers
+default_of workers Cache = CACHE
+
+-- the refusal of a bound, of which the words tell no number that it takes
+pub record IsBoundRefused (told : List ℕ → Option (List ℕ)) (workers : ℕ) (r : Refusal) : Type 0 where
+  pub bound : Bound
+  pub told_is : r ≡ refusal.Bound bound
+  pub none : IsNoBound (told (name_of bound)) bound (default_of workers bound)
 
 -- how many workers there are where the words do not say: one where states are remembered, else as many as there are processors
 abbrev pub workers_for : ℕ → Bool → ℕ
 workers_for processors remembers = if remembers then 1 else processors
+
+-- the refusal of a bound of a check or a search, where there are so many processors; whether states are remembered or not then
+abbrev pub IsEffortRefused : (List ℕ → Option (List ℕ)) → ℕ → Refusal → Type 0
+IsEffortRefused told processors r = (remembers : Bool) × IsBoundRefused told (workers_for processors remembers) r

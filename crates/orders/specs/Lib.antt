@@ -4,4 +4,5 @@ pub mod NumberTexts
 pub mod Orders
 pub mod PatternTexts
 pub mod Reasons
+pub mod Requests
 pub mod Statuses

@@ -1,12 +1,12 @@
 -- What the words of the command line ask for.
-use Rattle.std.specs.Prelude.{◌≡◌, ℕ, ◌+◌, ◌++◌, ◌≤◌, Bool, true, false, if◌then◌else◌, nat_lt, not, List, [], map, Option, Some, None, codes, decimal}
+use Rattle.std.specs.Prelude.{◌≡◌, ◌⊎◌, ℕ, ◌+◌, ◌++◌, ◌<◌, ◌≤◌, Bool, true, false, if◌then◌else◌, nat_lt, not, List, [], map, Option, Some, None, codes, decimal}
 use Rattle.std.specs.Option.{option_map}
 use Rattle.std.specs.Str.Parse.{digits_value, without_leading_plus}
 use Rattle.clap.specs.Matches.{first_value}
 use Rattle.clap.specs.Words.{matched_of, one_text, raw_values}
 use Rattle.clap.specs.declared.parser.matches.Found.{Found}
 use Rattle.patterns.specs.PatternText.{pattern_text}
-use Rattle.regmodel.specs.Settings.{Bounds}
+use Rattle.regmodel.specs.Settings.{AreSettingsWithin, Bounds, setting_fault}
 use Rattle.regmodel.specs.declared.limits.TheConstants.{MOST_LETTERS}
 use Rattle.regmodel.specs.ScheduleText.{schedule_text}
 use Rattle.report.specs.declared.effort.Effort.{Effort}
@@ -16,6 +16,10 @@ use Rattle.orders.specs.NumberTexts.{IsNumberText}
 use Rattle.orders.specs.PatternTexts.{AreTextsOf}
 use Rattle.orders.specs.declared.tasks.Task.{Task}
 use Rattle.orders.specs.declared.bounds.TheConstants.{CACHE, MOST_CACHE, ROOM, SHARED_CUT}
+use Rattle.orders.specs.declared.orders.TheConstants.{CACHE_SETTING}
+use Rattle.orders.specs.declared.parts_told.TheConstants.{PART_SETTING}
+use Rattle.orders.specs.declared.refusals.Refusal.{Refusal}
+use Rattle.orders.specs.declared.refusals.Refusal.TheVariants as refusal
 use Rattle.orders.specs.declared.tasks.Task.TheVariants.{Check, Explore, Find, Replay, Show}
 
 -- to draw the schedule of this text, with all registers or with those that fit, or else to replay it
@@ -85,6 +89,27 @@ IsPartTold text part = text ≡ option_map part_word part
 abbrev pub word_told : Found → Option (List ℕ)
 word_told found = first_value found (codes "part")
 
+-- the lowest of the settings that the words tell past their limits is that of this number
+pub record IsSettingPast (told : List ℕ → Option (List ℕ)) (number : ℕ) : Type 0 where
+  pub settings : Bounds
+  pub told_are : AreSettingsTold told settings
+  pub past : AreSettingsWithin settings → ⊥
+  pub lowest : number ≡ setting_fault settings
+
+-- the text of an option is that of no part, by the number of that setting
+abbrev pub IsPartRefused : Option (List ℕ) → ℕ → Type 0
+IsPartRefused text number = (number ≡ PART_SETTING) × ((part : Option Part) → IsPartTold text part → ⊥)
+
+-- the words tell more megabytes than may be, by the number of that setting
+abbrev pub IsCacheRefused : (List ℕ → Option (List ℕ)) → ℕ → Type 0
+IsCacheRefused told number = (number ≡ CACHE_SETTING) × (cache : ℕ) × IsNumberTold (told (codes "cache")) 0 cache × (MOST_CACHE < cache)
+
+-- the refusal of a setting that the words tell past its limit, by its number
+pub record IsSettingRefused (told : List ℕ → Option (List ℕ)) (text : Option (List ℕ)) (refused : Refusal) : Type 0 where
+  pub number : ℕ
+  pub told_is : refused ≡ refusal.Setting number
+  pub why : IsSettingPast told number ⊎ IsPartRefused text number ⊎ IsCacheRefused told number
+
 -- to explore as the words tell, the whole or the part of this text, for all that comes out or for the least failing schedule alone
 abbrev pub IsExploration : (List ℕ → Option (List ℕ)) → Option (List ℕ) → Task → Type 0
 IsExploration told text (Check effort native allows_faults shortest) = ⊥
@@ -103,6 +128,14 @@ is_native (Find effort native patterns) = native
 is_native (Replay schedule) = false
 is_native (Show schedule all) = false
 
+-- whether its refusals are told in words
+abbrev pub is_in_words : Task → Bool
+is_in_words (Check effort native allows_faults shortest) = true
+is_in_words (Explore effort native part least_alone) = false
+is_in_words (Find effort native patterns) = true
+is_in_words (Replay schedule) = false
+is_in_words (Show schedule all) = true
+
 -- to check as the words tell, and say in words what fails first, or what fails with the fewest letters
 abbrev pub IsCheck : (List ℕ → Option (List ℕ)) → ℕ → Task → Type 0
 IsCheck told processors (Check effort native allows_faults shortest) =
@@ -112,9 +145,17 @@ IsCheck told processors (Find effort native patterns) = ⊥
 IsCheck told processors (Replay schedule) = ⊥
 IsCheck told processors (Show schedule all) = ⊥
 
--- the texts that stand where patterns do, by what clap found
+-- the texts that stand where this name does, by what clap found
+abbrev pub texts_at : List ℕ → Found → List (List ℕ)
+texts_at name found = elim (option_map raw_values (matched_of found name)) [ Some texts ↦ texts | None ↦ [] ]
+
+-- the first of them; none is an empty one
+abbrev pub word_at : List ℕ → Found → List ℕ
+word_at name found = elim (first_value found name) [ Some text ↦ text | None ↦ [] ]
+
+-- the texts that stand where patterns do
 abbrev pub texts_told : Found → List (List ℕ)
-texts_told found = elim (option_map raw_values (matched_of found (codes "PATTERN"))) [ Some texts ↦ texts | None ↦ [] ]
+texts_told found = texts_at (codes "PATTERN") found
 
 -- to look as far as the words tell for outcomes that match one of the patterns of these texts
 abbrev pub IsFind : (List ℕ → Option (List ℕ)) → ℕ → List (List ℕ) → Task → Type 0

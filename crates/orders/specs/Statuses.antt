@@ -20,10 +20,6 @@ status_of File = 2
 status_of LongFile = 2
 status_of Memory = 3
 
--- the refusal of a setting, by its number
-abbrev pub IsSettingRefused : Refusal → Type 0
-IsSettingRefused refusal = (number : ℕ) × (refusal ≡ Setting number)
-
 -- the refusal of a text that no schedule has
 pub record IsNoSchedule (text : List ℕ) (refusal : Refusal) : Type 0 where
   pub none : (w : List Letter) → FitsPrefix w → schedule_text w ≢ text

@@ -114,7 +114,7 @@ pub(crate) fn workers_for(processors: ProcessorCount, remembers: bool) -> u32
 pub(crate) fn bounds_of(words: &ArgMatches<'_>, workers: u32) -> Result<Settings, Refusal>
     requires { (1 ≤ workers) × (workers ≤ MOST_WORKERS) }
     ensures ok { IfOk result (AreBoundsTold (one_text (found_of words.now)) workers) }
-    ensures err { IfErr result spec.IsBoundRefused }
+    ensures err { IfErr result (spec.IsBoundRefused (one_text (found_of words.now)) workers) }
 {
     let length = bound_of(words, Bound::Length, MOST_LETTERS)?;
     let crashes = bound_of(words, Bound::Crashes, 0)?;

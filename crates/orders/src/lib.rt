@@ -9,8 +9,10 @@ mod parts_told;
 mod patterns_told;
 mod reasons;
 mod refusals;
+mod standing_forms;
 mod statuses;
 mod tasks;
+mod tips;
 mod words;
 
 pub use bounds::Bound;

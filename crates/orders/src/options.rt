@@ -1,7 +1,8 @@
 //! The options and flags that the words of the command line give.
 
+ghost use Rattle.std.specs.Prelude.{◌≡◌};
 ghost use Rattle.clap.specs.Words.{found_of, one_text};
-ghost use Rattle.orders.specs.Orders.{IsFlagTold, IsNativeTold, IsNumberTold};
+ghost use Rattle.orders.specs.Orders.{IsFlagTold, IsNativeTold, IsNumberTold, word_at};
 
 use clap::ArgMatches;
 
@@ -17,6 +18,13 @@ pub(crate) fn has_flag(words: &ArgMatches<'_>, name: &str) -> bool
     ensures { IsFlagTold (one_text (found_of words.now) name.now) result }
 {
     words.get_flag(name)
+}
+
+/// The first word that stands where this name does; an empty one where there is none.
+pub(crate) fn word_at<'a>(words: &ArgMatches<'a>, name: &str) -> &'a str
+    ensures { result.now ≡ word_at name.now (found_of words.now) }
+{
+    words.get_str(name).unwrap_or("")
 }
 
 /// The number of a required option.

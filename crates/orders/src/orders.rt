@@ -1,22 +1,26 @@
 //! What the words of the command line ask for.
 
-ghost use Rattle.std.specs.Prelude.{◌≡◌, ◌⊎◌, Err, IfErr, IfOk, map};
+ghost use Rattle.std.specs.Prelude.{◌≡◌, ◌≤◌, ◌⊎◌, Err, IfErr, IfOk, map, ℕ};
 ghost use Rattle.clap.specs.Words.{found_of, one_text};
-ghost use Rattle.orders.specs.Bounds.{IsBoundRefused};
-ghost use Rattle.orders.specs.Orders.{IsCheck, IsEffortTold, IsExploration, IsFindTold, IsWalk, texts_told, word_told};
+ghost use Rattle.orders.specs.Bounds.{IsEffortRefused};
+ghost use Rattle.orders.specs.Orders.{IsCheck, IsEffortTold, IsExploration, IsFindTold, IsSettingRefused, IsWalk, texts_told, word_told};
+ghost use Rattle.orders.specs.Requests.{IsOrderTold, IsRequestBy, IsRequestOf, IsTaskTold};
+ghost use Rattle.regmodel.specs.declared.limits.TheConstants.{MOST_WORKERS};
 ghost use Rattle.orders.specs.Inputs.{IsStandardText};
-ghost use Rattle.orders.specs.Statuses.{IsNoSchedule, IsSettingRefused, status_of};
+ghost use Rattle.orders.specs.Statuses.{IsNoSchedule, status_of};
 
 use crate::bounds::{
     Bound, CACHE, MOST_CACHE, ProcessorCount, bound_of, bounds_of, processors, workers_for,
 };
 use crate::inputs::{Opener, STANDARD_INPUT, is_standard};
-use crate::options::{has_flag, is_native, number_of};
+use crate::options::{has_flag, is_native, number_of, word_at};
 use crate::parts_told::part_told;
 use crate::patterns_told::{are_standard, patterns_told};
 use crate::reasons::refuse;
 use crate::refusals::Refusal;
+use crate::standing_forms::standing_at;
 use crate::tasks::Task;
+use crate::tips::write_unknown;
 use clap::ArgMatches;
 use clap::error::ErrorKind;
 use command_words::matches_of;
@@ -65,6 +69,9 @@ pub fn command<'a, H: Threads + AllocGlobal, S: AsStr, O: Opener, E: Write>(
     err: &mut E,
 ) -> Result<Request<'a>, u8>
     ensures words { IfErr words.now (λ refusal. result ≡ Err (status_of refusal)) }
+    ensures ok { IfOk words.now (λ texts. IfOk result
+        (IsRequestOf (IsStandardText (O.opens opener.now) O.Reader.remaining)
+        (map S.text texts.items))) }
     ensures err { IfErr result (λ status. (status ≡ 2) ⊎ (status ≡ 3)) }
 {
     let words = match words {
@@ -72,75 +79,109 @@ pub fn command<'a, H: Threads + AllocGlobal, S: AsStr, O: Opener, E: Write>(
         Err(refusal) => return Err(refuse(refusal, None, err)),
     };
     match matches_of(rt.alloc(), words) {
-        Ok(matches) => {
-            if let Some(path) = merge_of(&matches) {
-                return Ok(Request::Merge(path));
-            }
-            let order = order_of(rt, &matches, opener, err)?;
-            Ok(Request::Order(order))
-        }
+        Ok(matches) => request_of(rt, &matches, opener, err),
         Err(error) if matches!(error.kind(), ErrorKind::DisplayVersion) => Ok(Request::Version),
         Err(error) => {
-            let _ = write!(err, "{error}");
+            let _ = if matches!(error.kind(), ErrorKind::UnknownArgument) {
+                write_unknown(rt.alloc(), &error, err)
+            } else {
+                write!(err, "{error}")
+            };
             Err(2)
         }
     }
 }
 
-/// The file whose parts are to be merged, where words that clap took ask for that.
-fn merge_of<'a>(matches: &ArgMatches<'a>) -> Option<&'a str> {
-    match matches.subcommand() {
-        Some(("merge", words)) => words.get_str("FILE"),
-        _ => None,
-    }
-}
-
-/// The order of words that clap took.
-fn order_of<'a, H: Threads + AllocGlobal, O: Opener, E: Write>(
+/// What words that clap took ask for. Where they are refused, it prints why.
+fn request_of<'a, H: Threads + AllocGlobal, O: Opener, E: Write>(
     rt: &H,
     matches: &ArgMatches<'a>,
     opener: &O,
     err: &mut E,
-) -> Result<Order<'a>, u8>
-    ensures { IfErr result (λ status. (status ≡ 2) ⊎ (status ≡ 3)) }
+) -> Result<Request<'a>, u8>
+    ensures ok { IfOk result (λ request. (processors : ℕ) × (processors ≤ MOST_WORKERS)
+        × IsRequestBy (IsStandardText (O.opens opener.now) O.Reader.remaining) processors
+        matches.now request) }
+    ensures err { IfErr result (λ status. (status ≡ 2) ⊎ (status ≡ 3)) }
 {
     let Some((name, words)) = matches.subcommand() else {
         return Err(2);
     };
-    let task = match name {
-        "check" => check_of(words, processors(rt)),
-        "find" => find_of(rt.alloc(), words, processors(rt), opener),
-        "replay" | "show" => walk_of(
-            words.get_str("SCHEDULE").unwrap_or(""),
-            name == "show",
-            words.get_flag("all"),
-        ),
-        _ => exploration_of(words),
-    };
-    let refusal = match task {
-        Ok(task) => match Vec::from_slice(rt.alloc(), words.get_strs("FILE").unwrap_or(&[])) {
-            Ok(paths) => {
-                return Ok(Order {
-                    paths,
-                    task,
-                    progress: words.get_flag("progress"),
-                });
-            }
-            Err(_) => Refusal::Memory,
-        },
-        Err(refusal) => refusal,
-    };
-    let subject = match name {
-        "check" | "find" | "show" => Some(subject_of(words, &refusal)),
-        _ => None,
-    };
-    Err(refuse(&refusal, subject, err))
+    if name == "merge" {
+        return match words.get_str("FILE") {
+            Some(path) => Ok(Request::Merge(path)),
+            None => Err(2),
+        };
+    }
+    let processors = processors(rt);
+    match order_of(rt.alloc(), processors, name, words, opener) {
+        Ok(order) => Ok(Request::Order(order)),
+        Err(refusal) => {
+            let subject = match name {
+                "check" | "find" | "show" => Some(subject_of(words, &refusal)),
+                _ => None,
+            };
+            Err(refuse(&refusal, subject, err))
+        }
+    }
 }
 
-/// Of what a refusal of words tells: the text that is given for a bound, or standard input, of which patterns are read.
+/// The order of the words behind the name of a subcommand.
+fn order_of<'a, O: Opener>(
+    alloc: Global,
+    processors: ProcessorCount,
+    name: &str,
+    words: &ArgMatches<'a>,
+    opener: &O,
+) -> Result<Order<'a>, Refusal>
+    ensures { IfOk result
+        (IsOrderTold (IsStandardText (O.opens opener.now) O.Reader.remaining) processors.number
+        name.now (found_of words.now)) }
+{
+    let task = task_of(alloc, processors, name, words, opener)?;
+    let progress = has_flag(words, "progress");
+    match Vec::from_slice(alloc, words.get_strs("FILE").unwrap_or(&[])) {
+        Ok(paths) => Ok(Order {
+            paths,
+            task,
+            progress,
+        }),
+        Err(_) => Err(Refusal::Memory),
+    }
+}
+
+/// What the words behind the name of a subcommand ask to do.
+fn task_of<O: Opener>(
+    alloc: Global,
+    processors: ProcessorCount,
+    name: &str,
+    words: &ArgMatches<'_>,
+    opener: &O,
+) -> Result<Task, Refusal>
+    ensures { IfOk result
+        (IsTaskTold (IsStandardText (O.opens opener.now) O.Reader.remaining) processors.number
+        name.now (found_of words.now)) }
+{
+    match name {
+        "check" => check_of(words, processors),
+        "find" => find_of(alloc, words, processors, opener),
+        "replay" => walk_of(word_at(words, "SCHEDULE"), false, false),
+        "show" => walk_of(word_at(words, "SCHEDULE"), true, has_flag(words, "all")),
+        _ => exploration_of(words),
+    }
+}
+
+/// Of what a refusal of words tells: the text that is given for a bound, the standing at fault of a
+/// pattern, or standard input, of which patterns are read.
 fn subject_of<'a>(words: &ArgMatches<'a>, refusal: &Refusal) -> &'a str {
     match refusal {
-        Refusal::Bound(bound) => words.get_str(bound.name()).unwrap_or(""),
+        Refusal::Bound(bound) => word_at(words, bound.name()),
+        Refusal::Pattern(place, standing) => {
+            match words.get_strs("PATTERN").unwrap_or(&[]).get(*place) {
+                Some(text) => standing_at(text, *standing),
+                None => "",
+            }
+        }
         _ => STANDARD_INPUT,
     }
 }
@@ -148,7 +189,8 @@ fn subject_of<'a>(words: &ArgMatches<'a>, refusal: &Refusal) -> &'a str {
 /// How far the words of `check` ask to check, whether they allow faults, and whether they ask for the shortest failing schedule.
 fn check_of(words: &ArgMatches<'_>, processors: ProcessorCount) -> Result<Task, Refusal>
     ensures ok { IfOk result (IsCheck (one_text (found_of words.now)) processors.number) }
-    ensures err { IfErr result (λ refusal. status_of refusal ≡ 2) }
+    ensures err { IfErr result
+        (IsEffortRefused (one_text (found_of words.now)) processors.number) }
 {
     let effort = effort_of(words, processors)?;
     let native = is_native(words);
@@ -165,7 +207,8 @@ fn check_of(words: &ArgMatches<'_>, processors: ProcessorCount) -> Result<Task, 
 /// How far the words of a check or a search ask to go, and in how many megabytes states are remembered.
 fn effort_of(words: &ArgMatches<'_>, processors: ProcessorCount) -> Result<Effort, Refusal>
     ensures ok { IfOk result (IsEffortTold (one_text (found_of words.now)) processors.number) }
-    ensures err { IfErr result IsBoundRefused }
+    ensures err { IfErr result
+        (IsEffortRefused (one_text (found_of words.now)) processors.number) }
 {
     let cache = bound_of(words, Bound::Cache, CACHE);
     let remembers = !matches!(cache, Ok(0));
@@ -188,7 +231,7 @@ fn find_of<O: Opener>(
     let effort = effort_of(words, processors)?;
     let native = is_native(words);
     let texts = pattern_words(words);
-    if is_standard(words.get_str("FILE").unwrap_or("")) && are_standard(texts) {
+    if is_standard(word_at(words, "FILE")) && are_standard(texts) {
         return Err(Refusal::TwiceStandard);
     }
     let patterns = patterns_told(alloc, texts, opener)?;
@@ -211,7 +254,8 @@ fn pattern_words<'a>(words: &'a ArgMatches<'_>) -> &'a [&'a str]
 fn exploration_of(words: &ArgMatches<'_>) -> Result<Task, Refusal>
     ensures ok { IfOk result
         (IsExploration (one_text (found_of words.now)) (word_told (found_of words.now))) }
-    ensures err { IfErr result IsSettingRefused }
+    ensures err { IfErr result
+        (IsSettingRefused (one_text (found_of words.now)) (word_told (found_of words.now))) }
 {
     let settings = Settings::new(
         number_of(words, "length"),

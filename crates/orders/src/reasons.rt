@@ -16,7 +16,8 @@ pub trait Reason: Display {
     fn status(&self) -> u8
         ensures { IsStatusOf status_of self.now result };
 
-    /// Writes it in words of the subject: the path of what is read, or the text that is given for a bound. The error is that of the writer.
+    /// Writes it in words of the subject: the path of what is read, or the text that is at fault.
+    /// The error is that of the writer.
     fn write_words<E: Write>(&self, subject: &str, err: &mut E) -> io::Result<()>;
 }
 

@@ -5,6 +5,7 @@ ghost use Rattle.orders.specs.declared.refusals.Refusal.TheVariants.{Memory};
 
 use crate::bounds::Bound;
 use crate::reasons::Reason;
+use crate::standing_forms::form_for;
 use std::alloc::AllocFailed;
 use std::io;
 use std::io::Write;
@@ -91,9 +92,10 @@ impl Reason for Refusal {
             Refusal::Schedule => write_line("this is no schedule: ", LETTERS, err),
             Refusal::Pattern(place, standing) => writeln!(
                 err,
-                "pattern {}, standing {}: this is no way in which a process can stand: {STANDINGS}",
+                "pattern {}, standing {}: '{subject}' cannot be read: {}",
                 place.saturating_add(1),
-                standing.saturating_add(1)
+                standing.saturating_add(1),
+                form_for(subject, *standing)
             ),
             Refusal::PatternLine(place, standing) => writeln!(
                 err,

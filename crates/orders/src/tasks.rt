@@ -1,6 +1,6 @@
 //! What to do with a source.
 
-ghost use Rattle.std.specs.Prelude.{◌≡◌};
+ghost use Rattle.std.specs.Prelude.{◌≡◌, None, Some, if◌then◌else◌, option_map};
 
 use patterns::Pattern;
 use regmodel::Prefix;
@@ -43,7 +43,7 @@ pub enum Task {
 }
 
 impl Task {
-    ghost use Rattle.orders.specs.Orders.{is_native, lists_of};
+    ghost use Rattle.orders.specs.Orders.{is_in_words, is_native, lists_of};
 
     /// How many lists of machines it takes: one for each worker; a check and a search take one more, to draw what is found.
     pub fn lists(&self) -> u32
@@ -70,7 +70,9 @@ impl Task {
     }
 
     /// Whether its refusals are told in words.
-    pub fn is_in_words(&self) -> bool {
+    pub fn is_in_words(&self) -> bool
+        ensures { result ≡ is_in_words self.now }
+    {
         matches!(
             self,
             Task::Check { .. } | Task::Find { .. } | Task::Show { .. }
@@ -90,8 +92,13 @@ pub struct Question<'a> {
 }
 
 impl<'a> Question<'a> {
+    ghost use Rattle.orders.specs.Orders.{is_in_words};
+
     /// Of what it is told in words why there is no answer: of the path; None where that is told in one line.
-    pub fn subject(&self) -> Option<&'a str> {
+    pub fn subject(&self) -> Option<&'a str>
+        ensures { option_map (λ path. path.now) result
+            ≡ (if is_in_words self.now.task.now then Some self.now.path.now else None) }
+    {
         if self.task.is_in_words() {
             Some(self.path)
         } else {

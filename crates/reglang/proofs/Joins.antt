@@ -2,7 +2,8 @@
 use Rattle.std.proofs.Common.{◌≡◌, List, [], ◌∷◌, ◌++◌, refl, ap, ◌∙◌}
 use Rattle.regmodel.specs.declared.programs.Stmt.{Stmt}
 use Rattle.regmodel.specs.declared.programs.Stmt.TheVariants as stmt
-use Rattle.regmodel.specs.Program.{Block, Stop, Assign, Read, Write, Scan, If, Repeat, Emit, Halt, block_of, with_stmt}
+use Rattle.regmodel.specs.Program.{Block, Stop, Assign, Read, Write, Scan, If, Repeat, Emit, Halt}
+use Rattle.regmodel.specs.Blocks.{block_of, with_stmt}
 use Rattle.reglang.specs.Drafts.{◌⊕◌}
 
 -- a statement before a block

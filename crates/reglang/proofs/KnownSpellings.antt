@@ -3,7 +3,8 @@ use Rattle.std.proofs.Common.{◌≡◌, ℕ, List, Option, Some, None, Result, 
 use Rattle.std.proofs.Math.Logic.{∥∥₁_elim}
 use Rattle.std.proofs.Props.{props}
 use Rattle.std.proofs.lemmas.List.{length-map}
-use Rattle.reglang.specs.Contents.{Contents, IsSourceWithin, body_of}
+use Rattle.reglang.specs.Contents.{Contents, IsSourceWithin}
+use Rattle.reglang.specs.Bodies.{body_of}
 use Rattle.reglang.specs.Drafts.{Empty, read_from}
 use Rattle.reglang.specs.Grammar.{Spells}
 use Rattle.reglang.specs.Lines.{lines}

@@ -3,7 +3,8 @@ use Rattle.std.proofs.Common.{◌≡◌, ℕ, false, eqb, List, [], ◌∷◌, �
 use Rattle.std.proofs.lemmas.Grind.{flat_map-append}
 use Rattle.regmodel.specs.declared.programs.Expr.{Expr}
 use Rattle.regmodel.specs.Program as program
-use Rattle.regmodel.specs.Program.{Block, block_of, with_stmt}
+use Rattle.regmodel.specs.Program.{Block}
+use Rattle.regmodel.specs.Blocks.{block_of, with_stmt}
 use Rattle.regmodel.specs.declared.programs.Stmt.{Stmt}
 use Rattle.regmodel.specs.declared.programs.Stmt.TheVariants as stmt
 use Rattle.reglang.specs.Writing.{line_text, lines_text, else_lines, block_lines}

@@ -11,8 +11,10 @@ use Rattle.regmodel.specs.declared.programs.Prog.{Prog}
 use Rattle.regmodel.specs.declared.programs.Stmt.{Stmt}
 use Rattle.regmodel.specs.Limits.{IsWithin}
 use Rattle.regmodel.specs.OfProg.{program_of}
-use Rattle.regmodel.specs.Program.{Block, block_of, with_stmt}
-use Rattle.reglang.specs.Contents.{IsBodyWithin, is_over, body_of, program_over}
+use Rattle.regmodel.specs.Program.{Block}
+use Rattle.regmodel.specs.Blocks.{block_of, with_stmt}
+use Rattle.reglang.specs.Contents.{IsBodyWithin, program_over}
+use Rattle.reglang.specs.Bodies.{is_over, body_of}
 use Rattle.reglang.specs.declared.source.Process.{Process}
 use Rattle.reglang.specs.declared.source.Process.TheVariants as process
 use Rattle.uses.proofs.ExpansionLimits.{fitting}

@@ -60,7 +60,8 @@ clause_with _ _ = None
 
 -- ---- what they are made of
 
--- the first word of a line and its arguments; those of a use and of a check are told by what follows it
+-- the first word of a line and its arguments; those of a use and of a check are told by what
+-- follows it
 abbrev pub line_parts : Line → Keyword × List Argument
 line_parts (line.Registers n) = (keyword.Registers, Number n ∷ [])
 line_parts line.Process = (keyword.Process, [])

@@ -1,16 +1,14 @@
 -- What a source says.
-use Rattle.std.specs.Prelude.{◌≡◌, ℕ, ◌<◌, ◌≤◌, ◌==◌, Bool, true, List, length, map, All}
+use Rattle.std.specs.Prelude.{◌≡◌, ℕ, ◌<◌, ◌≤◌, Bool, true, List, length, map, All}
 use Rattle.regmodel.specs.declared.clauses.Clause.{Clause}
 use Rattle.regmodel.specs.declared.limits.TheConstants.{MOST_CHECKS, MOST_PROCESSES, MOST_REGISTERS}
 use Rattle.regmodel.specs.Limits.{IsWithin}
-use Rattle.regmodel.specs.Program.{Block, Program, block_of}
+use Rattle.regmodel.specs.Program.{Block, Program}
 use Rattle.uses.specs.Expansions.{expansion}
 use Rattle.uses.specs.Uses.{use_fits}
 use Rattle.uses.specs.declared.kinds.Use.{Use}
 use Rattle.reglang.specs.Arguments.{are_of, clause_parts}
 use Rattle.reglang.specs.Sorts.{property_sorts}
-use Rattle.reglang.specs.declared.source.Process.{Process}
-use Rattle.reglang.specs.declared.source.Process.TheVariants as process
 
 -- what a process runs: its own statements, or what a use line stands for
 pub data Body : Type 0 where
@@ -55,13 +53,3 @@ pub record IsSourceWithin (source : Contents) : Type 0 where
   pub processes : All (IsBodyWithin source.registers) source.processes
   pub few_clauses : length source.clauses ≤ MOST_CHECKS
   pub clauses_fit : All (λ clause. clause_fits clause ≡ true) source.clauses
-
--- a process that is at home over so many registers
-abbrev pub is_over : ℕ → Process → Bool
-is_over registers (process.Text prog) = prog.registers == registers
-is_over registers (process.Use kind) = use_fits kind registers
-
--- what a process runs, however it lies in memory
-abbrev pub body_of : Process → Body
-body_of (process.Text prog) = Text (block_of prog.body.items)
-body_of (process.Use kind) = Kind kind

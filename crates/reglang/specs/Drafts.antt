@@ -8,7 +8,8 @@ use Rattle.reglang.specs.declared.refusals.LineFault.{LineFault}
 use Rattle.reglang.specs.declared.refusals.LineFault.TheVariants.{Misplaced, NoClause, NoRegisters, PastLimit}
 use Rattle.regmodel.specs.Limits.{target_fits, operand_fits, expr_fits, scan_fits, operands_fit, statements, open_blocks, open_repeats}
 use Rattle.regmodel.specs.Program as program
-use Rattle.regmodel.specs.Program.{Block, Stop, block_of, with_stmt}
+use Rattle.regmodel.specs.Program.{Block, Stop}
+use Rattle.regmodel.specs.Blocks.{block_of, with_stmt}
 use Rattle.regmodel.specs.declared.programs.Stmt.{Stmt}
 use Rattle.reglang.specs.Forms.{read_line}
 use Rattle.reglang.specs.Contents.{Body, Text, Kind, Contents, IsBodyWithin, clause_fits}

@@ -91,7 +91,8 @@ argument_of sort.Expression word = option_map (λ a. argument.Expression (expr.O
 abbrev pub and_more : Option Argument → Option (List Argument) → Option (List Argument)
 and_more argument more = Some (λ a rest. a ∷ rest) ⊛ argument ⊛ more
 
--- the arguments of these sorts that words are: one word is one argument, but an expression is all the words that are left
+-- the arguments of these sorts that words are: one word is one argument, but an expression is all
+-- the words that are left
 abbrev pub arguments : List Sort → List Word → Option (List Argument)
 arguments [] [] = Some []
 arguments [] (word ∷ words) = None
@@ -140,7 +141,8 @@ abbrev pub or_fault : LineFault → Option Line → Result (Option Line) LineFau
 or_fault fault (Some line) = Ok (Some line)
 or_fault fault None = Err fault
 
--- what a keyword and the words after it say, where it is no check; or an unknown word, no number word, no form
+-- what a keyword and the words after it say, where it is no check; or an unknown word, no number
+-- word, no form
 abbrev pub keyword_line : Keyword → List Word → Result (Option Line) LineFault
 keyword_line key more =
     if not (list_all is_known more) then Err UnknownWord else
@@ -158,12 +160,13 @@ line_of _ = Err UnknownWord
 abbrev pub words_said : List ℕ → List Word
 words_said line = map word_of (words line)
 
--- what a line says, or its fault: a byte that is not in 32 to 126, or one of its words
+-- what a line says, or its fault: a byte that is not printable, or one of its words
 abbrev pub read_line : List ℕ → Result (Option Line) LineFault
 read_line line = if is_printable line then line_of (words_said line) else Err NotPrintable
 
 -- ---- inside the crate: the words that are kept of a line
 
--- one word more is kept where there is room: whatever comes after, the first six are those that they would be
+-- one word more is kept where there is room: whatever comes after, the first six are those that
+-- they would be
 abbrev pub KeepsFirst : List Word → Word → List Word → Type 0
 KeepsFirst old word new = (more : List Word) → take 6 (new ++ more) ≡ take 6 (old ++ word ∷ more)

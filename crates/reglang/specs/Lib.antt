@@ -1,4 +1,5 @@
 pub mod Arguments
+pub mod Bodies
 pub mod CheckExamples
 pub mod Checks
 pub mod Contents

@@ -2,6 +2,7 @@
 use Rattle.std.specs.Prelude.{◌≡◌, ℕ, ◌<◌, ◌==◌, Bool, true, false, ◌&&◌, not, if◌then◌else◌, List, [], ◌∷◌, drop, length, Option, MatchOption, nat_le}
 use Rattle.std.specs.Borrow.{Bor}
 use Rattle.std.specs.List.{slice_split, filter, list_all, prefix_len}
+use Rattle.std.specs.Str.{byte}
 
 -- whether there is no byte
 abbrev pub is_empty : List ℕ → Bool
@@ -14,23 +15,24 @@ without_empty_end [] = []
 without_empty_end (part ∷ []) = if is_empty part then [] else part ∷ []
 without_empty_end (part ∷ next ∷ parts) = part ∷ without_empty_end (next ∷ parts)
 
--- each line ends at a byte 10; what follows the last one is a line only if it is not empty
+-- each line ends at a newline; what follows the last one is a line only if it is not empty
 abbrev pub lines : List ℕ → List (List ℕ)
-lines text = without_empty_end (slice_split (λ b. b == 10) text)
+lines text = without_empty_end (slice_split (λ b. b == byte "\n") text)
 
 -- words are parted by one or more spaces
 abbrev pub words : List ℕ → List (List ℕ)
-words line = filter (λ word. not (is_empty word)) (slice_split (λ b. b == 32) line)
+words line = filter (λ word. not (is_empty word)) (slice_split (λ b. b == byte " ") line)
 
 -- a line from its first byte on that is no space
 abbrev pub without_indent : List ℕ → List ℕ
-without_indent line = drop (prefix_len (λ b. b == 32) line) line
+without_indent line = drop (prefix_len (λ b. b == byte " ") line) line
 
--- only bytes 32 to 126 stand in a line
+-- only bytes from the space to the tilde stand in a line
 abbrev pub is_printable : List ℕ → Bool
-is_printable line = list_all (λ b. nat_le 32 b && nat_le b 126) line
+is_printable line = list_all (λ b. nat_le (byte " ") b && nat_le b (byte "~")) line
 
--- the first part of a text, a line or a word, and what follows it, which is shorter than the text; nothing where it has no parts
+-- the first part of a text, a line or a word, and what follows it, which is shorter than the text;
+-- nothing where it has no parts
 abbrev pub SplitsOff : (List ℕ → List (List ℕ)) → List ℕ → Option (Bor (List ℕ) × Bor (List ℕ)) → Type 0
 SplitsOff parts text split =
     MatchOption split (parts text ≡ []) (λ r. (parts text ≡ r.0.now ∷ parts r.1.now) × (length r.1.now < length text))

@@ -10,17 +10,25 @@ use Rattle.reglang.specs.declared.vocabulary.Kind.TheVariants as kind
 use Rattle.reglang.specs.declared.vocabulary.Property.{Property}
 use Rattle.reglang.specs.declared.vocabulary.Property.TheVariants as property
 
--- what follows a first word; after `use` comes a kind and after `check` a property, and then what follows these
+-- what follows a first word; after `use` comes a kind and after `check` a property, and then what
+-- follows these
 abbrev pub sorts_after : Keyword → List Sort
 sorts_after keyword.Registers = Number ∷ []
+sorts_after keyword.Process = []
+sorts_after keyword.End = []
 sorts_after keyword.Set = Target ∷ Expression ∷ []
 sorts_after keyword.Read = Target ∷ Operand ∷ []
 sorts_after keyword.Write = Operand ∷ Expression ∷ []
 sorts_after keyword.Scan = Number ∷ Number ∷ Number ∷ []
 sorts_after keyword.If = Expression ∷ []
+sorts_after keyword.Else = []
+sorts_after keyword.Fi = []
 sorts_after keyword.Repeat = Expression ∷ []
+sorts_after keyword.Done = []
 sorts_after keyword.Emit = Expression ∷ []
-sorts_after _ = []
+sorts_after keyword.Halt = []
+sorts_after keyword.Use = []
+sorts_after keyword.Check = []
 
 -- what follows a kind
 abbrev pub kind_sorts : Kind → List Sort
@@ -32,6 +40,11 @@ kind_sorts kind.Names = Number ∷ Number ∷ Number ∷ []
 
 -- what follows a property
 abbrev pub property_sorts : Property → List Sort
+property_sorts property.Distinct = []
 property_sorts property.AtMost = NumberTo GREATEST_VALUE ∷ NumberTo MOST_PROCESSES ∷ []
 property_sorts property.Within = NumberTo GREATEST_VALUE ∷ NumberTo GREATEST_VALUE ∷ []
-property_sorts _ = []
+property_sorts property.Adaptive = []
+property_sorts property.Triangle = []
+property_sorts property.SelfSeen = []
+property_sorts property.Ended = []
+property_sorts property.NoFault = []

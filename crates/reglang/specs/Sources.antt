@@ -3,7 +3,8 @@ use Rattle.std.specs.Prelude.{◌≡◌, ℕ, List, map, Option, Some, IfSome, M
 use Rattle.std.specs.Borrow.{Bor}
 use Rattle.regmodel.specs.declared.clauses.Clause.{Clause}
 use Rattle.regmodel.specs.Program.{Program}
-use Rattle.reglang.specs.Contents.{Body, Contents, IsText, Kind, programs_in, body_of}
+use Rattle.reglang.specs.Contents.{Body, Contents, IsText, Kind, programs_in}
+use Rattle.reglang.specs.Bodies.{body_of}
 use Rattle.uses.specs.declared.kinds.Use.{Use}
 use Rattle.reglang.specs.declared.source.Process.{Process}
 use Rattle.reglang.specs.declared.source.Source.{Source}

@@ -1,7 +1,7 @@
 -- What a word may stand for.
 use Rattle.std.specs.Prelude.{ℕ, map, ◌+◌, ◌==◌, Bool, false, ◌&&◌, if◌then◌else◌, List, [], ◌∷◌, reverse, Option, Some, None, nat_lt, nat_le}
 use Rattle.std.specs.List.{list_all}
-use Rattle.std.specs.Str.{bytes_eq}
+use Rattle.std.specs.Str.{byte, bytes_eq}
 use Rattle.std.specs.Str.Parse.{digits_value}
 use Rattle.regmodel.specs.declared.programs.Op.{Op}
 use Rattle.regmodel.specs.declared.programs.Operand.TheVariants as operand
@@ -18,12 +18,12 @@ use Rattle.reglang.specs.declared.words.Word.TheVariants as word
 
 -- whether a byte is a digit
 abbrev pub is_digit : ℕ → Bool
-is_digit b = nat_le 48 b && nat_le b 57
+is_digit b = nat_le (byte "0") b && nat_le b (byte "9")
 
 -- `0`, or digits that do not begin with a 0
 abbrev pub is_number : List ℕ → Bool
 is_number [] = false
-is_number (b ∷ bs) = if b == 48 then is_empty bs else list_all is_digit (b ∷ bs)
+is_number (b ∷ bs) = if b == byte "0" then is_empty bs else list_all is_digit (b ∷ bs)
 
 -- 1000000001 stands for each number past 1000000000
 abbrev pub up_to_limit : ℕ → ℕ
@@ -41,7 +41,7 @@ only_below limit (Some n) = if nat_lt n limit then Some n else None
 -- the number of a variable: `v` and a number word below 16
 abbrev pub variable_of : List ℕ → Option ℕ
 variable_of [] = None
-variable_of (b ∷ bs) = if b == 118 then only_below VARIABLES (number_of bs) else None
+variable_of (b ∷ bs) = if b == byte "v" then only_below VARIABLES (number_of bs) else None
 
 -- whether there is a first byte, and it is such a one
 abbrev pub first_byte_is : (ℕ → Bool) → List ℕ → Bool
@@ -60,7 +60,7 @@ enclosed first last (b ∷ bs) = if b == first then before_last last (reverse bs
 
 -- what stands between brackets, where they are the word's ends
 abbrev pub in_brackets : List ℕ → Option (List ℕ)
-in_brackets word = enclosed 91 93 word
+in_brackets word = enclosed (byte "[") (byte "]") word
 
 -- the cell that a variable names, where there is one
 abbrev pub cell_or_other : Option ℕ → Word
@@ -69,7 +69,7 @@ cell_or_other None = Other
 
 -- the cell with this number, where there is one
 abbrev pub cell_or : Option ℕ → Word → Word
-cell_or (Some i) _ = word.Operand (operand.Cell i)
+cell_or (Some i) else_word = word.Operand (operand.Cell i)
 cell_or None else_word = else_word
 
 -- the cell that is named between brackets: by a number word below 32, or by a variable
@@ -79,7 +79,7 @@ cell_word (Some index) = cell_or (only_below CELLS (number_of index)) (cell_or_o
 
 -- the variable with this number, where there is one
 abbrev pub variable_or : Option ℕ → Word → Word
-variable_or (Some i) _ = word.Operand (operand.Var i)
+variable_or (Some i) else_word = word.Operand (operand.Var i)
 variable_or None else_word = else_word
 
 -- a number, or a word that begins with a digit and is none
@@ -91,7 +91,7 @@ number_word None = NoNumber
 abbrev pub value_word : List ℕ → Word
 value_word word =
     if first_byte_is is_digit word then number_word (number_of word) else
-    (if first_byte_is (λ b. b == 35) word then Comment else
+    (if first_byte_is (λ b. b == byte "#") word then Comment else
     variable_or (variable_of word) (cell_word (in_brackets word)))
 
 -- the first words of lines, as they are spelled

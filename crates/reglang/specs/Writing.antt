@@ -9,11 +9,13 @@ use Rattle.regmodel.specs.declared.programs.Expr.{Expr}
 use Rattle.regmodel.specs.declared.programs.Expr.TheVariants as expr
 use Rattle.regmodel.specs.declared.clauses.Clause.{Clause}
 use Rattle.regmodel.specs.Program as program
-use Rattle.regmodel.specs.Program.{Block, block_of, with_stmt}
+use Rattle.regmodel.specs.Program.{Block}
+use Rattle.regmodel.specs.Blocks.{block_of, with_stmt}
 use Rattle.regmodel.specs.declared.programs.Stmt.{Stmt}
 use Rattle.reglang.specs.Arguments.{clause_parts, line_parts, use_parts}
 use Rattle.reglang.specs.Spelling.{keyword_text, kind_text, operator_text, property_text}
-use Rattle.reglang.specs.Contents.{Body, Text, Kind, Contents, body_of}
+use Rattle.reglang.specs.Contents.{Body, Text, Kind, Contents}
+use Rattle.reglang.specs.Bodies.{body_of}
 use Rattle.reglang.specs.Sources.{contents_of}
 use Rattle.uses.specs.declared.kinds.Use.{Use}
 use Rattle.reglang.specs.declared.arguments.Argument.{Argument}

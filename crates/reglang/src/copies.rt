@@ -1,7 +1,8 @@
 //! Copies of statements.
 
 ghost use Rattle.std.specs.Prelude.{◌≡◌, IfOk};
-ghost use Rattle.regmodel.specs.Program.{Block, block_of, with_stmt};
+ghost use Rattle.regmodel.specs.Program.{Block};
+ghost use Rattle.regmodel.specs.Blocks.{block_of, with_stmt};
 
 use regmodel::{OutOfMemory, Stmt};
 use std::alloc::Global;

@@ -27,6 +27,6 @@ pub use refusals::{LineFault, LineRefusal};
 pub use sorts::{MOST_ARGUMENTS, Sort, Sorts, kind_sorts, property_sorts, sorts_after};
 pub use source::Source;
 pub use uses::{ExpandFault, Use, expand};
-pub use vocabulary::{Keyword, Kind, PROPERTIES, Property, Spelled};
+pub use vocabulary::{KEYWORDS, Keyword, Kind, PROPERTIES, Property, Spelled};
 pub use words::{Word, enclosed, word_of};
 pub use writer::write_source;

@@ -2,6 +2,7 @@
 
 ghost use Rattle.std.specs.Prelude.{◌≡◌, ℕ, ◌==◌, ◌+◌, ◌≤◌, length};
 ghost use Rattle.std.specs.List.{position, prefix_len, before_first, after_first};
+ghost use Rattle.std.specs.Str.{byte};
 ghost use Rattle.reglang.specs.Lines.{SplitsOff, is_printable, lines, without_indent, words};
 
 /// The first line of a text without its byte 10, and what follows it. None at the end of the text.
@@ -25,7 +26,7 @@ pub fn split_word(line: &[u8]) -> Option<(&[u8], &[u8])>
     Some(cut_at(line, b' '))
 }
 
-/// Whether only bytes 32 to 126 stand in a line.
+/// Whether only bytes from the space to the tilde stand in a line.
 pub fn is_printable(line: &[u8]) -> bool
     ensures { result ≡ is_printable line.now }
 {
@@ -53,7 +54,7 @@ fn cut_at(bytes: &[u8], byte: u8) -> (&[u8], &[u8])
 /// How many spaces there are before anything else.
 fn spaces(line: &[u8]) -> usize
     ensures within { result ≤ length line.now }
-    ensures count { result ≡ prefix_len (λ b. b == 32) line.now }
+    ensures count { result ≡ prefix_len (λ b. b == byte " ") line.now }
 {
     line.iter().take_while(|b| **b == b' ').count()
 }

@@ -1,7 +1,7 @@
 //! Whole processes and checks of a text.
 
 ghost use Rattle.std.specs.Prelude.{◌≡◌, All, true};
-ghost use Rattle.reglang.specs.Contents.{is_over};
+ghost use Rattle.reglang.specs.Bodies.{is_over};
 
 use crate::draft::Draft;
 use crate::forms::Line;
@@ -25,7 +25,7 @@ pub struct Parts {
 
 impl Parts {
     ghost use Rattle.std.specs.Prelude.{Ok, false};
-    ghost use Rattle.reglang.specs.Contents.{body_of};
+    ghost use Rattle.reglang.specs.Bodies.{body_of};
     ghost use Rattle.reglang.specs.Drafts as spec;
     ghost use Rattle.reglang.specs.Drafts.{Answers, AnswersAtEnd, AnswersLine, Between, ReadingFits};
     ghost use Rattle.reglang.specs.Faults.{may_ask};

@@ -2,7 +2,8 @@
 
 ghost use Rattle.std.specs.Prelude.{◌≡◌, ◌<◌, ◌≤◌, All, length, true};
 ghost use Rattle.regmodel.specs.declared.limits.TheConstants.{MOST_CHECKS, MOST_PROCESSES, MOST_REGISTERS};
-ghost use Rattle.reglang.specs.Contents.{clause_fits, is_over};
+ghost use Rattle.reglang.specs.Contents.{clause_fits};
+ghost use Rattle.reglang.specs.Bodies.{is_over};
 
 use crate::copies::copy_block;
 use arrayvec::ArrayVec;
@@ -22,7 +23,8 @@ pub enum Process {
 impl Process {
     ghost use Rattle.std.specs.Prelude.{IfOk};
     ghost use Rattle.regmodel.specs.OfProg.{program_of};
-    ghost use Rattle.reglang.specs.Contents.{body_of, program_over};
+    ghost use Rattle.reglang.specs.Contents.{program_over};
+    ghost use Rattle.reglang.specs.Bodies.{body_of};
 
     /// What it runs: a copy of its own program, or its expansion. An error where a request for memory was refused.
     fn prog(&self, alloc: Global, registers: u32) -> Result<Prog, OutOfMemory>
@@ -64,7 +66,8 @@ impl Source {
     ghost use Rattle.regmodel.specs.OfProg.{program_of};
     ghost use Rattle.regmodel.specs.Limits.{IsWithin};
     ghost use Rattle.std.specs.Prelude.{map};
-    ghost use Rattle.reglang.specs.Contents.{IsSourceWithin, body_of};
+    ghost use Rattle.reglang.specs.Contents.{IsSourceWithin};
+    ghost use Rattle.reglang.specs.Bodies.{body_of};
     ghost use Rattle.reglang.specs.Sources.{IsUseOf, body_at, check_lines_of, contents_of, contents_with, registers_of};
     ghost use Rattle.reglang.specs.Sources.{source_programs};
 

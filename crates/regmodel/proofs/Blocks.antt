@@ -5,7 +5,8 @@ use Rattle.regmodel.specs.declared.programs.Expr.{Expr}
 use Rattle.regmodel.specs.declared.programs.Stmt.{Stmt, If, Repeat}
 use Rattle.regmodel.specs.declared.programs.Stmt.TheVariants as stmt
 use Rattle.regmodel.specs.Program as program
-use Rattle.regmodel.specs.Program.{Block, Stop, with_stmt, block_of}
+use Rattle.regmodel.specs.Program.{Block, Stop}
+use Rattle.regmodel.specs.Blocks.{with_stmt, block_of}
 use Rattle.regmodel.specs.Limits.{nesting, statements, operands_fit, target_fits, operand_fits, expr_fits, scan_fits}
 use Rattle.regmodel.proofs.Rows.{with_stmt-If, with_stmt-Repeat}
 

@@ -10,7 +10,8 @@ use Rattle.regmodel.specs.declared.faults.TheConstants.{TOO_MANY_NUMBERS, TOO_MA
 use Rattle.regmodel.specs.Values.{Env, Place, start_env, below_or_fault, and_then, operand_value, expr_value, target_place, store, store_from}
 use Rattle.regmodel.specs.Program.{Block, Program, Stop, Assign, Read, Write, Scan, If, Repeat, Emit, Halt}
 
--- what a block leads to: it goes on with what is left of the replies, wants an access, is done with numbers, or is at fault
+-- what a block leads to: it goes on with what is left of the replies, wants an access, is done with
+-- numbers, or is at fault
 pub data Flow : Type 0 where
   GoesOn : (env : Env) (replies : Replies) → Flow
   Wants : (access : Access) → Flow
@@ -44,7 +45,7 @@ abbrev pub answer_write : Env → ℕ → ℕ → Replies → Flow
 answer_write env r v [] = Wants (access.Write r v)
 answer_write env r v (reply ∷ replies) = GoesOn env replies
 
--- the second where the value is 0
+-- the first of two, or the second where the value is 0
 abbrev pub choose : ℕ → Flow → Flow → Flow
 choose zero first second = second
 choose (suc n) first second = first
@@ -60,27 +61,30 @@ times_or_fault n block env replies = if nat_lt MOST_TURNS n then Faults TOO_MANY
 
 -- a number appended to the result, or a fault where there are as many as may be
 abbrev pub emit : Env → ℕ → Replies → Flow
-emit env v replies = if nat_lt (length env.emitted) MOST_NUMBERS then GoesOn (record env { emitted = env.emitted ++ v ∷ [] }) replies else Faults TOO_MANY_NUMBERS
+emit env v replies =
+    if nat_lt (length env.emitted) MOST_NUMBERS then GoesOn (record env { emitted = env.emitted ++ v ∷ [] }) replies
+    else Faults TOO_MANY_NUMBERS
 
 -- a block over so many registers, from an environment, on a list of replies
 abbrev pub exec : Block → ℕ → Env → Replies → Flow
 exec Stop registers env replies = GoesOn env replies
-exec (Assign t e rest) registers env replies =
-    with_value (expr_value env e) (λ v. with_value (target_place env t) (λ place. exec rest registers (store env place v) replies))
-exec (Read t a rest) registers env replies =
-    with_value (and_then (operand_value env a) (below_or_fault registers)) (λ r. with_value (target_place env t) (λ place.
+exec (Assign to value rest) registers env replies =
+    with_value (expr_value env value) (λ v. with_value (target_place env to) (λ place.
+    exec rest registers (store env place v) replies))
+exec (Read to from rest) registers env replies =
+    with_value (and_then (operand_value env from) (below_or_fault registers)) (λ r. with_value (target_place env to) (λ place.
     then_do (answer_read env place r replies) (exec rest registers)))
-exec (Write a e rest) registers env replies =
-    with_value (and_then (operand_value env a) (below_or_fault registers)) (λ r. with_value (expr_value env e) (λ v.
+exec (Write to value rest) registers env replies =
+    with_value (and_then (operand_value env to) (below_or_fault registers)) (λ r. with_value (expr_value env value) (λ v.
     then_do (answer_write env r v replies) (exec rest registers)))
 exec (Scan cell first count rest) registers env replies = then_do (answer_scan env cell first count replies) (exec rest registers)
-exec (If e first second rest) registers env replies =
-    with_value (expr_value env e) (λ v.
+exec (If test first second rest) registers env replies =
+    with_value (expr_value env test) (λ v.
     then_do (choose v (exec first registers env replies) (exec second registers env replies)) (exec rest registers))
-exec (Repeat e body rest) registers env replies =
-    with_value (expr_value env e) (λ n. then_do (times_or_fault n (exec body registers) env replies) (exec rest registers))
-exec (Emit e rest) registers env replies =
-    with_value (expr_value env e) (λ v. then_do (emit env v replies) (exec rest registers))
+exec (Repeat count body rest) registers env replies =
+    with_value (expr_value env count) (λ n. then_do (times_or_fault n (exec body registers) env replies) (exec rest registers))
+exec (Emit value rest) registers env replies =
+    with_value (expr_value env value) (λ v. then_do (emit env v replies) (exec rest registers))
 exec (Halt rest) registers env replies = Ends env.emitted
 
 -- how a flow shows from outside: going on past the end is done

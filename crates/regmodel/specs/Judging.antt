@@ -35,7 +35,8 @@ are_different (m ∷ more) = not (list_any (λ n. n == m) more) && are_different
 abbrev pub has_if_done : ℕ → End → Bool
 has_if_done m fate = elim fate [ Done numbers ↦ list_any (λ n. n == m) numbers.items | Fault code ↦ true | Crashed ↦ true | Running ↦ true ]
 
--- each process that took a step and is done has its own number and 1 among its numbers; the first of these is process p
+-- each process that took a step and is done has one more than its own number among its numbers; the
+-- first of these processes is p
 abbrev pub see_themselves : ℕ → List ProcEnd → Bool
 see_themselves p [] = true
 see_themselves p (end ∷ ends) = (not end.started || has_if_done (p + 1) end.fate) && see_themselves (p + 1) ends

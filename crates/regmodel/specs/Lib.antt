@@ -1,5 +1,6 @@
 pub mod Act
 pub mod AllSchedules
+pub mod Blocks
 pub mod Settings
 pub mod Examples
 pub mod Footprints
@@ -10,6 +11,7 @@ pub mod Limits
 pub mod Judging
 pub mod JudgingExamples
 pub mod OfProg
+pub mod OrderExamples
 pub mod Outcomes
 pub mod Prefixes
 pub mod Program

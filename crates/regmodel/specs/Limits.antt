@@ -55,7 +55,8 @@ statements (Repeat e body rest) = 1 + statements body + statements rest
 statements (Emit e rest) = 1 + statements rest
 statements (Halt rest) = 1 + statements rest
 
--- how deep blocks are nested: a `repeat` around them makes one deeper, an `if` makes this of the depth within it
+-- how deep blocks are nested: a `repeat` around them makes one deeper, an `if` makes this of the
+-- depth within it
 abbrev pub nesting : (ℕ → ℕ) → Block → ℕ
 nesting around_if Stop = 0
 nesting around_if (Assign t e rest) = nesting around_if rest

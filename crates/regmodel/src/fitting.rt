@@ -1,7 +1,8 @@
 //! Whether statements are within the limits of a program.
 
 ghost use Rattle.std.specs.Prelude.{◌≡◌, ◌+◌, ◌<◌, ◌≤◌, ◌↔◌, IsTrue, MatchOption};
-ghost use Rattle.regmodel.specs.Program.{block_of, with_stmt, Stop};
+ghost use Rattle.regmodel.specs.Program.{Stop};
+ghost use Rattle.regmodel.specs.Blocks.{block_of, with_stmt};
 ghost use Rattle.regmodel.specs.Limits as spec;
 
 use crate::limits::CELLS;

@@ -1,7 +1,7 @@
 //! Programs, as trees of statements.
 
 ghost use Rattle.std.specs.Prelude.{◌≡◌, ◌<◌, ◌≤◌, ◌↔◌, IsTrue, IfSome, IsSome};
-ghost use Rattle.regmodel.specs.Program.{block_of};
+ghost use Rattle.regmodel.specs.Blocks.{block_of};
 ghost use Rattle.regmodel.specs.declared.limits.TheConstants.{MOST_OPEN_BLOCKS, MOST_OPEN_REPEATS, MOST_REGISTERS, MOST_STATEMENTS};
 ghost use Rattle.regmodel.specs.Limits.{operands_fit, statements, open_blocks, open_repeats, IsWithin};
 

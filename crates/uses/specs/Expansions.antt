@@ -47,7 +47,8 @@ split_body base id =
 
 -- ---- grid: a splitter a vertex; variable 0 is row + column, variable 1 the name of the vertex
 
--- closes the door; still the last one there: stops with the name of the vertex, else goes to the vertex below
+-- closes the door; still the last one there: stops with the name of the vertex, else goes to the
+-- vertex below
 abbrev pub grid_down : ℕ → Block
 grid_down id =
     Write (Var 3) (One (Number 1)) ▸
@@ -164,7 +165,8 @@ tree_leave base depth value =
 abbrev pub tree_after : ℕ → ℕ → ℕ → Block
 tree_after base depth value = If (Two (Var 1) Equal (Number 0)) (Halt ▸ Stop) Stop ▸ tree_leave base depth value
 
--- goes down from the root; where it stops it writes its value, then collects the values of the marked vertices
+-- goes down from the root; where it stops it writes its value, then collects the values of the
+-- marked vertices
 abbrev pub tree_body : ℕ → ℕ → ℕ → ℕ → Block
 tree_body base depth id value =
     set 0 (One (Number 1)) ▸
@@ -179,7 +181,8 @@ tree_body base depth id value =
 abbrev pub name_rank : Block
 name_rank = If (One (CellOf 3)) (set 2 (Two (Var 2) Add (Number 1)) ▸ Stop) Stop ▸ Stop
 
--- reads another slot: a clash where it holds the proposal, a higher rank where it is smaller and holds something
+-- reads another slot: a clash where it holds the proposal, a higher rank where it is smaller and
+-- holds something
 abbrev pub name_other : ℕ → ℕ → Block
 name_other base slot =
     set 4 (Two (Var 3) Add (Number base)) ▸
@@ -253,7 +256,8 @@ name_body base slots slot = name_rounds (name_round base slots slot)
 
 -- ---- names: a renaming that scans its slots at once, into the cells
 
--- what a slot held, whose number is variable 3: a clash where it is the proposal, a higher rank where the slot is smaller and held something
+-- what a slot held, whose number is variable 3: a clash where it is the proposal, a higher rank
+-- where the slot is smaller and held something
 abbrev pub names_slot : ℕ → Block
 names_slot slot =
     If (Two (CellOf 3) Equal (Var 0)) (set 1 (One (Number 1)) ▸ Stop) Stop ▸
@@ -261,7 +265,8 @@ names_slot slot =
     set 3 (Two (Var 3) Add (Number 1)) ▸
     Stop
 
--- writes the proposal, scans the slots, of which the own one counts as empty, and keeps the proposal or makes the next one
+-- writes the proposal, scans the slots, of which the own one counts as empty, and keeps the
+-- proposal or makes the next one
 abbrev pub names_round : ℕ → ℕ → ℕ → Block
 names_round base slots slot =
     Write (Number (base + slot)) (One (Var 0)) ▸

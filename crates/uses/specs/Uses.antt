@@ -8,11 +8,13 @@ use Rattle.uses.specs.declared.kinds.Use.TheVariants.{Split, Grid, Tree, Name, N
 abbrev pub is_between : ℕ → ℕ → ℕ → Bool
 is_between first last n = nat_le first n && nat_le n last
 
--- a value that a process writes into a register to be seen there: not 0, and within the limit of values
+-- a value that a process writes into a register to be seen there: not 0, and within the limit of
+-- values
 abbrev pub is_mark : ℕ → Bool
 is_mark n = is_between 1 GREATEST_VALUE n
 
--- the limits of a kind's own numbers; its first register has no other limit than that its registers are there
+-- the limits of a kind's own numbers; its first register has no other limit than that its registers
+-- are there
 abbrev pub numbers_fit : Use → Bool
 numbers_fit (Split base id) = is_mark id
 numbers_fit (Grid base side id) = is_between 1 MOST_ROWS side && is_mark id

@@ -2,7 +2,7 @@
 
 ghost use Rattle.std.specs.Prelude.{◌≡◌, ◌≤◌, ◌↔◌, ◌⊎◌, false, Err, IfOk, IfErr, IsTrue};
 ghost use Rattle.regmodel.specs.OfProg.{program_of};
-ghost use Rattle.regmodel.specs.Program.{block_of};
+ghost use Rattle.regmodel.specs.Blocks.{block_of};
 ghost use Rattle.regmodel.specs.declared.limits.TheConstants.{MOST_REGISTERS};
 ghost use Rattle.uses.specs.Expansions.{use_body, expansion};
 ghost use Rattle.uses.specs.declared.expansions.TheConstants.{NO_MEMORY, PAST_LIMIT};

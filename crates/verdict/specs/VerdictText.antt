@@ -72,14 +72,14 @@ abbrev pub failing_text : List ℕ → List ℕ → Bool → ℕ → Cause → O
 failing_text path text is_shortest letters cause onset =
     path ++ codes ": a schedule of " ++ letters_text letters ++ fails_text is_shortest ++ cause_text text cause ++ onset_text onset ++ codes "\n"
 
--- the command that replays a schedule, as it is to be typed in a shell
-abbrev pub replay_text : List ℕ → Schedule → List ℕ
-replay_text path w = codes "\nregtry replay " ++ operand_text path ++ codes " '" ++ schedule_text w ++ codes "'\n"
+-- the command that draws a schedule, as it is to be typed in a shell
+abbrev pub show_text : List ℕ → Schedule → List ℕ
+show_text path w = codes "\nregtry show " ++ operand_text path ++ codes " '" ++ schedule_text w ++ codes "'\n"
 
--- that a schedule fails and why, the schedule as a drawing, and the command that replays it
+-- that a schedule fails and why, the schedule as a drawing, and the command that draws it again
 abbrev pub breach_text : List ℕ → List ℕ → Bool → Breach → List ℕ
 breach_text path text is_shortest breach =
-    failing_text path text is_shortest (length breach.schedule) breach.cause breach.onset ++ drawing_text false breach.drawing ++ replay_text path breach.schedule
+    failing_text path text is_shortest (length breach.schedule) breach.cause breach.onset ++ drawing_text false breach.drawing ++ show_text path breach.schedule
 
 -- whether schedules were cut off: some process still wants an access after as many letters as there may be
 abbrev pub is_cut_off : Findings → Bool

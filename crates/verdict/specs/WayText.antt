@@ -3,7 +3,7 @@ use Rattle.std.specs.Prelude.{ℕ, false, List, ◌++◌, length, Some, None, co
 use Rattle.regmodel.specs.declared.outcomes.ProcEnd.{ProcEnd}
 use Rattle.texts.specs.OutcomeText.{outcome_text}
 use Rattle.drawing.specs.DrawingText.{drawing_text}
-use Rattle.verdict.specs.VerdictText.{bounds_text, letters_text, replay_text}
+use Rattle.verdict.specs.VerdictText.{bounds_text, letters_text, show_text}
 use Rattle.verdict.specs.declared.ways.Discovery.{Discovery}
 use Rattle.verdict.specs.declared.ways.Way.{Way}
 
@@ -11,9 +11,9 @@ use Rattle.verdict.specs.declared.ways.Way.{Way}
 abbrev pub leading_text : List ℕ → ℕ → List ProcEnd → List ℕ
 leading_text path letters ends = path ++ codes ": a schedule of " ++ letters_text letters ++ codes " leads to " ++ outcome_text ends ++ codes "\n\n"
 
--- the same with the drawing of the schedule, and the command that replays it
+-- the same with the drawing of the schedule, and the command that draws it again
 abbrev pub way_text : List ℕ → Way → List ℕ
-way_text path way = leading_text path (length way.schedule) way.outcome ++ drawing_text false way.drawing ++ replay_text path way.schedule
+way_text path way = leading_text path (length way.schedule) way.outcome ++ drawing_text false way.drawing ++ show_text path way.schedule
 
 -- that no schedule leads there, and how far was looked
 abbrev pub nowhere_text : List ℕ → ℕ → ℕ → List ℕ

@@ -10,7 +10,7 @@ use crate::demands::Asked;
 use crate::faults::FaultLine;
 use crate::gaps::Gap;
 use crate::reach::{Reach, reach_of};
-use crate::replays::ReplayCommand;
+use crate::show_commands::ShowCommand;
 use drawing::Drawn;
 use explanations::{origin_of, shown_line};
 use reglang::without_indent;
@@ -19,10 +19,11 @@ use regmodel::limits::MOST_LETTERS;
 use std::io::Write;
 use texts::{Block, Text, WriteFault, write};
 
-/// Writes whether the source holds that the text in the file of this path spells: the schedule that fails, the check that it breaks and the
-/// process at fault, its drawing and the command that replays it; or how much was tried, what was looked for where there is no check line,
-/// which checks no outcome could break, and whether schedules were cut off. Where the shortest one was asked for, that no shorter one fails.
-/// After a fault the writer has taken a beginning of it.
+/// Writes whether the source holds that the text in the file of this path spells: the schedule that
+/// fails, the check that it breaks and the process at fault, its drawing and the command that draws
+/// it again; or how much was tried, what was looked for where there is no check line, which checks
+/// no outcome could break, and whether schedules were cut off. Where the shortest one was asked
+/// for, that no shorter one fails. After a fault the writer has taken a beginning of it.
 pub fn write_verdict<W: Write>(
     path: &[u8],
     text: &[u8],
@@ -82,13 +83,13 @@ impl Text for Failing<'_> {
         };
         let fails = Fails(self.is_shortest);
         let failing = (self.path, ": a schedule of ", letters, fails);
-        let replay = ReplayCommand {
+        let show = ShowCommand {
             path: self.path,
             schedule: &breach.schedule,
         };
         let onset = Onset(breach.onset);
         let told = (failing, cause, onset, "\n");
-        (told, drawing, replay).put(out, block)
+        (told, drawing, show).put(out, block)
     }
 }
 

@@ -4,14 +4,15 @@ ghost use Rattle.texts.specs.Appending.{Wrote};
 ghost use Rattle.verdict.specs.WayText.{discovery_text};
 
 use crate::counts::{Bounds, Letters};
-use crate::replays::ReplayCommand;
+use crate::show_commands::ShowCommand;
 use crate::ways::Discovery;
 use drawing::Drawn;
 use std::io::Write;
 use texts::{WriteFault, write};
 
-/// Writes what was found of the source in the file of this path: the least schedule that leads to an outcome that was looked for, its
-/// drawing and the command that replays it; or that none does, and how far was looked. After a fault the writer has taken a beginning of it.
+/// Writes what was found of the source in the file of this path: the least schedule that leads to
+/// an outcome that was looked for, its drawing and the command that draws it again; or that none
+/// does, and how far was looked. After a fault the writer has taken a beginning of it.
 pub fn write_discovery<W: Write>(
     path: &[u8],
     discovery: &Discovery,
@@ -27,11 +28,11 @@ pub fn write_discovery<W: Write>(
                 all: false,
             };
             let leads = (path, ": a schedule of ", letters, " leads to ");
-            let replay = ReplayCommand {
+            let show = ShowCommand {
                 path,
                 schedule: &way.schedule,
             };
-            write(&(leads, &way.outcome, "\n\n", drawing, replay), out)
+            write(&(leads, &way.outcome, "\n\n", drawing, show), out)
         }
         None => {
             let bounds = Bounds {

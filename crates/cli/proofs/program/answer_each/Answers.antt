@@ -14,7 +14,7 @@ loop-path-preserved g c =
       done = record {
         no_file = c.answer-status.ensures.no_file;
         answered = c.answer-status.ensures.answered;
-        refused = c.answer-status.ensures.refused;
+        refused = λ high. let refused = c.answer-status.ensures.refused high in record { fault = refused.fault; why = refused.why; status_is = refused.status_is; told_is = tt };
         status_is = c.answer-status.ensures.status;
       };
       highest = c.worse-worst.ensures;

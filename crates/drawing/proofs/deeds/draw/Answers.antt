@@ -2,8 +2,7 @@ use Rattle.std.proofs.Common.{◌≡◌, ◌<◌, ◌∙◌, [], ap, length, ari
 use Rattle.std.proofs.lemmas.List.{take_all}
 use Rattle.world.proofs.SameWorlds.{same_since}
 use Rattle.world.specs.Sound.{letters_of, world_programs}
-use Rattle.drawing.specs.Pictures.{is_fault_of}
-use Rattle.drawing.proofs.RowFacts.{fault-same, held-past, letters-more, number-told, picture-whole, rows-past, values-same}
+use Rattle.drawing.proofs.RowFacts.{held-past, letters-more, number-told, picture-whole, rows-past, values-same}
 use Rattle.drawing.proofs.deeds.draw.Goals as goal
 
 pub loop-place-preserved : goal.loop-place-preserved
@@ -20,7 +19,6 @@ loop-place-preserved g c =
         number = number-told _ _ _ _ c.step.ensures.stepped c.depth.ensures.value;
         process = c.process.ensures;
         deed = c.deed_of-deed.ensures;
-        at_fault = fault-same _ _ _ _ _ _ _ went.programs c.step.ensures.stepped c.process-in-loop-place.ensures (c.is_at_fault.ensures ∙ ap (is_fault_of c.process-in-loop-place.result) c.outcome.ensures);
         registers_are = held-past _ _ _ _ before _ _ _ _ _ c.held_since.ensures (c.as_slice.ensures.value ∙ (copied ∙ c.registers.ensures.value)) went.programs went.registers c.step.ensures.stepped c.registers-in-loop-place.ensures.value;
       });
       count = omega (arith, kept.count);
@@ -37,7 +35,7 @@ returns g c =
       schedule = rw (kept.same.programs, kept.same.budget, went) at kept.same.at.schedule;
       drawn = picture-whole _ _ _ (letters_of c.loop-place.world) _ _ _ _ _ c.new.ensures kept.same.programs went
           (c.held_since-start.ensures (world_programs (λ b. (goal.Machine-dyn g b).program b.1) c.args.world.now) [] [] _ zeros zeros)
-          kept.rows c.outcome-2.ensures;
+          kept.rows c.outcome.ensures;
       ok = went;
       refused = tt;
     }

@@ -5,5 +5,5 @@ use Rattle.drawing.proofs.layout.room_of.Given as goal
 abbrev pub invariant-loop-column : goal.invariant-loop-column
 invariant-loop-column l = record {
   value : l.room ≡ layout.room_of l.drawing l.widths.items l.first l.column;
-  few : l.room ≤ 257 * l.column;
+  few : l.room ≤ 65537 * l.column;
 }

@@ -1,7 +1,7 @@
 use Rattle.std.proofs.Common.{◌+◌, [], ◌∷◌, drop, get_or, Ok, refl, ap, sym, subst, ◌∙◌, arith}
 use Rattle.std.proofs.lemmas.Result.{err_from_is_err_and}
 use Rattle.regmodel.specs.Act.{exec, times}
-use Rattle.regmodel.specs.Program.{with_stmt, block_of}
+use Rattle.regmodel.specs.Blocks.{with_stmt, block_of}
 use Rattle.machine.specs.declared.run.Frame.{Frame}
 use Rattle.machine.specs.declared.run.Part.TheVariants.{Reading, Turn}
 use Rattle.machine.specs.declared.values.Place.TheVariants.{Var}

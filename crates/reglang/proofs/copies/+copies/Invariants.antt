@@ -1,5 +1,5 @@
 use Rattle.std.proofs.Common.{◌≡◌, ◌++◌, drop}
-use Rattle.regmodel.specs.Program.{block_of}
+use Rattle.regmodel.specs.Blocks.{block_of}
 use Rattle.reglang.proofs.copies.+copies.Given as goal
 
 -- the copies so far and what is left mean the whole

@@ -1,6 +1,6 @@
 use Rattle.std.proofs.Common.{◌≡◌, ◌++◌, map, take}
 use Rattle.std.specs.List.{flat_map}
-use Rattle.reglang.specs.Contents.{body_of}
+use Rattle.reglang.specs.Bodies.{body_of}
 use Rattle.reglang.specs.Writing.{lines_text, process_lines}
 use Rattle.reglang.proofs.writer.push_processes.Given as goal
 

@@ -1,6 +1,7 @@
 use Rattle.std.proofs.Common.{None}
 use Rattle.texts.specs.Appending.{Puts}
-use Rattle.drawing.specs.DrawingText.{joined, table_line}
+use Rattle.drawing.specs.Cells.{joined}
+use Rattle.drawing.specs.DrawingText.{table_line}
 use Rattle.drawing.proofs.tables.LinesText.put.Given as goal
 
 abbrev pub invariant-loop-line : goal.invariant-loop-line

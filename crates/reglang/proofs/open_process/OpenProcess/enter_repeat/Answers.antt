@@ -1,6 +1,6 @@
 use Rattle.std.proofs.Common.{Ok, ap, sym, ◌∙◌, arith}
 use Rattle.std.specs.List.{count_by}
-use Rattle.regmodel.specs.Program.{block_of}
+use Rattle.regmodel.specs.Blocks.{block_of}
 use Rattle.reglang.specs.Drafts.{contents_before, entered, is_turn}
 use Rattle.reglang.specs.declared.open_process.Open.TheVariants.{Turn}
 use Rattle.reglang.proofs.OneLineMore.{answered, entered_repeat, no_more_turns}

@@ -1,5 +1,5 @@
 use Rattle.std.proofs.Common.{Ok, ap, sym, ◌∙◌}
-use Rattle.regmodel.specs.Program.{block_of}
+use Rattle.regmodel.specs.Blocks.{block_of}
 use Rattle.reglang.specs.Drafts.{Inside, contents_before, frames_of}
 use Rattle.reglang.proofs.Joins.{block_of-push}
 use Rattle.reglang.proofs.open_process.OpenProcess.leave.Goals as goal

@@ -1,0 +1,115 @@
+//! Words of other languages, and how what they say is written here.
+
+ghost use Rattle.std.specs.Prelude.{◌≡◌, map, option_copied};
+ghost use Rattle.explanations.specs.Idioms as spec;
+ghost use Rattle.reglang.specs.Words.{spelled_in};
+
+const AND: &str = "write A * B for A and B: it is 0 where one of them is";
+
+const OR: &str = "write A + B for A or B: it is 0 where both are";
+
+const NOT: &str = "write A = 0 for not A";
+
+const UNEQUAL: &str = "A and B differ where A = B is 0: write A = B, and compare that with 0";
+
+const DIVISION: &str = "there is no division: subtract in a repeat, and count the turns";
+
+const REMAINDER: &str = "there is no remainder: subtract in a repeat, and take what is left";
+
+const ADDITION: &str = "write the sum or difference out, as in set v0 v0 + 1";
+
+const ELSE_IF: &str = "write else, and if on the next line; each if has its own fi";
+
+const LEFT_OUT: &str = "leave it out: what is run stands on the lines behind the if or repeat";
+
+const LOOP: &str =
+    "write repeat with as many turns as may be needed, and an if in it: further turns do nothing";
+
+const AWAIT: &str =
+    "write repeat with some turns, in which the register is read, and an if with the rest of the process and halt";
+
+const BREAK: &str =
+    "write an if in the repeat, so that further turns do nothing; halt ends the whole process";
+
+const RETURN: &str = "write emit for each number, and then halt";
+
+const DECLARATION: &str = "leave it out: the variables v0 to v15 are there from the start";
+
+/// Words of other languages, each with how what it says is written here.
+const IDIOMS: [(&[u8], &str); 46] = [
+    (b">", "write B < A for A > B"),
+    (
+        b"<=",
+        "A <= B holds where B < A is 0: write B < A, and compare that with 0",
+    ),
+    (
+        b">=",
+        "A >= B holds where A < B is 0: write A < B, and compare that with 0",
+    ),
+    (b"!=", UNEQUAL),
+    (b"<>", UNEQUAL),
+    (b"==", "write = for equality"),
+    (b"and", AND),
+    (b"&&", AND),
+    (b"&", AND),
+    (b"or", OR),
+    (b"||", OR),
+    (b"|", OR),
+    (b"not", NOT),
+    (b"!", NOT),
+    (b"true", "write 1 for true"),
+    (b"false", "write 0 for false"),
+    (b"/", DIVISION),
+    (b"div", DIVISION),
+    (b"%", REMAINDER),
+    (b"mod", REMAINDER),
+    (b"+=", ADDITION),
+    (b"-=", ADDITION),
+    (b":=", "leave it out, as in set v0 1"),
+    (b"elif", ELSE_IF),
+    (b"elsif", ELSE_IF),
+    (b"elseif", ELSE_IF),
+    (b"endif", "write fi"),
+    (b"then", LEFT_OUT),
+    (b"do", LEFT_OUT),
+    (b"while", LOOP),
+    (b"until", LOOP),
+    (b"for", LOOP),
+    (b"loop", LOOP),
+    (b"await", AWAIT),
+    (b"wait", AWAIT),
+    (b"break", BREAK),
+    (b"continue", BREAK),
+    (b"return", RETURN),
+    (b"exit", RETURN),
+    (b"print", "write emit"),
+    (
+        b"assert",
+        "write a check line behind the processes, which tells what every outcome is to have",
+    ),
+    (b"let", DECLARATION),
+    (b"var", DECLARATION),
+    (b"int", DECLARATION),
+    (b"{", "leave it out"),
+    (b"}", "write end, fi or done"),
+];
+
+/// How what a word says is written here, where it is one of these.
+fn here_in(idioms: &[(&'static [u8], &'static str)], word: &[u8]) -> Option<&'static str>
+    ensures { option_copied result
+        ≡ spelled_in (map (λ row. (row.0.now, row.1.now)) idioms.now) word.now }
+{
+    for (foreign, here) in idioms {
+        if word == *foreign {
+            return Some(*here);
+        }
+    }
+    None
+}
+
+/// How what a word says is written here, where it is one of the table.
+pub(crate) fn idiom_of(word: &[u8]) -> Option<&'static str>
+    ensures { option_copied result ≡ spec.idiom_of word.now }
+{
+    here_in(&IDIOMS, word)
+}

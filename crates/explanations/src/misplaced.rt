@@ -1,0 +1,125 @@
+//! What to change in a line that cannot stand where it is, and where a text ends within a process.
+
+ghost use Rattle.std.specs.Prelude.{◌≡◌};
+ghost use Rattle.explanations.specs.Misplaced as spec;
+ghost use Rattle.reglang.specs.Spelling.{keyword_text};
+
+use crate::open_blocks::{Block as Inside, Opened};
+use reglang::{Keyword, Word};
+use std::io::Write;
+use texts::{Block, Text, WriteFault};
+
+/// What to change in a line that cannot stand where it is.
+#[derive(Clone, Copy)]
+pub(crate) enum Place {
+    /// These words tell it.
+    Words(&'static str),
+    /// This block is to be closed.
+    Close(Opened),
+    /// No such block is open.
+    NoBlock(Inside),
+    /// The if has its else at the line with this number.
+    SecondElse(u64),
+}
+
+/// The word that opens a block.
+fn opener(block: Inside) -> &'static str
+    ensures { result.now ≡ keyword_text (spec.opener block) }
+{
+    match block {
+        Inside::Process => "process",
+        Inside::If => "if",
+        Inside::Repeat => "repeat",
+    }
+}
+
+/// The word that closes a block.
+fn closer(block: Inside) -> &'static str
+    ensures { result.now ≡ keyword_text (spec.closer block) }
+{
+    match block {
+        Inside::Process => "end",
+        Inside::If => "fi",
+        Inside::Repeat => "done",
+    }
+}
+
+/// That a block is open.
+impl Text for Opened {
+    ghost text = { spec.open_text };
+
+    fn put<W: Write>(&self, out: &mut W, block: &mut Block) -> Result<(), WriteFault> {
+        let which = ("the ", opener(self.block), " of line ", self.line);
+        (
+            which,
+            " is open here, and ",
+            closer(self.block),
+            " closes it",
+        )
+            .put(out, block)
+    }
+}
+
+impl Text for Place {
+    ghost text = { spec.place_text };
+
+    fn put<W: Write>(&self, out: &mut W, block: &mut Block) -> Result<(), WriteFault> {
+        match *self {
+            Place::Words(words) => words.put(out, block),
+            Place::Close(opened) => opened.put(out, block),
+            Place::NoBlock(inside) => ("no ", opener(inside), " is open here").put(out, block),
+            Place::SecondElse(line) => ("this if has its else at line ", line).put(out, block),
+        }
+    }
+}
+
+/// What to change in a line that closes such a block, or parts it, where this block is open.
+fn closing_in(closed: Inside, opened: Opened) -> Place
+    ensures { spec.place_text result ≡ spec.closing_in closed opened.block opened }
+{
+    match (closed, opened.block) {
+        (Inside::If, Inside::If) => match opened.else_line {
+            Some(line) => Place::SecondElse(line),
+            None => Place::Words(""),
+        },
+        (Inside::If | Inside::Repeat, Inside::Process) => Place::NoBlock(closed),
+        _ => Place::Close(opened),
+    }
+}
+
+/// The same where this block is open, or none is.
+fn closing(closed: Inside, opened: Option<Opened>) -> Place
+    ensures { spec.place_text result ≡ spec.closing_words closed opened }
+{
+    match opened {
+        Some(opened) => closing_in(closed, opened),
+        None => Place::NoBlock(closed),
+    }
+}
+
+/// What to change in a line with this first word.
+pub(crate) fn place_of(first: Word, opened: Option<Opened>) -> Place
+    ensures { spec.place_text result ≡ spec.place_words first opened }
+{
+    match (first, opened) {
+        (Word::Keyword(Keyword::Registers), _) => {
+            Place::Words("write the registers line once, before all others")
+        }
+        (Word::Keyword(Keyword::End), _) => closing(Inside::Process, opened),
+        (Word::Keyword(Keyword::Else | Keyword::Fi), _) => closing(Inside::If, opened),
+        (Word::Keyword(Keyword::Done), _) => closing(Inside::Repeat, opened),
+        (Word::Keyword(Keyword::Process | Keyword::Check), Some(opened)) => Place::Close(opened),
+        (_, Some(_)) => Place::Words("a use line stands alone between process and end"),
+        (_, None) => Place::Words("write the line between process and end"),
+    }
+}
+
+/// What to change where the text ends.
+pub(crate) fn end_place(opened: Option<Opened>) -> Place
+    ensures { spec.place_text result ≡ spec.end_words opened }
+{
+    match opened {
+        Some(opened) => Place::Close(opened),
+        None => Place::Words(""),
+    }
+}

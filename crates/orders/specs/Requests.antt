@@ -1,0 +1,56 @@
+-- What the words of the command line ask for, by what clap makes of them.
+use Rattle.std.specs.Prelude.{◌≡◌, ◌≤◌, ⊤, ℕ, Bool, true, false, List, map, Option, Some, codes}
+use Rattle.std.specs.Option.{option_map}
+use Rattle.clap.specs.Words.{Text, first_value, found_of, one_text, rows_of, subcommand_name_of, subcommand_rows_of}
+use Rattle.clap.specs.declared.parser.matches.ArgMatches.{ArgMatches}
+use Rattle.clap.specs.declared.parser.matches.Found.{Found}
+use Rattle.command_words.specs.CommandLine.{IsParseOf, command_line, word_at_name}
+use Rattle.regmodel.specs.declared.limits.TheConstants.{MOST_WORKERS}
+use Rattle.orders.specs.Orders.{IsCheck, IsExploration, IsFindTold, IsFlagTold, IsWalk, texts_at, word_at, word_told}
+use Rattle.orders.specs.declared.orders.Order as orders
+use Rattle.orders.specs.declared.orders.Request.{Request}
+use Rattle.orders.specs.declared.orders.Request.TheVariants.{Merge, Order, Version}
+use Rattle.orders.specs.declared.tasks.Task.{Task}
+
+-- to draw the schedule that the words tell, with all registers where they say so
+abbrev pub IsShow : Found → Task → Type 0
+IsShow found task = (all : Bool) × IsFlagTold (one_text found (codes "all")) all × IsWalk (word_at (codes "SCHEDULE") found) true all task
+
+-- what the words behind the name of a subcommand ask to do; `reads` tells what is read of standard input
+pub record IsTaskTold (reads : List ℕ → Type 0) (processors : ℕ) (name : Text) (found : Found) (task : Task) : Type 0 where
+  pub check : name ≡ codes "check" → IsCheck (one_text found) processors task
+  pub explore : name ≡ codes "explore" → IsExploration (one_text found) (word_told found) task
+  pub find : name ≡ codes "find" → IsFindTold reads found processors task
+  pub replay : name ≡ codes "replay" → IsWalk (word_at (codes "SCHEDULE") found) false false task
+  pub show : name ≡ codes "show" → IsShow found task
+
+-- so it is, with these files in their order, and whether it is to be told meanwhile how far it has come
+pub record IsOrderTold (reads : List ℕ → Type 0) (processors : ℕ) (name : Text) (found : Found) (order : orders.Order) : Type 0 where
+  pub task : IsTaskTold reads processors name found order.task
+  pub paths : map (λ path. path.now) order.paths.items ≡ texts_at (codes "FILE") found
+  pub progress : IsFlagTold (one_text found (codes "progress")) order.progress
+
+-- the subcommand that a parse names, and what is found behind it
+pub record IsNamedBy (m : ArgMatches) (name : Text) (found : Found) : Type 0 where
+  pub name_is : subcommand_name_of m ≡ Some name
+  pub rows : option_map (λ named. named.1) (subcommand_rows_of m) ≡ Some (rows_of found)
+
+-- a parse asks to do something with files, or to merge the parts in a file
+abbrev pub IsRequestBy : (List ℕ → Type 0) → ℕ → ArgMatches → Request → Type 0
+IsRequestBy reads processors m Version = ⊥
+IsRequestBy reads processors m (Order order) = (name : Text) × (found : Found) × IsNamedBy m name found × IsOrderTold reads processors name found order
+IsRequestBy reads processors m (Merge path) = (found : Found) × IsNamedBy m (codes "merge") found × (first_value found (codes "FILE") ≡ Some path.now)
+
+-- so asks a parse of these words, where there are taken to be so many processors
+pub record IsParsedTo (reads : List ℕ → Type 0) (words : List Text) (request : Request) : Type 0 where
+  pub processors : ℕ
+  pub few : processors ≤ MOST_WORKERS
+  pub m : ArgMatches
+  pub parse : IsParseOf (command_line (word_at_name words)) m
+  pub told : IsRequestBy reads processors m request
+
+-- what these words ask for; of those that ask for the version, which clap tells of, nothing is said
+abbrev pub IsRequestOf : (List ℕ → Type 0) → List Text → Request → Type 0
+IsRequestOf reads words Version = ⊤
+IsRequestOf reads words (Order order) = IsParsedTo reads words (Order order)
+IsRequestOf reads words (Merge path) = IsParsedTo reads words (Merge path)

@@ -1,0 +1,64 @@
+"""Searches for outcomes that a report tells, and for one that it does not."""
+
+import re
+
+from runs import faults_of, run
+
+
+def how_checked(dice, settings):
+    """The options of a check or a search with these bounds: some workers, and states remembered in some megabytes or in none."""
+    bounds = [word for name in ("length", "crashes") for word in (f"--{name}", str(settings[name]))]
+    return [
+        *bounds,
+        "--workers",
+        dice.choice(["1", "2", "16"]),
+        *dice.choice([[], ["--cache", "0"], ["--cache", "1"]]),
+    ]
+
+
+def search(dice, folder, settings, patterns):
+    """The schedule that a search for these patterns names, None where it names none, and what is wrong with its answer."""
+    answer = run(folder, ["find", "case.reg", *patterns, *how_checked(dice, settings)])
+    faults = [*faults_of(answer)]
+    named = re.fullmatch(
+        rb"case\.reg: a schedule of \d+ letters? leads to [^\n]*\n\n.*\nregtry show case\.reg '(.*)'\n",
+        answer[1],
+        re.DOTALL,
+    )
+    if (
+        answer[0] != (1 if named else 0)
+        or not named
+        and not answer[1].startswith(b"case.reg: no schedule leads there, up to ")
+    ):
+        faults.append(f"a search for {patterns} answers {answer}")
+    return named and named[1].decode(), faults
+
+
+def in_order(schedule):
+    """What schedules are compared by: runs come before crashes, and lower processes first."""
+    return [(letter[0] == "C", letter[1:]) for letter in schedule.split() if letter != "."]
+
+
+def faults_of_searches(dice, folder, settings, report):
+    """What is wrong with the searches for outcomes that a report tells, and for one that it does not."""
+    outcomes = [line[8:].decode() for line in report.splitlines() if line.startswith(b"outcome ")]
+    least = re.search(r"^least (.*)\nfails (.*)\n", report.decode(), re.MULTILINE)
+    chosen = dice.sample(outcomes, min(3, len(outcomes)))
+    ways = {}
+    for outcome in dict.fromkeys([*chosen, *([least[2]] if least else [])]):
+        ways[outcome], faults = search(dice, folder, settings, [outcome])
+        yield from faults
+        replayed = run(folder, ["replay", "case.reg", ways[outcome] or "?"])[1]
+        if not replayed.startswith(f"outcome {outcome}\n".encode()):
+            yield f"the outcome {outcome} is found by {ways[outcome]}, which is replayed to {replayed[:80]!r}"
+    if least and ways[least[2]] != least[1]:
+        yield f"the least failing schedule is {least[1]}, and its outcome is found by {ways[least[2]]}"
+    together, faults = search(dice, folder, settings, chosen)
+    yield from faults
+    if not faults and together != min((ways[outcome] or "" for outcome in chosen), key=in_order):
+        yield f"of {ways} together {together} is found"
+    other = "; ".join(["done 999999999", *outcomes[0].split("; ")[1:]])
+    way, faults = search(dice, folder, settings, [other])
+    yield from faults
+    if way and other not in outcomes:
+        yield f"{other} is found by {way}, and no exploration reports it"
