@@ -16,22 +16,31 @@ def how_checked(dice, settings):
     ]
 
 
+def line_of_match(patterns, outcome):
+    """The line that says which of several patterns an outcome matches, where each of them is the text of an outcome."""
+    if len(patterns) == 1 or outcome not in patterns:
+        return ""
+    return f"It matches pattern {patterns.index(outcome) + 1} of {len(patterns)}: {outcome}\n"
+
+
 def search(dice, folder, settings, patterns):
     """The schedule that a search for these patterns names, None where it names none, and what is wrong with its answer."""
     answer = run(folder, ["find", "case.reg", *patterns, *how_checked(dice, settings)])
     faults = [*faults_of(answer)]
     named = re.fullmatch(
-        rb"case\.reg: a schedule of \d+ letters? leads to [^\n]*\n\n.*\nregtry show case\.reg '(.*)'\n",
+        rb"case\.reg: a schedule of \d+ letters? leads to ([^\n]*)\n((?:It [^\n]*\n)?)\n.*\nregtry show case\.reg '(.*)'\n",
         answer[1],
         re.DOTALL,
     )
     if (
         answer[0] != (1 if named else 0)
         or not named
-        and not answer[1].startswith(b"case.reg: no schedule leads there, up to ")
+        and not answer[1].startswith(b"case.reg: no schedule leads ")
     ):
         faults.append(f"a search for {patterns} answers {answer}")
-    return named and named[1].decode(), faults
+    if named and named[2].decode() != line_of_match(patterns, named[1].decode()):
+        faults.append(f"a search for {patterns} that leads to {named[1]} says of its pattern {named[2]}")
+    return named and named[3].decode(), faults
 
 
 def in_order(schedule):

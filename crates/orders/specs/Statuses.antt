@@ -4,7 +4,7 @@ use Rattle.regmodel.specs.declared.letters.Letter.{Letter}
 use Rattle.regmodel.specs.Prefixes.{FitsPrefix}
 use Rattle.regmodel.specs.ScheduleText.{schedule_text}
 use Rattle.orders.specs.declared.refusals.Refusal.{Refusal}
-use Rattle.orders.specs.declared.refusals.Refusal.TheVariants.{Words, Setting, Bound, Schedule, Pattern, PatternLine, NoPattern, TwiceStandard, File, LongFile, Memory}
+use Rattle.orders.specs.declared.refusals.Refusal.TheVariants.{Words, Setting, Bound, Schedule, Pattern, PatternLine, TwiceStandard, File, LongFile, Memory}
 
 -- 2 where what was asked is refused, 3 where it could not be done
 abbrev pub status_of : Refusal → ℕ
@@ -14,7 +14,6 @@ status_of (Bound bound) = 2
 status_of Schedule = 2
 status_of (Pattern place standing) = 2
 status_of (PatternLine place standing) = 2
-status_of NoPattern = 2
 status_of TwiceStandard = 2
 status_of File = 2
 status_of LongFile = 2

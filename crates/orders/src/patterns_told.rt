@@ -16,7 +16,7 @@ use std::alloc::Global;
 const LABEL: &[u8] = b"outcome ";
 
 /// The patterns of the words that stand where patterns do; or where that is one dash, of the lines of standard input, which `opener` opens by it.
-/// The first text that no pattern has is refused, and standard input without a line.
+/// The first text that no pattern has is refused.
 pub fn patterns_told<O: Opener>(
     alloc: Global,
     words: &[&str],
@@ -64,7 +64,7 @@ fn patterns_of(alloc: Global, texts: &[&str]) -> Result<Vec<Pattern>, Refusal>
     Ok(patterns)
 }
 
-/// The patterns of the lines of a text, of which there has to be one.
+/// The patterns of the lines of a text, of which there may be none.
 fn patterns_in(alloc: Global, text: &[u8]) -> Result<Vec<Pattern>, Refusal>
     ensures { IfOk result
         (λ patterns. map pattern_text patterns.items ≡ spec.texts_in text.now) }
@@ -78,9 +78,6 @@ fn patterns_in(alloc: Global, text: &[u8]) -> Result<Vec<Pattern>, Refusal>
         };
         patterns.push(pattern)?;
         rest = after;
-    }
-    if patterns.is_empty() {
-        return Err(Refusal::NoPattern);
     }
     Ok(patterns)
 }

@@ -40,9 +40,6 @@ pub enum Refusal {
     /// A line of standard input that is the text of no pattern: its place from 0, and that of its first standing at fault.
     #[error("pattern {0} standing {1}")]
     PatternLine(usize, usize),
-    /// Standard input without a pattern.
-    #[error("patterns")]
-    NoPattern,
     /// Standard input named for the source and for the patterns.
     #[error("patterns")]
     TwiceStandard,
@@ -70,7 +67,6 @@ impl Reason for Refusal {
             | Refusal::Schedule
             | Refusal::Pattern(_, _)
             | Refusal::PatternLine(_, _)
-            | Refusal::NoPattern
             | Refusal::TwiceStandard
             | Refusal::File
             | Refusal::LongFile => 2,
@@ -102,11 +98,6 @@ impl Reason for Refusal {
                 "{subject}:{}: standing {}: this is no way in which a process can stand: {STANDINGS}",
                 place.saturating_add(1),
                 standing.saturating_add(1)
-            ),
-            Refusal::NoPattern => write_line(
-                subject,
-                ": there is no pattern: write one a line",
-                err,
             ),
             Refusal::TwiceStandard => write_line(
                 subject,

@@ -1,4 +1,5 @@
 pub mod Bytes
 pub mod EndTexts
+pub mod FirstMatch
 pub mod JustOneText
 pub mod PatternRows

@@ -1,11 +1,11 @@
 -- Worked examples of patterns: the definitions compute.
-use Rattle.std.specs.Prelude.{◌≡◌, true, false, List, [], ◌∷◌, refl, codes}
+use Rattle.std.specs.Prelude.{◌≡◌, true, false, List, [], ◌∷◌, Some, refl, codes}
 use Rattle.std.specs.Fmt.{digits}
 use Rattle.regmodel.specs.declared.outcomes.End.TheVariants as end
 use Rattle.regmodel.specs.declared.outcomes.ProcEnd.{ProcEnd}
 use Rattle.regmodel.specs.Examples.{idle, started}
 use Rattle.patterns.specs.declared.standings.Standing.TheVariants.{Any, Done, Just}
-use Rattle.patterns.specs.Matching.{matches, matches_none}
+use Rattle.patterns.specs.Matching.{first_match, matches, matches_none}
 use Rattle.patterns.specs.PatternText.{pattern_text}
 
 -- the first process is done with 1 and 20, and the second one has crashed before its first step
@@ -32,6 +32,9 @@ one_of_two = refl
 
 pub none_of_two : matches_none ((Any ∷ []) ∷ (Any ∷ Done ∷ []) ∷ []) outcome ≡ true
 none_of_two = refl
+
+pub second_of_three : first_match ((Any ∷ Done ∷ []) ∷ (Done ∷ Any ∷ []) ∷ (Any ∷ Any ∷ []) ∷ []) outcome ≡ Some 1
+second_of_three = refl
 
 pub text_of_a_pattern : pattern_text (Any ∷ Done ∷ Just (started (1 ∷ 20 ∷ [])) ∷ Just (idle (end.Fault 2)) ∷ []) ≡ codes "*; done *; done 1 20; fault 2 idle"
 unfolding digits

@@ -1,10 +1,11 @@
 -- Which outcomes match a pattern.
-use Rattle.std.specs.Prelude.{◌==◌, ◌&&◌, Bool, true, false, not, if◌then◌else◌, List, [], ◌∷◌}
-use Rattle.std.specs.List.{list_any}
+use Rattle.std.specs.Prelude.{◌≡◌, ◌==◌, ◌+◌, ◌&&◌, ℕ, Bool, true, false, not, if◌then◌else◌, List, [], ◌∷◌, Option, Some, slice_get}
+use Rattle.std.specs.List.{list_any, position}
 use Rattle.std.specs.Str.{bytes_eq}
 use Rattle.regmodel.specs.declared.outcomes.End.{End}
 use Rattle.regmodel.specs.declared.outcomes.End.TheVariants.{Done, Fault, Crashed, Running}
 use Rattle.regmodel.specs.declared.outcomes.ProcEnd.{ProcEnd}
+use Rattle.patterns.specs.declared.matching.Match.{Match}
 use Rattle.patterns.specs.declared.standings.Standing.{Standing}
 use Rattle.patterns.specs.declared.standings.Standing.TheVariants as standing
 
@@ -43,3 +44,14 @@ matches (standing ∷ standings) (end ∷ ends) = allows standing end && matches
 -- whether an outcome matches none of these patterns
 abbrev pub matches_none : List (List Standing) → List ProcEnd → Bool
 matches_none patterns ends = not (list_any (λ pattern. matches pattern ends) patterns)
+
+-- the place of the first of some patterns that an outcome matches, counted from 0
+abbrev pub first_match : List (List Standing) → List ProcEnd → Option ℕ
+first_match patterns ends = position (λ pattern. matches pattern ends) patterns
+
+-- the first of some patterns that an outcome matches, and its number among them, counted from 1
+pub record IsFirstMatch (patterns : List (List Standing)) (ends : List ProcEnd) (found : Match) : Type 0 where
+  pub place : ℕ
+  pub first : first_match patterns ends ≡ Some place
+  pub number : found.number ≡ place + 1
+  pub pattern : slice_get patterns place ≡ Some found.pattern

@@ -1,7 +1,8 @@
 //! Which outcomes match patterns. No call takes memory.
 
-ghost use Rattle.std.specs.Prelude.{◌≡◌};
+ghost use Rattle.std.specs.Prelude.{◌≡◌, ◌<◌, IfSome, IsNone, length, true};
 ghost use Rattle.patterns.specs.Matching as spec;
+ghost use Rattle.patterns.specs.Matching.{IsFirstMatch};
 
 use crate::standings::{Pattern, Standing};
 use regmodel::{End, Judge, Outcome, ProcEnd};
@@ -70,4 +71,35 @@ fn none_matches(patterns: &[Pattern], outcome: &Outcome) -> bool
         }
     }
     true
+}
+
+/// A pattern that an outcome matches, of some.
+#[derive(Debug, Drop)]
+pub struct Match {
+    /// Its number among them, counted from 1.
+    pub number: u64,
+    /// The pattern.
+    pub pattern: Pattern,
+}
+
+/// The first of some patterns that an outcome matches. None where it matches none.
+pub fn first_match(patterns: &[Pattern], outcome: &Outcome) -> Option<Match>
+    ensures some { IfSome result (IsFirstMatch patterns.now outcome.now) }
+    ensures none { IsNone result → spec.matches_none patterns.now outcome.now ≡ true }
+{
+    let Some(place) = first_place(patterns, outcome) else {
+        return None;
+    };
+    Some(Match {
+        number: (place + 1) as u64,
+        pattern: patterns[place].copy(),
+    })
+}
+
+/// The place of the first of some patterns that an outcome matches, counted from 0.
+fn first_place(patterns: &[Pattern], outcome: &Outcome) -> Option<usize>
+    ensures place { result ≡ spec.first_match patterns.now outcome.now }
+    ensures within { IfSome result (λ place. place < length patterns.now) }
+{
+    patterns.iter().position(|pattern| pattern.matches(outcome))
 }

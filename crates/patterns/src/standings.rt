@@ -44,4 +44,11 @@ impl Pattern {
     {
         self.standings.as_slice()
     }
+
+    /// The same pattern. It takes no memory, which a clone might be refused.
+    pub fn copy(&self) -> Pattern
+        ensures { result ≡ self.now }
+    {
+        self.clone().unwrap()
+    }
 }

@@ -1,15 +1,18 @@
--- Worked examples of what a check demands, of checks that are vacuous, of faults in words, and of paths in a shell.
+-- Worked examples of what a check demands, of checks that are vacuous, of faults and patterns in words, and of paths in a shell.
 use Rattle.std.specs.Prelude.{◌≡◌, true, false, [], ◌∷◌, None, Some, codes, refl}
+use Rattle.std.specs.Fmt.{digits}
 use Rattle.regmodel.specs.declared.clauses.Clause.TheVariants as clause
 use Rattle.regmodel.specs.declared.clauses.Subject.TheVariants as subject
 use Rattle.regmodel.specs.declared.outcomes.End.{End}
 use Rattle.regmodel.specs.declared.outcomes.End.TheVariants as end
 use Rattle.regmodel.specs.declared.outcomes.ProcEnd.{ProcEnd}
+use Rattle.patterns.specs.declared.standings.Standing.TheVariants.{Any, Done}
 use Rattle.verdict.specs.Demands.{clauses_asked, meets_demands}
 use Rattle.verdict.specs.FaultText.{reason_text}
 use Rattle.verdict.specs.Faults.{first_fault}
 use Rattle.verdict.specs.Gaps.{want_of}
 use Rattle.verdict.specs.ShellWords.{operand_text}
+use Rattle.verdict.specs.WayText.{match_text, nowhere_text}
 
 -- a process that took no step
 abbrev idle : End → ProcEnd
@@ -51,6 +54,17 @@ none_at_fault = refl
 
 pub in_words : reason_text 4 ≡ codes "it emits a ninth number"
 in_words = refl
+
+pub one_of_three : match_text 3 (record { number = 2; pattern = Done ∷ Any ∷ [] }) ≡ codes "It matches pattern 2 of 3: done *; *\n"
+unfolding digits
+one_of_three = refl
+
+pub the_only_one : match_text 1 (record { number = 1; pattern = Any ∷ [] }) ≡ []
+the_only_one = refl
+
+pub none_of_two : nowhere_text (codes "a.reg") 2 8 1 ≡ codes "a.reg: no schedule leads to any of 2 patterns, up to 8 letters and 1 crash\n"
+unfolding digits
+none_of_two = refl
 
 pub path_as_it_stands : operand_text (codes "examples/in_order.reg") ≡ codes "examples/in_order.reg"
 path_as_it_stands = refl

@@ -1,18 +1,78 @@
 //! Which schedule leads to outcomes that were looked for, in words. No call takes memory.
 
+ghost use Rattle.std.specs.Prelude.{length};
 ghost use Rattle.texts.specs.Appending.{Wrote};
+ghost use Rattle.verdict.specs.WayText as spec;
 ghost use Rattle.verdict.specs.WayText.{discovery_text};
 
 use crate::counts::{Bounds, Letters};
 use crate::show_commands::ShowCommand;
-use crate::ways::Discovery;
+use crate::ways::{Discovery, Way};
 use drawing::Drawn;
+use patterns::Match;
 use std::io::Write;
-use texts::{WriteFault, write};
+use texts::{Block, Text, WriteFault, write};
+
+/// That the schedule of a way leads to its outcome.
+#[derive(Clone, Copy)]
+struct Leads<'a> {
+    path: &'a [u8],
+    way: &'a Way,
+}
+
+impl Text for Leads<'_> {
+    ghost text = { λ l. spec.leading_text l.path.now (length l.way.now.schedule) l.way.now.outcome };
+
+    fn put<W: Write>(&self, out: &mut W, block: &mut Block) -> Result<(), WriteFault> {
+        let letters = Letters(self.way.schedule.letters().len() as u64);
+        let schedule = (self.path, ": a schedule of ", letters, " leads to ");
+        (schedule, &self.way.outcome, "\n").put(out, block)
+    }
+}
+
+/// Which pattern an outcome matches, of so many that were looked for; nothing where there is but one.
+#[derive(Clone, Copy)]
+struct Matched<'a> {
+    sought: u64,
+    found: &'a Match,
+}
+
+impl Text for Matched<'_> {
+    ghost text = { λ m. spec.match_text m.sought m.found.now };
+
+    fn put<W: Write>(&self, out: &mut W, block: &mut Block) -> Result<(), WriteFault> {
+        if self.sought == 1 {
+            return Ok(());
+        }
+        let pattern = (
+            "It matches pattern ",
+            self.found.number,
+            " of ",
+            self.sought,
+        );
+        (pattern, ": ", &self.found.pattern, "\n").put(out, block)
+    }
+}
+
+/// Where no schedule leads, of so many patterns.
+#[derive(Clone, Copy)]
+struct Nowhere(u64);
+
+impl Text for Nowhere {
+    ghost text = { λ n. spec.nowhere n.0 };
+
+    fn put<W: Write>(&self, out: &mut W, block: &mut Block) -> Result<(), WriteFault> {
+        if self.0 == 1 {
+            return "there".put(out, block);
+        }
+        ("to any of ", self.0, " patterns").put(out, block)
+    }
+}
 
 /// Writes what was found of the source in the file of this path: the least schedule that leads to
-/// an outcome that was looked for, its drawing and the command that draws it again; or that none
-/// does, and how far was looked. After a fault the writer has taken a beginning of it.
+/// an outcome that was looked for, which of several patterns it matches, its drawing and the
+/// command that draws it again; or that none does, and how far was looked. After a fault the
+/// writer has taken a beginning of it.
 pub fn write_discovery<W: Write>(
     path: &[u8],
     discovery: &Discovery,
@@ -20,26 +80,33 @@ pub fn write_discovery<W: Write>(
 ) -> Result<(), WriteFault>
     ensures { Wrote W.contents out.old out.new (discovery_text path.now discovery.now) result }
 {
+    let sought = discovery.sought;
     match &discovery.way {
         Some(way) => {
-            let letters = Letters(way.schedule.letters().len() as u64);
+            let leads = Leads { path, way };
+            let matched = Matched {
+                sought,
+                found: &way.matched,
+            };
             let drawing = Drawn {
                 drawing: &way.drawing,
                 all: false,
             };
-            let leads = (path, ": a schedule of ", letters, " leads to ");
             let show = ShowCommand {
                 path,
                 schedule: &way.schedule,
             };
-            write(&(leads, &way.outcome, "\n\n", drawing, show), out)
+            write(&(leads, matched, "\n", drawing, show), out)
         }
         None => {
             let bounds = Bounds {
                 length: u64::from(discovery.least.length()),
                 crashes: u64::from(discovery.least.crashes()),
             };
-            write(&(path, ": no schedule leads there", bounds), out)
+            write(
+                &(path, ": no schedule leads ", Nowhere(sought), bounds),
+                out,
+            )
         }
     }
 }

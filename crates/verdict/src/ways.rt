@@ -1,14 +1,15 @@
 //! A schedule that leads to outcomes that were looked for.
 
-ghost use Rattle.std.specs.Prelude.{◌≡◌, Bool, List, map};
-ghost use Rattle.regmodel.specs.declared.outcomes.ProcEnd.{ProcEnd};
+ghost use Rattle.std.specs.Prelude.{◌≡◌, false, length, map};
 ghost use Rattle.report.specs.PlainReport.{IsPlainLeast};
+ghost use Rattle.patterns.specs.Matching.{IsFirstMatch, matches_none};
 ghost use Rattle.reglang.specs.Sources.{contents_of, source_programs};
 ghost use Rattle.verdict.specs.Ways.{IsWayFor};
 
 use crate::breaches::drawing_of;
 use drawing::Drawing;
 use machine::Machine;
+use patterns::{Match, Pattern, first_match};
 use reglang::Source;
 use regmodel::laws::the_first_refused_is_a_schedule;
 use regmodel::{Outcome, Prefix, Settings};
@@ -22,6 +23,8 @@ pub struct Way {
     pub schedule: Prefix,
     /// The outcome.
     pub outcome: Outcome,
+    /// The first of the patterns that the outcome matches.
+    pub matched: Match,
     /// What is drawn of the schedule.
     pub drawing: Drawing,
 }
@@ -31,23 +34,27 @@ pub struct Way {
 pub struct Discovery {
     /// The least schedule that leads there, which a judge refused, or that there is none.
     pub least: Least,
+    /// How many patterns were looked for.
+    pub sought: u64,
     /// That schedule, drawn.
     pub way: Option<Way>,
 }
 
-/// The least schedule of a source that a judge refused, drawn, where there is one. The machines, one a process, lead to its drawing. Takes no
-/// memory.
+/// The least schedule of a source whose outcome matches one of these patterns, drawn, where there is one, with the first of them that it
+/// matches. The machines, one a process, lead to its drawing. Takes no memory.
 pub fn discovery_on(
     source: &Source,
     machines: Vec<Box<dyn Machine + Send>>,
     settings: Settings,
+    patterns: &[Pattern],
     least: Least,
 ) -> Discovery
     requires machines { map program machines.items ≡ source_programs source.now }
-    requires found { (accepts : List ProcEnd → Bool)
-        × IsPlainLeast (source_programs source.now) settings.length settings.crashes accepts least }
+    requires found { IsPlainLeast (source_programs source.now) settings.length settings.crashes
+        (matches_none patterns.now) least }
     ensures least { result.least ≡ least }
-    ensures way { IsWayFor (contents_of source.now) least.least result.way }
+    ensures sought { result.sought ≡ length patterns.now }
+    ensures way { IsWayFor (contents_of source.now) patterns.now least.least result.way }
 {
     the_first_refused_is_a_schedule();
     let way = match least.least() {
@@ -56,10 +63,26 @@ pub fn discovery_on(
             Some(Way {
                 schedule: schedule.copy(),
                 outcome: outcome.copy(),
+                matched: matched_in(patterns, outcome),
                 drawing: drawing_of(&mut world, schedule),
             })
         }
         None => None,
     };
-    Discovery { least, way }
+    Discovery {
+        least,
+        sought: patterns.len() as u64,
+        way,
+    }
+}
+
+/// The first of these patterns that an outcome matches, which there is.
+fn matched_in(patterns: &[Pattern], outcome: &Outcome) -> Match
+    requires { matches_none patterns.now outcome.now ≡ false }
+    ensures { IsFirstMatch patterns.now outcome.now result }
+{
+    let Some(found) = first_match(patterns, outcome) else {
+        unreachable!()
+    };
+    found
 }
