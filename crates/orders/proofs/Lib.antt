@@ -1,4 +1,5 @@
 pub mod AskedRequests
 mod BoundedReads
+mod FirstBad
 mod Numbers
 mod PartWords

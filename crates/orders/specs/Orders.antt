@@ -11,9 +11,10 @@ use Rattle.regmodel.specs.declared.limits.TheConstants.{MOST_LETTERS}
 use Rattle.regmodel.specs.ScheduleText.{schedule_text}
 use Rattle.report.specs.declared.effort.Effort.{Effort}
 use Rattle.report.specs.declared.parts.Part.{Part}
-use Rattle.orders.specs.Bounds.{IsBoundTold, workers_for}
+use Rattle.orders.specs.Bounds.{IsBoundTold, IsEffortRefused, workers_for}
+use Rattle.orders.specs.Inputs.{is_standard}
 use Rattle.orders.specs.NumberTexts.{IsNumberText}
-use Rattle.orders.specs.PatternTexts.{AreTextsOf}
+use Rattle.orders.specs.PatternTexts.{AreNoTexts, AreTextsOf, are_standard}
 use Rattle.orders.specs.declared.tasks.Task.{Task}
 use Rattle.orders.specs.declared.bounds.TheConstants.{CACHE, MOST_CACHE, ROOM, SHARED_CUT}
 use Rattle.orders.specs.declared.orders.TheConstants.{CACHE_SETTING}
@@ -171,6 +172,17 @@ pub record IsFindTold (reads : List ℕ → Type 0) (found : Found) (processors 
   pub texts : List (List ℕ)
   pub read : AreTextsOf reads (texts_told found) texts
   pub find : IsFind (one_text found) processors texts task
+
+-- standard input is named for the source and for the patterns, by what clap found
+pub record IsTwiceStandard (found : Found) (r : Refusal) : Type 0 where
+  pub told_is : r ≡ refusal.TwiceStandard
+  pub source : is_standard (word_at (codes "FILE") found) ≡ true
+  pub patterns : are_standard (texts_told found) ≡ true
+
+-- why a search is refused: a bound, standard input that is named twice, or the patterns
+abbrev pub IsFindRefused : (List ℕ → Type 0) → (Refusal → Type 0) → Found → ℕ → Refusal → Type 0
+IsFindRefused reads unread found processors r =
+    IsEffortRefused (one_text found) processors r ⊎ IsTwiceStandard found r ⊎ AreNoTexts reads unread (texts_told found) r
 
 -- how many lists of machines it takes: one for each worker, and one more where a schedule that is found is to be drawn
 abbrev pub lists_of : Task → ℕ

@@ -1,7 +1,7 @@
 -- What the words of the command line ask for, by what clap makes of them.
-use Rattle.std.specs.Prelude.{◌≡◌, ◌≤◌, ⊤, ℕ, Bool, true, false, List, map, Option, Some, codes}
+use Rattle.std.specs.Prelude.{◌≡◌, ◌≤◌, ⊤, ℕ, Bool, true, false, List, map, Some, codes}
 use Rattle.std.specs.Option.{option_map}
-use Rattle.clap.specs.Words.{Text, first_value, found_of, one_text, rows_of, subcommand_name_of, subcommand_rows_of}
+use Rattle.clap.specs.Words.{Text, first_value, one_text, rows_of, subcommand_name_of, subcommand_rows_of}
 use Rattle.clap.specs.declared.parser.matches.ArgMatches.{ArgMatches}
 use Rattle.clap.specs.declared.parser.matches.Found.{Found}
 use Rattle.command_words.specs.CommandLine.{IsParseOf, command_line, word_at_name}

@@ -3,10 +3,11 @@
 ghost use Rattle.std.specs.Prelude.{◌≡◌, ◌≤◌, ◌⊎◌, Err, IfErr, IfOk, map, ℕ};
 ghost use Rattle.clap.specs.Words.{found_of, one_text};
 ghost use Rattle.orders.specs.Bounds.{IsEffortRefused};
-ghost use Rattle.orders.specs.Orders.{IsCheck, IsEffortTold, IsExploration, IsFindTold, IsSettingRefused, IsWalk, texts_told, word_told};
+ghost use Rattle.orders.specs.Orders.{IsCheck, IsEffortTold, IsExploration, IsFindRefused, IsFindTold, IsSettingRefused, IsWalk, texts_told, word_told};
 ghost use Rattle.orders.specs.Requests.{IsOrderTold, IsRequestBy, IsRequestOf, IsTaskTold};
 ghost use Rattle.regmodel.specs.declared.limits.TheConstants.{MOST_WORKERS};
 ghost use Rattle.orders.specs.Inputs.{IsStandardText};
+ghost use Rattle.orders.specs.PatternTexts.{IsStandardUnread};
 ghost use Rattle.orders.specs.Statuses.{IsNoSchedule, status_of};
 
 use crate::bounds::{
@@ -224,8 +225,12 @@ fn find_of<O: Opener>(
     processors: ProcessorCount,
     opener: &O,
 ) -> Result<Task, Refusal>
-    ensures { IfOk result
+    ensures ok { IfOk result
         (IsFindTold (IsStandardText (O.opens opener.now) O.Reader.remaining) (found_of words.now)
+        processors.number) }
+    ensures refused { IfErr result
+        (IsFindRefused (IsStandardText (O.opens opener.now) O.Reader.remaining)
+        (IsStandardUnread (O.opens opener.now) O.Reader.remaining) (found_of words.now)
         processors.number) }
 {
     let effort = effort_of(words, processors)?;

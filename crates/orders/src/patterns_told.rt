@@ -1,10 +1,10 @@
 //! The patterns that the words of the command line tell.
 
-ghost use Rattle.std.specs.Prelude.{◌≡◌, IfOk, map};
+ghost use Rattle.std.specs.Prelude.{◌≡◌, IfErr, IfOk, map};
 ghost use Rattle.patterns.specs.PatternText.{pattern_text};
 ghost use Rattle.orders.specs.Inputs.{IsStandardText};
 ghost use Rattle.orders.specs.PatternTexts as spec;
-ghost use Rattle.orders.specs.PatternTexts.{AreTextsOf};
+ghost use Rattle.orders.specs.PatternTexts.{AreNoPatterns, AreNoTexts, AreTextsOf, HasNoPatterns, IsStandardUnread};
 
 use crate::inputs::{Opener, STANDARD_INPUT, bytes_of, is_standard};
 use crate::refusals::Refusal;
@@ -22,9 +22,13 @@ pub fn patterns_told<O: Opener>(
     words: &[&str],
     opener: &O,
 ) -> Result<Vec<Pattern>, Refusal>
-    ensures { IfOk result
+    ensures ok { IfOk result
         (λ patterns. AreTextsOf (IsStandardText (O.opens opener.now) O.Reader.remaining)
         (map (λ word. word.now) words.now) (map pattern_text patterns.items)) }
+    ensures refused { IfErr result
+        (AreNoTexts (IsStandardText (O.opens opener.now) O.Reader.remaining)
+        (IsStandardUnread (O.opens opener.now) O.Reader.remaining)
+        (map (λ word. word.now) words.now)) }
 {
     if !are_standard(words) {
         return patterns_of(alloc, words);
@@ -50,8 +54,9 @@ pub fn are_standard(words: &[&str]) -> bool
 
 /// The patterns of these texts.
 fn patterns_of(alloc: Global, texts: &[&str]) -> Result<Vec<Pattern>, Refusal>
-    ensures { IfOk result
+    ensures ok { IfOk result
         (λ patterns. map pattern_text patterns.items ≡ map (λ text. text.now) texts.now) }
+    ensures refused { IfErr result (AreNoPatterns (map (λ text. text.now) texts.now)) }
 {
     let mut patterns = Vec::new(alloc);
     for text in texts {
@@ -66,8 +71,9 @@ fn patterns_of(alloc: Global, texts: &[&str]) -> Result<Vec<Pattern>, Refusal>
 
 /// The patterns of the lines of a text, of which there may be none.
 fn patterns_in(alloc: Global, text: &[u8]) -> Result<Vec<Pattern>, Refusal>
-    ensures { IfOk result
+    ensures ok { IfOk result
         (λ patterns. map pattern_text patterns.items ≡ spec.texts_in text.now) }
+    ensures refused { IfErr result (HasNoPatterns text.now) }
 {
     let mut patterns = Vec::new(alloc);
     let mut rest = text;
