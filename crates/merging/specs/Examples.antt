@@ -1,11 +1,13 @@
 -- Worked examples of parts that are joined: the definitions compute.
-use Rattle.std.specs.Prelude.{◌≡◌, ℕ, true, false, [], ◌∷◌, refl, None, Some}
+use Rattle.std.proofs.Common.{◌≡◌, ℕ, true, false, [], ◌∷◌, refl, None, Some, arith}
 use Rattle.regmodel.specs.declared.letters.Letter.TheVariants.{Run}
 use Rattle.regmodel.specs.Examples.{started}
 use Rattle.part_texts.specs.declared.parts.Found.TheVariants as found
 use Rattle.merging.specs.Merged.{AreJoined, IsToldBy}
 use Rattle.merging.specs.Mergers.{numbers_marked}
+use Rattle.merging.specs.declared.faults.Misfit.TheVariants.{Count}
 use Rattle.merging.specs.declared.merged.Merged.TheVariants.{Least}
+use Rattle.merging.specs.Unjoined.{DifferIn}
 
 -- of four parts the first and the third are there
 pub parts_there : numbers_marked 1 (true ∷ false ∷ true ∷ false ∷ []) ≡ 1 ∷ 3 ∷ []
@@ -18,3 +20,7 @@ lowest_of_three = (found.Least (Some (Run 0 ∷ [], started [] ∷ [])), (found.
 -- the numbers of the exploration stand in what is told, and not those of the part
 pub told_of_head : (number count cut : ℕ) → IsToldBy (record { number = number; count = count; processes = 2; length = 20; crashes = 1; cut = cut; source = [] }) (found.Least None) (Least (record { processes = 2; length = 20; crashes = 1; least = None }))
 told_of_head number count cut = refl
+
+-- a first part of four and one of five differ in how many parts there are
+pub count_differs : DifferIn Count (record { number = 1; count = 4; processes = 2; length = 20; crashes = 1; cut = 3; source = [] }) (record { number = 2; count = 5; processes = 2; length = 20; crashes = 1; cut = 3; source = [] })
+count_differs e = absurd (omega (arith, e))

@@ -1,12 +1,11 @@
 //! The parts of a stream, merged.
 
 ghost use Rattle.std.specs.Prelude.{◌≡◌, ◌∷◌, ◌++◌, IfErr, IfOk, List, Some};
-ghost use Rattle.std.specs.Io.KnownBytes.{IsAtEnd};
 ghost use Rattle.std.specs.List.{flat_map};
 ghost use Rattle.part_texts.specs.PartText.{part_text};
 ghost use Rattle.part_texts.specs.declared.parts.PartReport.{PartReport};
 ghost use Rattle.merging.specs.Merged.{AreMergeable, IsMergedOf, IsNoFaultOfParts, all_tried};
-ghost use Rattle.merging.specs.declared.faults.MergeFault.TheVariants.{Nothing};
+ghost use Rattle.merging.specs.Unjoined.{AreUnmergedBy};
 
 use crate::faults::MergeFault;
 use crate::merged::Merged;
@@ -21,7 +20,7 @@ use std::io::BufRead;
 /// the reader has just the texts of all parts of one exploration, of all of which the same was sought.
 pub fn merge_parts<R: BufRead + Drop>(alloc: Global, reader: R) -> Result<Merged, MergeFault>
     ensures merged { IfOk result (IsMergedOf (R.remaining reader)) }
-    ensures nothing { IfErr result (λ fault. fault ≡ Nothing → IsAtEnd (R.remaining reader)) }
+    ensures unmerged { IfErr result (AreUnmergedBy (R.remaining reader)) }
     ensures whole { IfErr result
         (λ fault. (first : PartReport) (others : List PartReport) → AreMergeable first others
         → R.remaining reader ≡ Some (part_text first ++ flat_map part_text others)

@@ -1,6 +1,6 @@
 //! Which parts are missing.
 
-ghost use Rattle.std.specs.Prelude.{◌<◌, ◌≤◌, IfSome, length};
+ghost use Rattle.std.specs.Prelude.{◌≡◌, ◌<◌, ◌≤◌, IfSome, length};
 
 use std::fmt;
 
@@ -12,7 +12,9 @@ pub struct Missing {
 
 impl Missing {
     /// Those that are missing, where it is told for each number from 1 on whether its part is there.
-    pub(crate) fn new(there: Vec<bool>) -> Missing {
+    pub(crate) fn new(there: Vec<bool>) -> Missing
+        ensures { result.there ≡ there }
+    {
         Missing { there }
     }
 }
