@@ -6,7 +6,7 @@ use Rattle.patterns.specs.declared.standings.Standing.{Standing}
 use Rattle.reglang.specs.Lines.{lines}
 use Rattle.orders.specs.Inputs.{IsUnreadable, is_standard}
 use Rattle.orders.specs.declared.refusals.Refusal.{Refusal}
-use Rattle.orders.specs.declared.refusals.Refusal.TheVariants.{File, Memory, NoPattern, Pattern, PatternLine}
+use Rattle.orders.specs.declared.refusals.Refusal.TheVariants.{File, Memory, Pattern, PatternLine}
 
 -- whether patterns are read from standard input: one word stands where they do, and names it
 abbrev pub are_standard : List (List ℕ) → Bool
@@ -57,7 +57,6 @@ AreNoPatterns words _ = ⊥
 -- the same of the lines of a text, of which there may be none
 abbrev pub HasNoPatterns : List ℕ → Refusal → Type 0
 HasNoPatterns text (PatternLine place standing) = IsFirstBad (texts_in text) place standing
-HasNoPatterns text NoPattern = texts_in text ≡ []
 HasNoPatterns text Memory = ⊤
 HasNoPatterns text _ = ⊥
 
