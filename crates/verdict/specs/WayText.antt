@@ -15,7 +15,8 @@ leading_text path letters ends = path ++ codes ": a schedule of " ++ letters_tex
 
 -- which pattern it matches, by its number and its text, of so many that were looked for
 abbrev pub match_line : ℕ → Match → List ℕ
-match_line sought found = codes "It matches pattern " ++ decimal found.number ++ codes " of " ++ decimal sought ++ codes ": " ++ pattern_text found.pattern ++ codes "\n"
+match_line sought found =
+    codes "It matches pattern " ++ decimal found.number ++ codes " of " ++ decimal sought ++ codes ": " ++ pattern_text found.pattern ++ codes "\n"
 
 -- the same, where several were looked for
 abbrev pub match_text : ℕ → Match → List ℕ
@@ -24,7 +25,8 @@ match_text sought found = if sought == 1 then [] else match_line sought found
 -- what is told of a way, with the drawing of the schedule, and the command that draws it again
 abbrev pub way_text : List ℕ → ℕ → Way → List ℕ
 way_text path sought way =
-    leading_text path (length way.schedule) way.outcome ++ match_text sought way.matched ++ codes "\n" ++ drawing_text false way.drawing ++ show_text path way.schedule
+    leading_text path (length way.schedule) way.outcome ++ match_text sought way.matched ++ codes "\n"
+    ++ drawing_text false way.drawing ++ show_text path way.schedule
 
 -- where no schedule leads, of so many patterns
 abbrev pub nowhere : ℕ → List ℕ
@@ -37,4 +39,7 @@ nowhere_text path sought limit crashes = path ++ codes ": no schedule leads " ++
 -- what is told of a source in the file of this path
 abbrev pub discovery_text : List ℕ → Discovery → List ℕ
 discovery_text path discovery =
-    elim discovery.way [ Some way ↦ way_text path discovery.sought way | None ↦ nowhere_text path discovery.sought discovery.least.length discovery.least.crashes ]
+    elim discovery.way [
+      | Some way ↦ way_text path discovery.sought way
+      | None ↦ nowhere_text path discovery.sought discovery.least.length discovery.least.crashes
+    ]

@@ -21,7 +21,8 @@ struct Leads<'a> {
 }
 
 impl Text for Leads<'_> {
-    ghost text = { λ l. spec.leading_text l.path.now (length l.way.now.schedule) l.way.now.outcome };
+    ghost text = { λ l. spec.leading_text l.path.now (length l.way.now.schedule)
+        l.way.now.outcome };
 
     fn put<W: Write>(&self, out: &mut W, block: &mut Block) -> Result<(), WriteFault> {
         let letters = Letters(self.way.schedule.letters().len() as u64);
@@ -30,7 +31,8 @@ impl Text for Leads<'_> {
     }
 }
 
-/// Which pattern an outcome matches, of so many that were looked for; nothing where there is but one.
+/// Which pattern an outcome matches, of so many that were looked for; nothing where there is but
+/// one.
 #[derive(Clone, Copy)]
 struct Matched<'a> {
     sought: u64,

@@ -40,8 +40,9 @@ pub struct Discovery {
     pub way: Option<Way>,
 }
 
-/// The least schedule of a source whose outcome matches one of these patterns, drawn, where there is one, with the first of them that it
-/// matches. The machines, one a process, lead to its drawing. Takes no memory.
+/// The least schedule of a source whose outcome matches one of these patterns, drawn, where there
+/// is one, with the first of them that it matches. The machines, one a process, lead to its
+/// drawing. Takes no memory.
 pub fn discovery_on(
     source: &Source,
     machines: Vec<Box<dyn Machine + Send>>,
