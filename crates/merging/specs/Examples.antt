@@ -2,7 +2,6 @@
 use Rattle.std.proofs.Common.{◌≡◌, ℕ, true, false, [], ◌∷◌, refl, None, Some, arith}
 use Rattle.regmodel.specs.declared.letters.Letter.TheVariants.{Run}
 use Rattle.regmodel.specs.Examples.{started}
-use Rattle.part_texts.specs.PlainHead.{PlainHead}
 use Rattle.part_texts.specs.declared.parts.Found.TheVariants as found
 use Rattle.merging.specs.Merged.{AreJoined, IsToldBy}
 use Rattle.merging.specs.Mergers.{numbers_marked}
@@ -23,8 +22,5 @@ pub told_of_head : (number count cut : ℕ) → IsToldBy (record { number = numb
 told_of_head number count cut = refl
 
 -- a first part of four and one of five differ in how many parts there are
-abbrev head_of : ℕ → ℕ → PlainHead
-head_of number count = record { number = number; count = count; processes = 2; length = 20; crashes = 1; cut = 3; source = [] }
-
-pub count_differs : DifferIn Count (head_of 1 4) (head_of 2 5)
+pub count_differs : DifferIn Count (record { number = 1; count = 4; processes = 2; length = 20; crashes = 1; cut = 3; source = [] }) (record { number = 2; count = 5; processes = 2; length = 20; crashes = 1; cut = 3; source = [] })
 count_differs e = absurd (omega (arith, e))

@@ -34,8 +34,7 @@ AreUnjoined first second _ = ⊥
 -- why one part more is not joined to a first part and others: it differs from the first one, the same was not sought of it, its number is
 -- there, there are more schedules than can be counted, or memory was refused where there are not
 abbrev pub IsUnjoined : PartReport → List PartReport → PartReport → MergeFault → Type 0
-IsUnjoined first others part (fault.Misfit number other misfit) =
-    (number ≡ first.head.number) × (other ≡ part.head.number) × DifferIn misfit first.head part.head
+IsUnjoined first others part (fault.Misfit number other misfit) = (number ≡ first.head.number) × (other ≡ part.head.number) × DifferIn misfit first.head part.head
 IsUnjoined first others part fault.Sought = AreSoughtAlike first.found part.found → ⊥
 IsUnjoined first others part (fault.Twice number) = (number ≡ part.head.number) × Contains (map (λ part. part.head.number) (first ∷ others)) number
 IsUnjoined first others part fault.TooMany = 2 ^ 64 ≤ all_tried (part ∷ first ∷ others)
