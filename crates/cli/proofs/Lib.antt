@@ -1,3 +1,4 @@
 mod PartsFound
 mod VerdictsFound
 mod Steps
+mod CountedFiles

@@ -1,5 +1,7 @@
 pub mod Answers
 pub mod Drawings
+pub mod Examples
+pub mod FileCounts
 pub mod Findings
 pub mod Leasts
 pub mod Merges

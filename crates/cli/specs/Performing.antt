@@ -1,11 +1,13 @@
 -- What the program does with what was ordered.
-use Rattle.std.specs.Prelude.{◌≡◌, ◌≢◌, ⊤, ℕ, ◌≤◌, ◌++◌, List, codes, map, max, None, IsNone, Option, Result, Ok, Err, option_and_then}
+use Rattle.std.specs.Prelude.{◌≡◌, ◌≢◌, ◌⊎◌, ⊤, ℕ, ◌<◌, ◌≤◌, ◌++◌, List, codes, map, None, IsNone, Option, Result, Ok, Err, option_and_then}
 use Rattle.std.specs.List.{FoldsTo}
 use Rattle.texts.specs.Appending.{Writes}
 use Rattle.command_words.specs.declared.TheConstants.{VERSION}
 use Rattle.cli.specs.Answers.{IsAnswered, IsRefusedWith}
+use Rattle.cli.specs.FileCounts.{counts_text, no_counts, with_one_more}
 use Rattle.cli.specs.Merges.{AreMergedIn}
 use Rattle.cli.specs.Written.{HasBeginning}
+use Rattle.cli.specs.declared.file_counts.FileCounts.{FileCounts}
 use Rattle.orders.specs.declared.orders.Order as orders
 use Rattle.orders.specs.declared.orders.Request.{Request}
 use Rattle.orders.specs.declared.orders.Request.TheVariants.{Merge, Order, Version}
@@ -24,20 +26,28 @@ pub record IsAnsweredOrRefused {W R : Type 0} (contents : W → Option (List ℕ
   pub refused : 2 ≤ status → IsRefusedWith contents remaining fails (λ why. ⊤) path asked file old new status
   pub status_is : status ≤ 3
 
--- the file of one more path, which is opened so, is answered or refused; beside what the writer holds stands the highest status so far
+-- the file of one more path, which is opened so, is answered or refused, and counted; what is counted stands beside what the writer holds
 pub record IsNext {W R : Type 0} (contents : W → Option (List ℕ)) (remaining : R → Option (List ℕ)) (fails : R → Refusal → Type 0)
-    (opens : List ℕ → Option R → Type 0) (asked : Task) (before : W × ℕ) (path : List ℕ) (after : W × ℕ) : Type 0 where
+    (opens : List ℕ → Option R → Type 0) (asked : Task) (before : W × FileCounts) (path : List ℕ) (after : W × FileCounts) : Type 0 where
   pub file : Option R
   pub opened : opens path file
   pub status : ℕ
   pub done : IsAnsweredOrRefused contents remaining fails path asked file before.0 after.0 status
-  pub highest : after.1 ≡ max before.1 status
+  pub counted : after.1 ≡ with_one_more before.1 status
 
--- the files of an order are answered or refused one after another, and the status is the highest
-abbrev pub AreAnswered : {W R : Type 0} → (W → Option (List ℕ)) → (R → Option (List ℕ)) → (R → Refusal → Type 0)
-    → (List ℕ → Option R → Type 0) → orders.Order → W → W → ℕ → Type 0
-AreAnswered contents remaining fails opens order old new status =
-    FoldsTo (IsNext contents remaining fails opens order.task) (old, 0) (map (λ path. path.now) order.paths.items) (new, status)
+-- of several files it is written how they were answered, and the status is the highest, or 3 where that is not written whole; of one file nothing
+pub record AreSummed {W : Type 0} (contents : W → Option (List ℕ)) (old new : W) (counts : FileCounts) (status : ℕ) : Type 0 where
+  pub alone : counts.files ≤ 1 → (new ≡ old) × (status ≡ counts.worst)
+  pub several : 1 < counts.files → (Writes (contents old) (contents new) (counts_text counts) None × (status ≡ counts.worst))
+      ⊎ (HasBeginning (contents old) (contents new) (counts_text counts) × (status ≡ 3))
+
+-- the files of an order are answered or refused one after another, and it is told of several how many were answered in which way
+pub record AreAnswered {W R : Type 0} (contents : W → Option (List ℕ)) (remaining : R → Option (List ℕ)) (fails : R → Refusal → Type 0)
+    (opens : List ℕ → Option R → Type 0) (order : orders.Order) (old new : W) (status : ℕ) : Type 0 where
+  pub between : W
+  pub counts : FileCounts
+  pub answered : FoldsTo (IsNext contents remaining fails opens order.task) (old, no_counts) (map (λ path. path.now) order.paths.items) (between, counts)
+  pub summed : AreSummed contents between new counts status
 
 -- the version is written, and where it is not written whole the status is 3
 pub record IsVersionTold {W : Type 0} (contents : W → Option (List ℕ)) (old new : W) (status : ℕ) : Type 0 where

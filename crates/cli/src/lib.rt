@@ -5,6 +5,7 @@ mod aims;
 mod answers;
 mod explorations;
 mod faults;
+mod file_counts;
 mod machines;
 mod merges;
 mod program;

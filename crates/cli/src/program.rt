@@ -1,12 +1,16 @@
 //! The whole program, over what opens its files and what takes its texts.
 
-ghost use Rattle.cli.specs.Performing.{AreAnswered, IsPerformed, IsVersionTold};
+ghost use Rattle.std.specs.Prelude.{map};
+ghost use Rattle.std.specs.List.{FoldsTo};
+ghost use Rattle.cli.specs.FileCounts.{no_counts};
+ghost use Rattle.cli.specs.Performing.{AreAnswered, AreSummed, IsNext, IsPerformed, IsVersionTold};
 
 use crate::answers::answer;
 use crate::faults::AnswerFault;
+use crate::file_counts::FileCounts;
 use crate::merges::merge_file;
 use command_words::VERSION;
-use orders::{Opener, Order, Question, Request, refuse, worse};
+use orders::{Opener, Order, Question, Request, refuse};
 use std::alloc::Global;
 use std::io::Write;
 use std::sync::Wait;
@@ -16,7 +20,8 @@ use texts::write;
 /// Does what was asked for, and gives the status: that of the words where they were refused, and nothing is done then; 0 where the version was
 /// written, else the highest of those with which the files are answered, one after another, each as `opener` opens it by its path: 0 or 1 where
 /// the answer was written to `out`; 2 where the file, the source or a letter is refused; 3 where it could not be done. At 2 and 3 `err` is told
-/// why, and `out` is as before, unless it did not take the whole answer: then it took a beginning of it.
+/// why, and `out` is as before, unless it did not take the whole answer: then it took a beginning of it. Of several files `out` is told last
+/// how many have which status.
 pub fn perform<H: Threads + Wait + Sync, O: Opener, W: Write, E: Write + Send>(
     rt: &H,
     alloc: Global,
@@ -49,7 +54,7 @@ fn tell_version<W: Write, E: Write>(out: &mut W, err: &mut E) -> u8
     0
 }
 
-/// Answers each file of an order in turn, and gives the highest status.
+/// Answers each file of an order in turn, tells of several how many were answered in which way, and gives the highest status.
 fn answer_each<H: Threads + Wait + Sync, O: Opener, W: Write, E: Write + Send>(
     rt: &H,
     alloc: Global,
@@ -61,7 +66,24 @@ fn answer_each<H: Threads + Wait + Sync, O: Opener, W: Write, E: Write + Send>(
     ensures { AreAnswered W.contents O.Reader.remaining O.Reader.fails (O.opens opener.now)
         order.now out.old out.new result }
 {
-    let mut worst = 0;
+    let counts = answers_of(rt, alloc, order, opener, out, err);
+    tell_counts(&counts, out, err)
+}
+
+/// Answers each file of an order in turn, and counts them.
+fn answers_of<H: Threads + Wait + Sync, O: Opener, W: Write, E: Write + Send>(
+    rt: &H,
+    alloc: Global,
+    order: &Order<'_>,
+    opener: &O,
+    out: &mut W,
+    err: &mut E,
+) -> FileCounts
+    ensures { FoldsTo
+        (IsNext W.contents O.Reader.remaining O.Reader.fails (O.opens opener.now) order.now.task)
+        (out.old, no_counts) (map (λ path. path.now) order.now.paths.items) (out.new, result) }
+{
+    let mut counts = FileCounts::none();
     for path in order.paths.as_slice() {
         let question = Question {
             path,
@@ -69,7 +91,23 @@ fn answer_each<H: Threads + Wait + Sync, O: Opener, W: Write, E: Write + Send>(
             progress: order.progress,
         };
         let status = answer(rt, alloc, &question, opener.open(path), out, err);
-        worst = worse(worst, status);
+        counts.add(status);
     }
-    worst
+    counts
+}
+
+/// Writes how several files were answered, and gives the highest status, or 3 where that was not written whole. Of one file nothing is written.
+fn tell_counts<W: Write, E: Write>(counts: &FileCounts, out: &mut W, err: &mut E) -> u8
+    ensures { AreSummed W.contents out.old out.new counts.now result }
+{
+    if counts.files <= 1 {
+        return counts.worst;
+    }
+    if write(counts, out).is_err() {
+        return refuse(&AnswerFault::Write, Some(""), err);
+    }
+    if out.flush().is_err() {
+        return refuse(&AnswerFault::Write, Some(""), err);
+    }
+    counts.worst
 }

@@ -41,7 +41,7 @@ still running: longer ones were not tried then. It says what was looked for wher
 outcome could break, since no process ever had a name or was done.
 
 Where several files are named, it does so for each in turn: one that cannot be read or is refused stops no other one. The status is
-the highest.
+the highest, and a last line says how many hold, fail and are refused.
 
 Example: regtry check FILE --crashes 1 tries all schedules of up to 64 letters in which at most one process crashes.
 
