@@ -2,3 +2,4 @@ mod PartsFound
 mod VerdictsFound
 mod Steps
 mod CountedFiles
+mod CutOffsFound

@@ -1,4 +1,5 @@
 pub mod Answers
+pub mod CutOffs
 pub mod Drawings
 pub mod Examples
 pub mod FileCounts

@@ -3,6 +3,7 @@
 ghost use Rattle.std.specs.Prelude.{◌≡◌, IfErr, IfOk};
 ghost use Rattle.cli.specs.Runs.{IsNextAim, IsReached, IsUnreached};
 
+use crate::cut_offs::cut_off;
 use crate::faults::AnswerFault;
 use crate::machines::machine_of;
 use crate::runs::Run;
@@ -26,6 +27,11 @@ pub enum Aim<'a> {
         native: bool,
         allows_faults: bool,
     },
+    /// A schedule that is cut off within this effort.
+    CutOff {
+        effort: Effort,
+        native: bool,
+    },
 }
 
 impl Aim<'_> {
@@ -38,6 +44,7 @@ impl Aim<'_> {
         match self {
             Aim::Asked(task) => task.lists(),
             Aim::Failing { effort, .. } => effort.settings.workers() + 1,
+            Aim::CutOff { effort, .. } => effort.settings.workers(),
         }
     }
 
@@ -48,12 +55,13 @@ impl Aim<'_> {
         match self {
             Aim::Asked(task) => task.is_native(),
             Aim::Failing { native, .. } => *native,
+            Aim::CutOff { native, .. } => *native,
         }
     }
 }
 
 /// What is found with the machines of a source, of which as many lists are made as the aim takes, one machine a process. Of a schedule that
-/// fails there may be none.
+/// fails, or that is cut off, there may be none.
 pub fn reached<H: Threads + Wait + Sync, G: Gate>(
     run: &Run<'_, H, G>,
     aim: &Aim<'_>,
@@ -79,5 +87,6 @@ pub fn reached<H: Threads + Wait + Sync, G: Gate>(
             allows_faults,
             ..
         } => failing(run, *effort, *allows_faults, lists),
+        Aim::CutOff { effort, .. } => cut_off(run, *effort, lists),
     }
 }

@@ -3,6 +3,7 @@
 
 mod aims;
 mod answers;
+mod cut_offs;
 mod explorations;
 mod faults;
 mod file_counts;
