@@ -7,6 +7,7 @@ mod cut_offs;
 mod explorations;
 mod faults;
 mod file_counts;
+mod listings;
 mod machines;
 mod merges;
 mod program;

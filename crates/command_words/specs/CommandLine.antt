@@ -21,7 +21,8 @@ bounds = any_text (codes "length") ∷ any_text (codes "crashes") ∷ any_text (
 -- the words of each subcommand
 abbrev pub check_words : List Rule
 check_words = several (codes "FILE") ∷ bounds ++ flag (codes "allow-faults")
-    ∷ flag (codes "shortest") ∷ flag (codes "text") ∷ flag (codes "progress") ∷ []
+    ∷ flag (codes "shortest") ∷ flag (codes "outcomes") ∷ flag (codes "text")
+    ∷ flag (codes "progress") ∷ []
 
 abbrev pub explore_words : List Rule
 explore_words = needed (codes "FILE") ∷ needed_number (codes "length")

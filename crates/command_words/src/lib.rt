@@ -100,7 +100,7 @@ fn command_of<'a>(alloc: Global, subcommand: &Subcommand) -> Result<Command<'a>,
 {
     let bare = Command::new(alloc, subcommand.name)
         .about(subcommand.about)
-        .after_help(subcommand.after);
+        .after_help(subcommand.after.text());
     with_words(alloc, bare, subcommand.words)
 }
 

@@ -1,6 +1,6 @@
 //! The subcommands and their words, as tables.
 
-use crate::texts::{CHECKS, DRAWINGS, MERGES, PATTERNS, SCHEDULES, STATUSES};
+use crate::texts::Closing;
 
 /// How a word is taken; an option has what its value is called.
 pub(crate) enum Kind {
@@ -29,7 +29,7 @@ pub(crate) struct Word {
 pub(crate) struct Subcommand {
     pub(crate) name: &'static str,
     pub(crate) about: &'static str,
-    pub(crate) after: &'static str,
+    pub(crate) after: Closing,
     pub(crate) words: &'static [Word],
 }
 
@@ -38,37 +38,37 @@ pub(crate) const SUBCOMMANDS: &[Subcommand] = &[
     Subcommand {
         name: "check",
         about: "Checks all schedules of a source and says what fails, in words.",
-        after: CHECKS,
+        after: Closing::Checks,
         words: CHECK,
     },
     Subcommand {
         name: "explore",
         about: "Explores all schedules of a source and prints a report of the outcomes.",
-        after: STATUSES,
+        after: Closing::Statuses,
         words: EXPLORE,
     },
     Subcommand {
         name: "find",
         about: "Finds the least schedule of a source that leads to an outcome, and draws it.",
-        after: PATTERNS,
+        after: Closing::Patterns,
         words: FIND,
     },
     Subcommand {
         name: "merge",
         about: "Merges all parts of an exploration and prints the report of the whole.",
-        after: MERGES,
+        after: Closing::Merges,
         words: MERGE,
     },
     Subcommand {
         name: "replay",
         about: "Replays one schedule of a source and prints where it leads.",
-        after: SCHEDULES,
+        after: Closing::Schedules,
         words: REPLAY,
     },
     Subcommand {
         name: "show",
         about: "Draws one schedule of a source: what each of its letters does.",
-        after: DRAWINGS,
+        after: Closing::Drawings,
         words: SHOW,
     },
 ];
@@ -93,6 +93,11 @@ const CHECK: &[Word] = &[
         name: "shortest",
         kind: Kind::Flag,
         help: "Tell the least of the shortest schedules that fail, in place of the least of all: lengths are tried from 0 on, up to --length",
+    },
+    Word {
+        name: "outcomes",
+        kind: Kind::Flag,
+        help: "Print all outcomes as well, as explore does",
     },
     TEXT,
     PROGRESS,

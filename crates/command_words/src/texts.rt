@@ -1,5 +1,36 @@
 //! What the help says below the words of a command.
 
+/// What the help of a subcommand ends with. The table of subcommands names it, since the prover goes through each letter of what stands there.
+#[derive(Clone, Copy)]
+pub(crate) enum Closing {
+    /// On a check.
+    Checks,
+    /// On patterns.
+    Patterns,
+    /// On parts.
+    Merges,
+    /// On the text of a schedule.
+    Schedules,
+    /// On a drawing.
+    Drawings,
+    /// On the statuses alone.
+    Statuses,
+}
+
+impl Closing {
+    /// Its text.
+    pub(crate) fn text(self) -> &'static str {
+        match self {
+            Closing::Checks => CHECKS,
+            Closing::Patterns => PATTERNS,
+            Closing::Merges => MERGES,
+            Closing::Schedules => SCHEDULES,
+            Closing::Drawings => DRAWINGS,
+            Closing::Statuses => STATUSES,
+        }
+    }
+}
+
 /// What the help says of the statuses.
 pub(crate) const STATUSES: &str = "Statuses:
   0  check, explore, merge: no schedule fails; find: no schedule leads there; replay, show, explore --part: done
@@ -11,7 +42,7 @@ What explore and replay refuse they tell in one line for programs that read it, 
 check, find, show and merge tell it in words. Help is printed on standard error, with status 2, and the version on standard output, with status 0.";
 
 /// What the help says of the text of a schedule.
-pub(crate) const SCHEDULES: &str = "Letters of a schedule:
+const SCHEDULES: &str = "Letters of a schedule:
   R0  process 0 takes a step: it does the register access that it wants, and goes on to its next one or its end
   C0  process 0 crashes: it takes no further step
 Processes are numbered from 0, in the order of the source. A letter is possible where its process wants an access
@@ -26,7 +57,7 @@ Statuses:
   3  memory ran out, or the result could not be written";
 
 /// What the help says of a check.
-pub(crate) const CHECKS: &str =
+const CHECKS: &str =
     "A schedule fails where its outcome breaks a check, and where a process is at fault at its end: a value of the process is
 below 0 or above 1000000000, or it names a register or a cell that is not there, repeats more than 99 times, or emits a
 ninth number. With --allow-faults only a check that is broken counts.
@@ -36,9 +67,11 @@ that check, the lowest process at fault and why, the schedule as a drawing (see 
 draws it again.
 The least schedule is often not the shortest. With --shortest the lengths 0, 1, 2 and so on are tried one after another, and the
 least schedule of the first length at which one fails is printed. Below the greatest length a check for `ended` is left out.
+Where no schedule of a length is cut off, none is longer, and no further length is tried.
 Where none fails, it prints how much was tried, and whether schedules were cut off at the greatest length with a process
 still running: longer ones were not tried then. It says what was looked for where there is no check line, and which check no
-outcome could break, since no process ever had a name or was done.
+outcome could break, since no process ever had a name or was done. With --outcomes the outcomes of all schedules are printed
+as well, whether one fails or not.
 
 Where several files are named, it does so for each in turn: one that cannot be read or is refused stops no other one. The status is
 the highest, and a last line says how many hold, fail and are refused.
@@ -52,7 +85,7 @@ Statuses:
   3  memory ran out, or the result could not be made or written";
 
 /// What the help says of a search.
-pub(crate) const PATTERNS: &str =
+const PATTERNS: &str =
     "A pattern is one word: it says how each process may stand, processes from 0, parted by '; ', in one of these ways:
   done 1 20      done with just these numbers; done alone: with none
   done *         done with any numbers
@@ -76,7 +109,7 @@ Statuses:
   3  memory ran out, or the result could not be made or written";
 
 /// What the help says of parts.
-pub(crate) const MERGES: &str =
+const MERGES: &str =
     "A part is what `regtry explore --part I/N` prints. All N parts of one exploration, as cat or GNU parallel gives them one after
 another in any order, are merged into the report that explore prints without --part, or, where they were explored with --least, into its
 least failing schedule.
@@ -92,7 +125,7 @@ Statuses:
   3  memory ran out, there are more schedules than can be counted, or the report could not be written";
 
 /// What the help says of a drawing.
-pub(crate) const DRAWINGS: &str = "Letters of a schedule:
+const DRAWINGS: &str = "Letters of a schedule:
   R0  process 0 takes a step: it does the register access that it wants, and goes on to its next one or its end
   C0  process 0 crashes: it takes no further step
 Processes are numbered from 0, in the order of the source. A letter is possible where its process wants an access

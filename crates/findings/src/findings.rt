@@ -10,13 +10,17 @@ use part_texts::{PartHead, write_explored_part, write_least_part};
 use report::{Exploration, Least, write_exploration, write_least, write_standing};
 use std::io::Write;
 use texts::{WriteFault, write};
-use verdict::{Discovery, FaultLine, Verdict, first_fault, write_discovery, write_verdict};
+use verdict::{
+    Discovery, FaultLine, Verdict, first_fault, write_discovery, write_listing, write_verdict,
+};
 
 /// What was found of a source.
 #[derive(Drop)]
 pub enum Finding {
     /// Whether a source holds, and what its least failing schedule breaks; and whether that is the least of the shortest.
     Verdict(Box<Verdict>, bool),
+    /// The same with the list of all outcomes, which are those of the exploration where a schedule fails.
+    Listing(Box<Verdict>, bool, Option<Exploration>),
     /// The report of an exploration.
     Report(Exploration),
     /// The least failing schedule alone.
@@ -40,6 +44,7 @@ impl Finding {
     {
         match self {
             Finding::Verdict(verdict, _) => verdict.fails(),
+            Finding::Listing(verdict, _, _) => verdict.fails(),
             Finding::Report(report) => report.least().is_some(),
             Finding::Least(least) => least.least().is_some(),
             Finding::Part(_, _) => false,
@@ -58,6 +63,10 @@ impl Finding {
         match self {
             Finding::Verdict(verdict, is_shortest) => {
                 write_verdict(path.as_bytes(), text, verdict, *is_shortest, out)
+            }
+            Finding::Listing(verdict, is_shortest, explored) => {
+                let (path, explored) = (path.as_bytes(), explored.as_ref());
+                write_listing(path, text, verdict, *is_shortest, explored, out)
             }
             Finding::Report(report) => write_exploration(report, out),
             Finding::Least(least) => write_least(least, out),

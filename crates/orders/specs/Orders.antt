@@ -113,7 +113,7 @@ pub record IsSettingRefused (told : List ℕ → Option (List ℕ)) (text : Opti
 
 -- to explore as the words tell, the whole or the part of this text, for all that comes out or for the least failing schedule alone
 abbrev pub IsExploration : (List ℕ → Option (List ℕ)) → Option (List ℕ) → Task → Type 0
-IsExploration told text (Check effort native allows_faults shortest) = ⊥
+IsExploration told text (Check effort native allows_faults shortest lists) = ⊥
 IsExploration told text (Explore effort native part least_alone) =
     AreSettingsTold told effort.settings × IsCacheTold told 0 effort.cache × IsNativeTold told native × IsFlagTold (told (codes "least")) least_alone
     × IsPartTold text part
@@ -123,7 +123,7 @@ IsExploration told text (Show schedule all) = ⊥
 
 -- whether use lines run as native machines
 abbrev pub is_native : Task → Bool
-is_native (Check effort native allows_faults shortest) = native
+is_native (Check effort native allows_faults shortest lists) = native
 is_native (Explore effort native part least_alone) = native
 is_native (Find effort native patterns) = native
 is_native (Replay schedule) = false
@@ -131,16 +131,17 @@ is_native (Show schedule all) = false
 
 -- whether its refusals are told in words
 abbrev pub is_in_words : Task → Bool
-is_in_words (Check effort native allows_faults shortest) = true
+is_in_words (Check effort native allows_faults shortest lists) = true
 is_in_words (Explore effort native part least_alone) = false
 is_in_words (Find effort native patterns) = true
 is_in_words (Replay schedule) = false
 is_in_words (Show schedule all) = true
 
--- to check as the words tell, and say in words what fails first, or what fails with the fewest letters
+-- to check as the words tell, and say in words what fails first, or what fails with the fewest letters; and to list the outcomes
 abbrev pub IsCheck : (List ℕ → Option (List ℕ)) → ℕ → Task → Type 0
-IsCheck told processors (Check effort native allows_faults shortest) =
+IsCheck told processors (Check effort native allows_faults shortest lists) =
     IsEffortTold told processors effort × IsNativeTold told native × IsFlagTold (told (codes "allow-faults")) allows_faults × IsFlagTold (told (codes "shortest")) shortest
+    × IsFlagTold (told (codes "outcomes")) lists
 IsCheck told processors (Explore effort native part least_alone) = ⊥
 IsCheck told processors (Find effort native patterns) = ⊥
 IsCheck told processors (Replay schedule) = ⊥
@@ -160,7 +161,7 @@ texts_told found = texts_at (codes "PATTERN") found
 
 -- to look as far as the words tell for outcomes that match one of the patterns of these texts
 abbrev pub IsFind : (List ℕ → Option (List ℕ)) → ℕ → List (List ℕ) → Task → Type 0
-IsFind told processors texts (Check effort native allows_faults shortest) = ⊥
+IsFind told processors texts (Check effort native allows_faults shortest lists) = ⊥
 IsFind told processors texts (Explore effort native part least_alone) = ⊥
 IsFind told processors texts (Find effort native patterns) =
     IsEffortTold told processors effort × IsNativeTold told native × (map pattern_text patterns.items ≡ texts)
@@ -186,7 +187,7 @@ IsFindRefused reads unread found processors r =
 
 -- how many lists of machines it takes: one for each worker, and one more where a schedule that is found is to be drawn
 abbrev pub lists_of : Task → ℕ
-lists_of (Check effort native allows_faults shortest) = effort.settings.workers + 1
+lists_of (Check effort native allows_faults shortest lists) = effort.settings.workers + 1
 lists_of (Explore effort native part least_alone) = effort.settings.workers
 lists_of (Find effort native patterns) = effort.settings.workers + 1
 lists_of (Replay schedule) = 1

@@ -187,7 +187,8 @@ fn subject_of<'a>(words: &ArgMatches<'a>, refusal: &Refusal) -> &'a str {
     }
 }
 
-/// How far the words of `check` ask to check, whether they allow faults, and whether they ask for the shortest failing schedule.
+/// How far the words of `check` ask to check, whether they allow faults, and whether they ask for the shortest failing schedule and
+/// for the outcomes.
 fn check_of(words: &ArgMatches<'_>, processors: ProcessorCount) -> Result<Task, Refusal>
     ensures ok { IfOk result (IsCheck (one_text (found_of words.now)) processors.number) }
     ensures err { IfErr result
@@ -197,11 +198,13 @@ fn check_of(words: &ArgMatches<'_>, processors: ProcessorCount) -> Result<Task, 
     let native = is_native(words);
     let allows_faults = has_flag(words, "allow-faults");
     let shortest = has_flag(words, "shortest");
+    let lists = has_flag(words, "outcomes");
     Ok(Task::Check {
         effort,
         native,
         allows_faults,
         shortest,
+        lists,
     })
 }
 

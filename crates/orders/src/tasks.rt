@@ -10,12 +10,14 @@ use report::{Effort, Part};
 #[derive(Debug, Drop)]
 pub enum Task {
     /// Check it this far, and say in words what fails: the least failing schedule, or the least
-    /// of the shortest; a process at fault fails it unless that is allowed.
+    /// of the shortest; a process at fault fails it unless that is allowed. The outcomes may be
+    /// listed as well.
     Check {
         effort: Effort,
         native: bool,
         allows_faults: bool,
         shortest: bool,
+        lists: bool,
     },
     /// Explore it this far, or one part of it, with native machines for use lines or with interpreters alone; or look for
     /// the least failing schedule of these alone.

@@ -5,6 +5,7 @@ pub mod Examples
 pub mod FaultText
 pub mod Faults
 pub mod Gaps
+pub mod Listings
 pub mod Onsets
 pub mod ShellWords
 pub mod VerdictText

@@ -34,26 +34,47 @@ pub fn write_verdict<W: Write>(
     ensures { Wrote W.contents out.old out.new
         (verdict_text path.now text.now is_shortest verdict.now) result }
 {
-    match verdict {
-        Verdict::Fails(breach) => {
-            let failing = Failing {
-                path,
-                text,
-                breach,
-                is_shortest,
-            };
-            write(&failing, out)
-        }
-        Verdict::Holds(held) => {
-            let reach = reach_of(&held.exploration);
-            let gaps = GapLines {
-                text,
-                gaps: held.gaps.as_slice(),
-            };
-            write(
-                &(Holding { path, reach }, held.asked, gaps, Caution(reach)),
-                out,
-            )
+    let told = Told {
+        path,
+        text,
+        verdict,
+        is_shortest,
+    };
+    write(&told, out)
+}
+
+/// Whether a source holds, as it is told of the file of this path.
+#[derive(Clone, Copy)]
+pub(crate) struct Told<'a> {
+    pub(crate) path: &'a [u8],
+    pub(crate) text: &'a [u8],
+    pub(crate) verdict: &'a Verdict,
+    pub(crate) is_shortest: bool,
+}
+
+impl Text for Told<'_> {
+    ghost text = { λ t. spec.verdict_text t.path.now t.text.now t.is_shortest t.verdict.now };
+
+    fn put<W: Write>(&self, out: &mut W, block: &mut Block) -> Result<(), WriteFault> {
+        let Told { path, text, .. } = *self;
+        match self.verdict {
+            Verdict::Fails(breach) => {
+                let failing = Failing {
+                    path,
+                    text,
+                    breach,
+                    is_shortest: self.is_shortest,
+                };
+                failing.put(out, block)
+            }
+            Verdict::Holds(held) => {
+                let reach = reach_of(&held.exploration);
+                let gaps = GapLines {
+                    text,
+                    gaps: held.gaps.as_slice(),
+                };
+                (Holding { path, reach }, held.asked, gaps, Caution(reach)).put(out, block)
+            }
         }
     }
 }

@@ -1,10 +1,12 @@
-use Rattle.std.proofs.Common.{◌≡◌, map}
+use Rattle.std.proofs.Common.{◌≡◌, false, map}
 use Rattle.reglang.specs.Sources.{source_programs}
 use Rattle.explorer.proofs.GrownLists.{last_has}
 use Rattle.cli.proofs.tasks.found_by.Goals as goal
 
 pub returns-in-Check : goal.returns-in-Check
-returns-in-Check g c = rw c.in-Check.is (c.checked.ensures c.in-Check.native)
+returns-in-Check g c =
+    let alone : c.in-Check.lists ≡ false = rw c.in-Check.is at c.requires.alone in
+    rw (c.in-Check.is, alone) (c.checked.ensures c.in-Check.native)
 
 pub returns-in-Explore : goal.returns-in-Explore
 returns-in-Explore g c = rw c.in-Explore.is (c.explored.ensures c.in-Explore.native)
