@@ -8,7 +8,18 @@ from searches import how_checked
 
 def err_of_each(err):
     """What is told on standard error of the case's file, of one that is not there and of standard input, where this is told of the first."""
-    return err + b"none.reg: the file cannot be read\n" + err.replace(b"case.reg:", b"-:", 1)
+    return err + b"none.reg: there is no such file\n" + err.replace(b"case.reg:", b"-:", 1)
+
+
+def line_of_all(status):
+    """The last line of three files, of which two have this status and the other one is refused."""
+    words = {0: b"2 hold, 1 refused", 1: b"2 fail, 1 refused", 2: b"3 refused", 3: b"1 refused, 2 unanswered"}
+    return b"3 files: " + words.get(status, b"") + b"\n"
+
+
+def outcomes_in(text):
+    """The lines of a text that tell how many outcomes there are, and each of them."""
+    return [line for line in text.splitlines() if line.startswith(b"outcome")]
 
 
 def letters_in(verdict):
@@ -32,9 +43,14 @@ def checked_fault(dice, folder, settings, alone):
     yield from faults_of(strict)
     given = (folder / "case.reg").read_bytes()
     status, out, err = run(folder, [*check, "none.reg", "-"], given)
-    alike = (out, err) == (strict[1] + strict[1].replace(b"case.reg", b"-"), err_of_each(strict[2]))
+    out_of_each = strict[1] + strict[1].replace(b"case.reg", b"-") + line_of_all(strict[0])
+    alike = (out, err) == (out_of_each, err_of_each(strict[2]))
     if status != max(2, strict[0]) or not alike:
         yield f"a check of three files answers {status, out, err}, and of one {strict}"
+    listed = run(folder, [*check, "--outcomes"])
+    yield from faults_of(listed)
+    if listed[0] != strict[0] or not listed[1].startswith(strict[1]) or alone[0] < 2 and outcomes_in(listed[1]) != outcomes_in(alone[1]):
+        yield f"a check that lists outcomes answers {listed}, one that does not {strict}, and an exploration {alone}"
     shortest = run(folder, [*check, "--shortest"])
     yield from faults_of(shortest)
     if strict[0] == 1 and (shortest[0] != 1 or letters_in(shortest[1]) > letters_in(strict[1])):

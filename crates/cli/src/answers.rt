@@ -1,6 +1,7 @@
 //! Does what was asked, and gives the status.
 
 ghost use Rattle.std.specs.Prelude.{◌≡◌, ◌≤◌, ◌⊎◌, Bool, IfErr, IfOk, IsNone, List, None, Option, Some, false, if◌then◌else◌, option_and_then, true, ℕ};
+ghost use Rattle.std.specs.Result.{result_ok};
 ghost use Rattle.findings.specs.FindingText.{finding_text};
 ghost use Rattle.report.specs.declared.effort.Effort.{Effort};
 ghost use Rattle.orders.specs.declared.tasks.Task.TheVariants as asked;
@@ -18,7 +19,7 @@ use crate::progress::Progress;
 use crate::tasks::found;
 use explanations::write_explanation;
 use findings::Finding;
-use orders::{Question, Readable, Reason, Refusal, refuse};
+use orders::{FileFault, Question, Readable, Reason, Refusal, refuse};
 use std::alloc::Global;
 use std::io::Write;
 use std::sync::Wait;
@@ -28,40 +29,40 @@ use std::thread::Threads;
 /// that is done, but 1 where it tells of a schedule that fails or was looked for, unless it is of a
 /// part; 2 where the file, the source or a letter is refused; 3 where it could not be done. At 2
 /// and 3 `err` is told why, and `out` is as before, unless it did not take the whole text: then it
-/// took a beginning of it, and the status is 3. `file` is None where it could not be opened. Where
+/// took a beginning of it, and the status is 3. `file` tells why it could not be opened, where it was not. Where
 /// progress is asked for, `err` is told of it before.
 pub fn answer<H: Threads + Wait + Sync, R: Readable, W: Write, E: Write + Send>(
     rt: &H,
     alloc: Global,
     question: &Question<'_>,
-    file: Option<R>,
+    file: Result<R, FileFault>,
     out: &mut W,
     err: &mut E,
 ) -> u8
-    ensures no_file { IsNone file → result ≡ 2 }
+    ensures no_file { IsNone (result_ok file) → result ≡ 2 }
     ensures status { result ≤ 3 }
     ensures explored { (effort : Effort) (native : Bool)
         → question.now.task.now ≡ asked.Explore effort native None false → result ≤ 1
-        → IsReportWritten effort.settings (option_and_then R.remaining file)
+        → IsReportWritten effort.settings (option_and_then R.remaining (result_ok file))
         (W.contents out.old) (W.contents out.new) result }
     ensures answered { result ≤ 1
-        → IsAnswered question.now.path.now question.now.task.now (option_and_then R.remaining file)
+        → IsAnswered question.now.path.now question.now.task.now (option_and_then R.remaining (result_ok file))
         (W.contents out.old) (W.contents out.new) result }
     ensures refused { 2 ≤ result
         → IsRefusedWith W.contents R.remaining R.fails
         (λ fault. question.now.progress ≡ false → is_in_words question.now.task.now ≡ true
-        → IsTold question.now.path.now (option_and_then R.remaining file) fault
+        → IsTold question.now.path.now (option_and_then R.remaining (result_ok file)) fault
         (E.contents err.old) (E.contents err.new))
-        question.now.path.now question.now.task.now file out.old out.new result }
+        question.now.path.now question.now.task.now (result_ok file) out.old out.new result }
     ensures silent { result ≡ 2 → out.new ≡ out.old }
     ensures cut_short { result ≡ 3
         → (out.new ≡ out.old)
-        ⊎ IsCutShort question.now.path.now question.now.task.now (option_and_then R.remaining file)
+        ⊎ IsCutShort question.now.path.now question.now.task.now (option_and_then R.remaining (result_ok file))
         (W.contents out.old) (W.contents out.new) }
 {
     let written = match file {
-        Some(file) => written(rt, alloc, question, file, out, err),
-        None => Err(AnswerFault::Refused(Refusal::File)),
+        Ok(file) => written(rt, alloc, question, file, out, err),
+        Err(why) => Err(AnswerFault::Refused(Refusal::File(why))),
     };
     match written {
         Ok(fails) => u8::from(fails),

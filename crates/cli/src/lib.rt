@@ -20,7 +20,7 @@ mod tasks;
 
 pub use answers::answer;
 pub use orders::{
-    Bound, Input, Opener, Order, Question, Reason, Refusal, Request, Task, command, input_of,
-    refuse, words_of,
+    Bound, FileFault, Input, Opener, Order, Question, Reason, Refusal, Request, Task, command,
+    input_of, refuse, words_of,
 };
 pub use program::perform;

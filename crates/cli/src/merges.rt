@@ -1,6 +1,7 @@
 //! The parts of an exploration that are in a file, merged.
 
 ghost use Rattle.std.specs.Prelude.{IfErr, IfOk, IsSome, OnOk, option_and_then};
+ghost use Rattle.std.specs.Result.{result_ok};
 ghost use Rattle.merging.specs.Merged.{IsMergedOf};
 ghost use Rattle.merging.specs.MergedText.{merged_text};
 ghost use Rattle.cli.specs.Merges.{AreMergedIn, IsUnmerged};
@@ -8,21 +9,21 @@ ghost use Rattle.cli.specs.Written.{Tells};
 
 use crate::faults::AnswerFault;
 use merging::{Merged, merge_parts, write_merged};
-use orders::{Refusal, refuse};
+use orders::{FileFault, Refusal, refuse};
 use std::alloc::Global;
 use std::io::{BufReader, Read, Write};
 
 /// Merges the parts in the file, and writes what they tell together. The status is 0 where that is done, but 1 where a schedule fails; 2
 /// where the file or its parts are refused; 3 where it could not be done. At 2 and 3 a line on `err` says why, and `out` is as before, unless it
-/// did not take the whole text: then it took a beginning of it, and the status is 3. `file` is None where it could not be opened.
+/// did not take the whole text: then it took a beginning of it, and the status is 3. `file` tells why it could not be opened, where it was not.
 pub fn merge_file<R: Read + Drop, W: Write, E: Write>(
     alloc: Global,
     path: &str,
-    file: Option<R>,
+    file: Result<R, FileFault>,
     out: &mut W,
     err: &mut E,
 ) -> u8
-    ensures { AreMergedIn W.contents R.remaining file out.old out.new result }
+    ensures { AreMergedIn W.contents R.remaining (result_ok file) out.old out.new result }
 {
     let merged = match merged_in(alloc, file) {
         Ok(merged) => merged,
@@ -35,13 +36,17 @@ pub fn merge_file<R: Read + Drop, W: Write, E: Write>(
 }
 
 /// What the parts in the file tell together.
-fn merged_in<R: Read + Drop>(alloc: Global, file: Option<R>) -> Result<Merged, AnswerFault>
-    ensures merged { IfOk result (IsMergedOf (option_and_then R.remaining file)) }
-    ensures there { OnOk result (IsSome file) }
-    ensures refused { IfErr result (IsUnmerged R.remaining file) }
+fn merged_in<R: Read + Drop>(
+    alloc: Global,
+    file: Result<R, FileFault>,
+) -> Result<Merged, AnswerFault>
+    ensures merged { IfOk result (IsMergedOf (option_and_then R.remaining (result_ok file))) }
+    ensures there { OnOk result (IsSome (result_ok file)) }
+    ensures refused { IfErr result (IsUnmerged R.remaining (result_ok file)) }
 {
-    let Some(file) = file else {
-        return Err(AnswerFault::Refused(Refusal::File));
+    let file = match file {
+        Ok(file) => file,
+        Err(why) => return Err(AnswerFault::Refused(Refusal::File(why))),
     };
     let Ok(reader) = BufReader::new(alloc, file) else {
         return Err(AnswerFault::Refused(Refusal::Memory));

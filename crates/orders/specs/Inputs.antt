@@ -24,10 +24,15 @@ pub record IsStandardText {R : Type 0} (opens : List ℕ → Option R → Type 0
 abbrev pub IsTooLong : Option (List ℕ) → Type 0
 IsTooLong file = IfSome file (λ bytes. MOST_SOURCE_BYTES < length bytes)
 
+-- why there is no file to read: it could not be opened
+abbrev pub IsNoFile : Refusal → Type 0
+IsNoFile (File why) = Unit {0}
+IsNoFile _ = ⊥
+
 -- why what is read gives no text: by its own answer, since it is too long, or since memory does not
 -- hold it
 abbrev pub IsUnreadable : Option (List ℕ) → Refusal → Type 0
-IsUnreadable file File = Unit {0}
+IsUnreadable file (File why) = Unit {0}
 IsUnreadable file LongFile = IsTooLong file
 IsUnreadable file Memory = Unit {0}
 IsUnreadable file _ = ⊥

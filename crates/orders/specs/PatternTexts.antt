@@ -4,9 +4,9 @@ use Rattle.std.specs.List.{starts_with}
 use Rattle.patterns.specs.PatternText.{FitsPattern, IsBadAt, pattern_text}
 use Rattle.patterns.specs.declared.standings.Standing.{Standing}
 use Rattle.reglang.specs.Lines.{lines}
-use Rattle.orders.specs.Inputs.{IsUnreadable, is_standard}
+use Rattle.orders.specs.Inputs.{IsNoFile, IsUnreadable, is_standard}
 use Rattle.orders.specs.declared.refusals.Refusal.{Refusal}
-use Rattle.orders.specs.declared.refusals.Refusal.TheVariants.{File, Memory, Pattern, PatternLine}
+use Rattle.orders.specs.declared.refusals.Refusal.TheVariants.{Memory, Pattern, PatternLine}
 
 -- whether patterns are read from standard input: one word stands where they do, and names it
 abbrev pub are_standard : List (List ℕ) → Bool
@@ -29,7 +29,7 @@ pub record AreTextsOf (reads : List ℕ → Type 0) (words texts : List (List �
 
 -- why nothing is read of what a path opens: it opens none, or that gives no text
 abbrev pub IsUnread : {R : Type 0} → (R → Option (List ℕ)) → Option R → Refusal → Type 0
-IsUnread remaining None r = r ≡ File
+IsUnread remaining None r = IsNoFile r
 IsUnread remaining (Some file) r = IsUnreadable (remaining file) r
 
 -- so it is with standard input, by what its path opens

@@ -15,7 +15,7 @@ status_of Schedule = 2
 status_of (Pattern place standing) = 2
 status_of (PatternLine place standing) = 2
 status_of TwiceStandard = 2
-status_of File = 2
+status_of (File why) = 2
 status_of LongFile = 2
 status_of Memory = 3
 

@@ -1,10 +1,12 @@
 //! Where a source and patterns are read from: a file, or standard input.
 
-ghost use Rattle.std.specs.Prelude.{◌≡◌, IfErr, IfOk, List, Option, Some, false, option_map, true, ℕ};
+ghost use Rattle.std.specs.Prelude.{◌≡◌, IfErr, IfOk, List, Ok, Option, Result, Some, false, true, ℕ};
 ghost use Rattle.std.specs.Fn.{FnOnceReturnsAt};
+ghost use Rattle.std.specs.Result.{result_map_both};
 ghost use Rattle.orders.specs.Inputs.{IsTextOf, IsUnreadable, is_standard};
 ghost use Rattle.orders.specs.declared.inputs.Input.TheVariants as input;
 
+use crate::file_faults::FileFault;
 use crate::refusals::Refusal;
 use regmodel::limits::MOST_SOURCE_BYTES;
 use std::alloc::Global;
@@ -29,15 +31,17 @@ pub trait Readable: Read + Drop {
 
 /// What opens files by their paths.
 pub trait Opener {
+    ghost use Rattle.std.specs.Result.{result_ok};
+
     /// What is read of a file.
     type Reader: Readable;
 
     /// Which file a path opens, or that it opens none.
     ghost opens: { Self → List ℕ → Option Self.Reader → Type 0 };
 
-    /// The file of a path, which may be that of standard input (`input_of`); None where it cannot be opened.
-    fn open(&self, path: &str) -> Option<Self::Reader>
-        ensures { opens self.now path.now result };
+    /// The file of a path, which may be that of standard input (`input_of`); the error tells why it cannot be opened.
+    fn open(&self, path: &str) -> Result<Self::Reader, FileFault>
+        ensures { opens self.now path.now (result_ok result) };
 }
 
 /// What is read: standard input, or a file.
@@ -76,24 +80,24 @@ impl Readable for &[u8] {
     }
 }
 
-/// What a path names: standard input where it is a dash, else the file that `opener` gives for it, which is None where it cannot be opened.
-pub fn input_of<S: Drop, F, O: FnOnce(&str) -> Option<F> + Drop>(
+/// What a path names: standard input where it is a dash, else the file that `opener` gives for it, or why that cannot be opened.
+pub fn input_of<S: Drop, F, O: FnOnce(&str) -> Result<F, FileFault> + Drop>(
     path: &str,
     standard: S,
     opener: O,
-) -> Option<Input<S, F>>
+) -> Result<Input<S, F>, FileFault>
     requires { O.IsAlwaysCallable opener }
-    ensures standard { is_standard path.now ≡ true → result ≡ Some (input.Standard standard) }
+    ensures standard { is_standard path.now ≡ true → result ≡ Ok (input.Standard standard) }
     ensures file { is_standard path.now ≡ false
-        → (file : Option F) × FnOnceReturnsAt O.FnOnce opener path.now file
-        × (result ≡ option_map input.File file) }
+        → (file : Result F FileFault) × FnOnceReturnsAt O.FnOnce opener path.now file
+        × (result ≡ result_map_both input.File (λ why. why) file) }
 {
     if is_standard(path) {
-        return Some(Input::Standard(standard));
+        return Ok(Input::Standard(standard));
     }
     match opener(path) {
-        Some(file) => Some(Input::File(file)),
-        None => None,
+        Ok(file) => Ok(Input::File(file)),
+        Err(why) => Err(why),
     }
 }
 
@@ -117,6 +121,6 @@ pub fn bytes_of<R: Read + Drop>(alloc: Global, file: R) -> Result<Vec<u8>, Refus
         Ok(count) if count <= MOST_SOURCE_BYTES => Ok(bytes),
         Ok(_) => Err(Refusal::LongFile),
         Err(error) if error.kind() == ErrorKind::OutOfMemory => Err(Refusal::Memory),
-        Err(_) => Err(Refusal::File),
+        Err(error) => Err(Refusal::File(FileFault::of(error.kind()))),
     }
 }

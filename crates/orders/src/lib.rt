@@ -2,6 +2,7 @@
 #![tactic(auto)]
 
 mod bounds;
+mod file_faults;
 mod inputs;
 mod options;
 mod orders;
@@ -16,6 +17,7 @@ mod tips;
 mod words;
 
 pub use bounds::Bound;
+pub use file_faults::FileFault;
 pub use inputs::{Input, Opener, Readable, bytes_of, input_of};
 pub use orders::{Order, Request, command};
 pub use reasons::{Reason, refuse};

@@ -33,8 +33,9 @@ pub fn patterns_told<O: Opener>(
     if !are_standard(words) {
         return patterns_of(alloc, words);
     }
-    let Some(file) = opener.open(STANDARD_INPUT) else {
-        return Err(Refusal::File);
+    let file = match opener.open(STANDARD_INPUT) {
+        Ok(file) => file,
+        Err(why) => return Err(Refusal::File(why)),
     };
     match bytes_of(alloc, file) {
         Ok(text) => patterns_in(alloc, text.as_slice()),

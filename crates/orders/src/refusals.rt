@@ -4,6 +4,7 @@ ghost use Rattle.std.specs.Prelude.{◌≡◌};
 ghost use Rattle.orders.specs.declared.refusals.Refusal.TheVariants.{Memory};
 
 use crate::bounds::Bound;
+use crate::file_faults::FileFault;
 use crate::reasons::Reason;
 use crate::standing_forms::form_for;
 use std::alloc::AllocFailed;
@@ -45,7 +46,7 @@ pub enum Refusal {
     TwiceStandard,
     /// A file that cannot be read.
     #[error("file")]
-    File,
+    File(FileFault),
     /// A file that is too long.
     #[error("file")]
     LongFile,
@@ -68,7 +69,7 @@ impl Reason for Refusal {
             | Refusal::Pattern(_, _)
             | Refusal::PatternLine(_, _)
             | Refusal::TwiceStandard
-            | Refusal::File
+            | Refusal::File(_)
             | Refusal::LongFile => 2,
             Refusal::Memory => 3,
         }
@@ -104,7 +105,7 @@ impl Reason for Refusal {
                 " stands for standard input, which cannot be both the source and the patterns",
                 err,
             ),
-            Refusal::File => write_line(subject, ": the file cannot be read", err),
+            Refusal::File(why) => write_line(subject, why.words(), err),
             Refusal::LongFile => write_line(
                 subject,
                 ": the file is longer than 1048576 bytes",

@@ -5,7 +5,7 @@ ghost use Rattle.std.specs.Prelude.{◌≡◌, Some, true};
 ghost use Rattle.orders.specs.Inputs.{is_standard};
 ghost use Rattle.orders.specs.declared.inputs.Input.TheVariants as input;
 
-use cli::{Input, Opener, command, input_of, perform, words_of};
+use cli::{FileFault, Input, Opener, command, input_of, perform, words_of};
 use std::fs;
 use std::fs::File;
 use std::io::Stdin;
@@ -23,9 +23,12 @@ impl Opener for System<'_> {
 
     ghost opens = { λ system path file. is_standard path ≡ true → file ≡ Some (input.Standard system.standard) };
 
-    fn open(&self, path: &str) -> Option<Input<Stdin, File>> {
+    fn open(&self, path: &str) -> Result<Input<Stdin, File>, FileFault> {
         let rt = self.rt;
-        input_of(path, self.standard, |path: &str| fs::open(rt, path).ok())
+        input_of(path, self.standard, |path: &str| match fs::open(rt, path) {
+            Ok(file) => Ok(file),
+            Err(error) => Err(FileFault::of(error.kind())),
+        })
     }
 }
 

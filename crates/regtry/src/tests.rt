@@ -2,7 +2,7 @@
 
 ghost use Rattle.std.specs.Prelude.{◌≡◌, Some};
 
-use cli::{Opener, Refusal, Request, Task, command, perform};
+use cli::{FileFault, Opener, Refusal, Request, Task, command, perform};
 use std::alloc::Global;
 use std::io;
 use std::io::Write;
@@ -66,8 +66,8 @@ impl Opener for OneFile {
 
     ghost opens = { λ one _ file. file ≡ Some one.0 };
 
-    fn open(&self, _path: &str) -> Option<&'static [u8]> {
-        Some(self.0)
+    fn open(&self, _path: &str) -> Result<&'static [u8], FileFault> {
+        Ok(self.0)
     }
 }
 

@@ -1,4 +1,5 @@
 use Rattle.std.proofs.Common.{sym, arith}
+use Rattle.std.specs.Result.{result_ok}
 use Rattle.std.proofs.lemmas.List.{get_or_default}
 use Rattle.cli.specs.Performing.{IsNext}
 use Rattle.cli.proofs.CountedFiles.{one_more_counted}
@@ -10,7 +11,7 @@ loop-path-preserved g c = record {
   comes =
       one_more (IsNext g.W.Write.contents g.O.Reader.Read.remaining g.O.Reader.Readable.fails (g.O.Opener.opens c.args.opener.now) c.args.order.now.task) (λ path. path.now) c.as_slice-path-items.result.now c.loop-path.path-index _ _ (c.loop-path.out, c.loop-path.counts) (c.answer-status.new.out, c.add.new.self) (omega arith) (sym (get_or_default c.as_slice-path-items.result.now c.loop-path.path-index _ _ (omega arith))) c.loop-path.invariant.comes
       (record {
-        file = c.open.result;
+        file = result_ok c.open.result;
         opened = c.open.ensures;
         status = c.answer-status.result;
         done = record {
