@@ -1,8 +1,16 @@
--- Worked examples of the line that tells of several files.
-use Rattle.std.specs.Prelude.{◌≡◌, codes, refl}
+-- Worked examples.
+use Rattle.std.specs.Prelude.{◌≡◌, ℕ, Bool, true, false, List, [], ◌∷◌, codes, map, refl}
 use Rattle.std.specs.Fmt.{digits}
+use Rattle.regmodel.specs.declared.accesses.Access.TheVariants.{Read}
+use Rattle.regmodel.specs.declared.accesses.Pending.{Pending}
+use Rattle.regmodel.specs.declared.accesses.Pending.TheVariants.{Fault, Wants}
+use Rattle.regmodel.specs.Program.{Stop}
+use Rattle.uses.specs.declared.kinds.Use.TheVariants as kind
+use Rattle.reglang.specs.Contents.{Contents, Kind, Text}
 use Rattle.cli.specs.FileCounts.{counts_text, no_counts, with_one_more}
+use Rattle.cli.specs.Understanding.{resumed_in}
 
+-- ---- the line that tells of several files
 pub three_files : counts_text (with_one_more (with_one_more (with_one_more no_counts 0) 1) 0) ≡ codes "3 files: 2 hold, 1 fails\n"
 unfolding digits
 three_files = refl
@@ -10,3 +18,20 @@ three_files = refl
 pub none_holds : counts_text (with_one_more (with_one_more (with_one_more no_counts 3) 2) 2) ≡ codes "3 files: 2 refused, 1 unanswered\n"
 unfolding digits
 none_holds = refl
+
+-- ---- a splitter at registers 0 and 1, and a process that does nothing
+
+abbrev pub two : Contents
+two = record { registers = 2; processes = Kind (kind.Split 0 1) ∷ Text Stop ∷ []; clauses = [] }
+
+-- where each process stands as these numbers tell, and no further reply came
+abbrev pub pending_by : Bool → List ℕ → List Pending
+pending_by native numbers = map (λ resumed. resumed numbers []) (resumed_in two native)
+
+-- a native splitter that tries the door, and an interpreter that is at fault
+pub native_tries : pending_by true (1 ∷ 4 ∷ []) ≡ Wants (Read 1) ∷ Fault 4 ∷ []
+native_tries = refl
+
+-- without natives both are interpreters
+pub both_at_fault : pending_by false (1 ∷ 4 ∷ []) ≡ Fault 4 ∷ Fault 4 ∷ []
+both_at_fault = refl

@@ -15,5 +15,6 @@ pub mod Runs
 pub mod Searches
 pub mod Standings
 pub mod Statuses
+pub mod Understanding
 pub mod Verdicts
 pub mod Written

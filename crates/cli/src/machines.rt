@@ -4,6 +4,8 @@ ghost use Rattle.std.specs.Prelude.{◌≡◌, ◌<◌, ◌↔◌, IfErr, IfOk, 
 ghost use Rattle.uses.specs.Expansions.{expansion};
 ghost use Rattle.reglang.specs.Sources.{source_programs};
 ghost use Rattle.uses.specs.Uses.{use_fits};
+ghost use Rattle.natives.specs.Resuming.{native_resumed};
+ghost use Rattle.cli.specs.Understanding.{resumed_of_all};
 ghost use Rattle.cli.specs.declared.machines.ProcessMachine.TheVariants as process;
 
 use machine::{Interp, Machine, Told};
@@ -106,9 +108,12 @@ pub fn machine_of(
     native: bool,
 ) -> Result<ProcessMachine, OutOfMemory>
     requires { p < length (source_programs source.now) }
-    ensures { IfOk result
+    ensures program { IfOk result
         (λ m. slice_get (source_programs source.now) p
         ≡ Some (⟦<ProcessMachine as Machine>⟧.program m)) }
+    ensures understood { IfOk result
+        (λ m. slice_get (resumed_of_all source.now native) p
+        ≡ Some (⟦<ProcessMachine as Machine>⟧.resumed m)) }
 {
     match source.use_of(p) {
         Some(kind) if native => native_of(kind, source.registers()).map_err(|_| OutOfMemory),
@@ -124,6 +129,8 @@ pub fn machine_of(
 fn native_of(kind: &Use, registers: u32) -> Result<ProcessMachine, MakeFault>
     ensures program { IfOk result
         (λ m. ⟦<ProcessMachine as Machine>⟧.program m ≡ expansion kind.now registers) }
+    ensures understood { IfOk result
+        (λ m. ⟦<ProcessMachine as Machine>⟧.resumed m ≡ native_resumed kind.now registers) }
     ensures made { IsOk result ↔ IsTrue (use_fits kind.now registers) }
     ensures code { IfErr result (λ fault. fault.code ≡ 1) }
 {

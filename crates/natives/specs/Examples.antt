@@ -4,11 +4,13 @@ use Rattle.regmodel.specs.declared.accesses.Access.TheVariants.{Read, Write, Sca
 use Rattle.regmodel.specs.declared.accesses.Pending.TheVariants.{Wants, Done, Fault}
 use Rattle.regmodel.specs.Reply.{one}
 use Rattle.uses.specs.Expansions.{split_program}
+use Rattle.uses.specs.declared.kinds.Use.TheVariants as kind
 use Rattle.natives.specs.declared.split.Stage.TheVariants.{At}
 use Rattle.natives.specs.declared.splitters.Step.TheVariants.{Looks}
 use Rattle.natives.specs.Splits.{split_rest, split_resumed}
 use Rattle.machine.specs.Bits.{packed, unpacked}
 use Rattle.natives.specs.Grids.{grid_from, grid_resumed}
+use Rattle.natives.specs.Resuming.{native_resumed}
 use Rattle.natives.specs.Rounds.{first_slot, after_slot, after_slots, number_from}
 use Rattle.natives.specs.Names.{from_reading, name_resumed}
 use Rattle.natives.specs.ScannedNames.{from_scan_round, names_resumed}
@@ -107,3 +109,11 @@ root_reached = refl
 
 pub tree_takes : tree_resumed 0 12 2 3 1 7 (7 ∷ 1 ∷ 2 ∷ []) (one 7 ∷ []) ≡ Wants (Read 4)
 tree_takes = refl
+
+-- ---- the same by the numbers of a line alone
+
+pub line_of_tree_takes : native_resumed (kind.Tree 0 2 1 7) 12 (7 ∷ 1 ∷ 2 ∷ []) (one 7 ∷ []) ≡ Wants (Read 4)
+line_of_tree_takes = refl
+
+pub line_of_split_looks : native_resumed (kind.Split 0 1) 2 (3 ∷ []) (one 1 ∷ []) ≡ Done (record { items = 1 ∷ [] })
+line_of_split_looks = refl

@@ -3,6 +3,7 @@ pub mod Grids
 pub mod Makes
 pub mod Names
 pub mod Puts
+pub mod Resuming
 pub mod Rounds
 pub mod ScannedNames
 pub mod Splits

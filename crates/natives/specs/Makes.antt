@@ -6,12 +6,15 @@ use Rattle.uses.specs.Expansions.{expansion}
 use Rattle.uses.specs.Uses.{use_fits}
 use Rattle.uses.specs.declared.kinds.Use.{Use}
 use Rattle.natives.specs.declared.MakeFault.{MakeFault}
+use Rattle.natives.specs.Resuming.{native_resumed}
 use Rattle.uses.specs.declared.expansions.TheConstants.{PAST_LIMIT}
 
--- one over so many registers: its program is the line's expansion, at whose start it stands; it is made exactly where the line is within
--- its limits, and else they are the fault
+-- one over so many registers: its program is the line's expansion, at whose start it stands, and it
+-- understands numbers by the line alone; it is made exactly where the line is within its limits, and
+-- else they are the fault
 pub record IsMadeFor {M : Type 0} (kind : Use) (registers : ℕ) (machine : Ghosts M) (result : Result M MakeFault) : Type 0 where
   pub same : IfOk result (λ m. machine.program m ≡ expansion kind registers)
   pub starts : IfOk result (λ m. IsAtStart (expansion kind registers) (machine.rest m))
+  pub understands : IfOk result (λ m. machine.resumed m ≡ native_resumed kind registers)
   pub limits : (result ≡ Err (record { code = PAST_LIMIT })) ↔ (use_fits kind registers ≡ false)
   pub made : IsOk result ↔ IsTrue (use_fits kind registers)

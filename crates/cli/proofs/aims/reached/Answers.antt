@@ -1,17 +1,29 @@
-use Rattle.std.proofs.Common.{◌≡◌, inl, refl, ap, ◌∙◌}
+use Rattle.std.proofs.Common.{◌≡◌, ℕ, List, inl, refl, ap, ◌∙◌}
+use Rattle.regmodel.specs.declared.accesses.Pending.{Pending}
 use Rattle.regmodel.specs.Program.{Program}
+use Rattle.regmodel.specs.Reply.{Replies}
 use denote.Param.Object.{read_made}
 use Rattle.reglang.specs.Sources.{source_programs}
 use Rattle.regmodel.proofs.Members.{map-take_push}
+use Rattle.cli.specs.Runs.{has_natives}
+use Rattle.cli.specs.Understanding.{resumed_of_all}
 use Rattle.cli.proofs.aims.reached.OwnLists.{own-1}
 use Rattle.cli.proofs.aims.reached.Goals as goal
 
 pub loop-p-preserved : goal.loop-p-preserved
 loop-p-preserved g c =
-    let programs = source_programs c.args.run.now.spelling.source.now in
-    let program = (own-1.entry (inl tt)).1.program c.in_ok-machine.machine in
+    let source = c.args.run.now.spelling.source.now in
+    let program = (own-1.entry (inl tt)).1.program in
+    let resumed = (own-1.entry (inl tt)).1.resumed in
+    let machine = c.in_ok-machine.machine in
     let boxed = c.into_dyn_box.result in
-    let same : (own-1.entry boxed.vtable).1.program boxed.value ≡ program =
+    let runs : (own-1.entry boxed.vtable).1.program boxed.value ≡ program machine =
     read_made own-1 (own-1.entry (inl tt)) (inl tt) refl Program (λ entry. entry.1.program) boxed.vtable boxed.value c.in_ok-new.field-0.value c.into_dyn_box.ensures.1
-    ∙ ap (own-1.entry (inl tt)).1.program c.in_ok-new.ensures.ok in
-    map-take_push (λ b. (own-1.entry b.vtable).1.program b.value) c.loop-p.machines.items _ boxed programs c.loop-p.p program c.in_ok-push.ensures.items c.loop-p.invariant same c.in_ok-machine.ensures
+    ∙ ap program c.in_ok-new.ensures.ok in
+    let understands : (own-1.entry boxed.vtable).1.resumed boxed.value ≡ resumed machine =
+    read_made own-1 (own-1.entry (inl tt)) (inl tt) refl (List ℕ → Replies → Pending) (λ entry. entry.1.resumed) boxed.vtable boxed.value c.in_ok-new.field-0.value c.into_dyn_box.ensures.1
+    ∙ ap resumed c.in_ok-new.ensures.ok in
+    record {
+      machines = map-take_push (λ b. (own-1.entry b.vtable).1.program b.value) c.loop-p.machines.items c.push.new.self.items boxed (source_programs source) c.loop-p.p (program machine) c.in_ok-push.ensures.items c.loop-p.invariant.machines runs c.in_ok-machine.ensures.program;
+      understood = map-take_push (λ b. (own-1.entry b.vtable).1.resumed b.value) c.loop-p.machines.items c.push.new.self.items boxed (resumed_of_all source (has_natives c.args.aim.now)) c.loop-p.p (resumed machine) c.in_ok-push.ensures.items c.loop-p.invariant.understood understands (rw c.is_native.ensures at c.in_ok-machine.ensures.understood);
+    }

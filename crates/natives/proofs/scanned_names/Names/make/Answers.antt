@@ -8,4 +8,4 @@ use Rattle.natives.proofs.scanned_names.Names.make.Goals as goal
 pub returns : goal.returns
 returns c =
     let first = c.first in
-    made-at-start _ _ _ _ (search rules) (search rules) (λ s lawful. starts are-rounds (scan_rest first.result) first.result s first.ensures.stage first.ensures.later first.ensures.proposal first.ensures.seen)
+    made-at-start _ _ _ _ (search rules) (search rules) (search rules) (λ s lawful. starts are-rounds (scan_rest first.result) first.result s first.ensures.stage first.ensures.later first.ensures.proposal first.ensures.seen)
