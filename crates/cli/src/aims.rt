@@ -84,9 +84,9 @@ pub fn reached<H: Threads + Wait + Sync, G: Gate>(
         Aim::Asked(task) => Ok(Some(found_by(run, task, lists)?)),
         Aim::Failing {
             effort,
+            native,
             allows_faults,
-            ..
-        } => failing(run, *effort, *allows_faults, lists),
-        Aim::CutOff { effort, .. } => cut_off(run, *effort, lists),
+        } => failing(run, *effort, *native, *allows_faults, lists),
+        Aim::CutOff { effort, native } => cut_off(run, *effort, *native, lists),
     }
 }

@@ -1,13 +1,15 @@
 //! The explorations of a source, and of one part of it, which several runs share.
 
-ghost use Rattle.std.specs.Prelude.{◌≡◌, Bool, IfOk, option_map};
+ghost use Rattle.std.specs.Prelude.{◌≡◌, All, IfOk, map, option_map};
 ghost use Rattle.reglang.specs.Sources.{source_programs};
 ghost use Rattle.orders.specs.declared.tasks.Task.TheVariants as asked;
 ghost use Rattle.explorer.specs.Running.{AreListsOf};
 ghost use Rattle.cli.specs.Parts.{part_head};
 ghost use Rattle.cli.specs.Refusals.{Finds};
+ghost use Rattle.cli.specs.Understanding.{resumed_of_all};
 
 use crate::faults::AnswerFault;
+use crate::machines::Made;
 use crate::runs::Run;
 use explorer::{Effort, Gate, Job, Part, exploration_of, least_failing};
 use findings::Finding;
@@ -46,18 +48,23 @@ fn head_for<H, G>(
 pub fn explored<H: Threads + Wait + Sync, G: Gate>(
     run: &Run<'_, H, G>,
     effort: Effort,
+    native: bool,
     part: Option<Part>,
     least_alone: bool,
     lists: Vec<Vec<Box<dyn Machine + Send>>>,
 ) -> Result<Finding, AnswerFault>
     requires machines { AreListsOf program (source_programs run.now.spelling.source.now)
         effort.settings.workers lists.items }
-    ensures { (native : Bool)
-        → Finds (asked.Explore effort native part least_alone) run.now.spelling.text.now result }
+    requires understood { All
+        (λ list. map resumed list.items ≡ resumed_of_all run.now.spelling.source.now native)
+        lists.items }
+    ensures { Finds (asked.Explore effort native part least_alone) run.now.spelling.text.now
+        result }
 {
     run.spelling.spells();
     let head = head_for(run, effort.settings, part)?;
     let (rt, alloc, source, gate) = (run.rt, run.alloc, run.spelling.source, run.gate);
+    let made = Made { source, native };
     let job = Job {
         alloc,
         source,
@@ -65,6 +72,7 @@ pub fn explored<H: Threads + Wait + Sync, G: Gate>(
         part,
         judge: source.clauses(),
         gate,
+        understanding: &made,
     };
     if least_alone {
         let least = match least_failing(rt, &job, lists) {

@@ -1,4 +1,4 @@
-//! The machine of one process.
+//! The machine of one process, and how those of all are understood.
 
 ghost use Rattle.std.specs.Prelude.{◌≡◌, ◌<◌, ◌↔◌, IfErr, IfOk, IsOk, IsTrue, Some, length, slice_get};
 ghost use Rattle.uses.specs.Expansions.{expansion};
@@ -8,6 +8,7 @@ ghost use Rattle.natives.specs.Resuming.{native_resumed};
 ghost use Rattle.cli.specs.Understanding.{resumed_of_all};
 ghost use Rattle.cli.specs.declared.machines.ProcessMachine.TheVariants as process;
 
+use explorer::Understanding;
 use machine::{Interp, Machine, Told};
 use natives::{Grid, MakeFault, NameSlots, Names, Split, Tree};
 use reglang::{Source, Use};
@@ -97,6 +98,19 @@ impl Machine for ProcessMachine {
             ProcessMachine::Names(machine) => machine.tell(numbers),
         }
     }
+}
+
+/// How the machines of a source are understood: native ones of its use lines where these are asked for, and else interpreters.
+#[derive(Drop)]
+pub(crate) struct Made<'a> {
+    pub(crate) source: &'a Source,
+    pub(crate) native: bool,
+}
+
+impl Understanding for Made<'_> {
+    ghost use Rattle.cli.specs.Understanding.{resumed_of_all};
+
+    ghost understood = { λ made. resumed_of_all made.source.now made.native };
 }
 
 /// The machine of process p of a source, counted from 0: a native one for a use line where natives are asked for, else an

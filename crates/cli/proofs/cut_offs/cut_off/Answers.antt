@@ -2,6 +2,9 @@ use Rattle.std.proofs.Common.{◌≡◌, true, false, is_some, sym, ap, ◌∙�
 use Rattle.cli.proofs.CutOffsFound.{least_cut_off, none_cut_off, same_some}
 use Rattle.cli.proofs.cut_offs.cut_off.Goals as goal
 
+pub least_failing-requires-clause-understood : goal.least_failing-requires-clause-understood
+least_failing-requires-clause-understood g c κs within = rw c.whole-job.ensures (λ some. c.requires.understood)
+
 pub returns-then-is_some-clause-found : goal.returns-then-is_some-clause-found
 returns-then-is_some-clause-found g c =
     let some : is_some c.in-Ok.least.least ≡ true = ap is_some (sym c.least.ensures) ∙ (same_some _ c.least.result ∙ (sym c.is_some.ensures ∙ c.if-is_some.true)) in

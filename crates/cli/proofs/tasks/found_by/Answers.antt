@@ -6,13 +6,13 @@ use Rattle.cli.proofs.tasks.found_by.Goals as goal
 pub returns-in-Check : goal.returns-in-Check
 returns-in-Check g c =
     let alone : c.in-Check.lists ≡ false = rw c.in-Check.is at c.requires.alone in
-    rw (c.in-Check.is, alone) (c.checked.ensures c.in-Check.native)
+    rw (c.in-Check.is, alone) c.checked.ensures
 
 pub returns-in-Explore : goal.returns-in-Explore
-returns-in-Explore g c = rw c.in-Explore.is (c.explored.ensures c.in-Explore.native)
+returns-in-Explore g c = rw c.in-Explore.is c.explored.ensures
 
 pub returns-in-Find : goal.returns-in-Find
-returns-in-Find g c = rw c.in-Find.is (c.searched.ensures c.in-Find.native)
+returns-in-Find g c = rw c.in-Find.is c.searched.ensures
 
 pub standing_after-requires : goal.standing_after-requires
 standing_after-requires g c =
