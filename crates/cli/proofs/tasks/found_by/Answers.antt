@@ -3,6 +3,12 @@ use Rattle.reglang.specs.Sources.{source_programs}
 use Rattle.explorer.proofs.GrownLists.{last_has}
 use Rattle.cli.proofs.tasks.found_by.Goals as goal
 
+pub checked-requires-clause-understood : goal.checked-requires-clause-understood
+checked-requires-clause-understood g c κs within = rw c.in-Check.is at c.requires.understood
+
+pub explored-requires-clause-understood : goal.explored-requires-clause-understood
+explored-requires-clause-understood g c κs within = rw c.in-Explore.is at c.requires.understood
+
 pub returns-in-Check : goal.returns-in-Check
 returns-in-Check g c =
     let alone : c.in-Check.lists ≡ false = rw c.in-Check.is at c.requires.alone in
