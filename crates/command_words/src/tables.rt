@@ -223,7 +223,7 @@ const CRASHES: Word = Word {
 const WORKERS: Word = Word {
     name: "workers",
     kind: Kind::Text("W"),
-    help: "How many workers share the exploration, each in a thread of its own: 1 to 16 [default: 1, and with --cache 0 the number of processors, at most 16]",
+    help: "How many workers share the exploration, each in a thread of its own: 1 to 16 [default: the number of processors, at most 16]",
 };
 
 /// The megabytes for states, for a check and a search.

@@ -49,11 +49,3 @@ pub record IsBoundRefused (told : List ℕ → Option (List ℕ)) (workers : ℕ
   pub bound : Bound
   pub told_is : r ≡ refusal.Bound bound
   pub none : IsNoBound (told (name_of bound)) bound (default_of workers bound)
-
--- how many workers there are where the words do not say: one where states are remembered, else as many as there are processors
-abbrev pub workers_for : ℕ → Bool → ℕ
-workers_for processors remembers = if remembers then 1 else processors
-
--- the refusal of a bound of a check or a search, where there are so many processors; whether states are remembered or not then
-abbrev pub IsEffortRefused : (List ℕ → Option (List ℕ)) → ℕ → Refusal → Type 0
-IsEffortRefused told processors r = (remembers : Bool) × IsBoundRefused told (workers_for processors remembers) r

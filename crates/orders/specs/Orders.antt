@@ -11,7 +11,7 @@ use Rattle.regmodel.specs.declared.limits.TheConstants.{MOST_LETTERS}
 use Rattle.regmodel.specs.ScheduleText.{schedule_text}
 use Rattle.report.specs.declared.effort.Effort.{Effort}
 use Rattle.report.specs.declared.parts.Part.{Part}
-use Rattle.orders.specs.Bounds.{IsBoundTold, IsEffortRefused, workers_for}
+use Rattle.orders.specs.Bounds.{IsBoundRefused, IsBoundTold}
 use Rattle.orders.specs.Inputs.{is_standard}
 use Rattle.orders.specs.NumberTexts.{IsNumberText}
 use Rattle.orders.specs.PatternTexts.{AreNoTexts, AreTextsOf, are_standard}
@@ -68,7 +68,7 @@ pub record AreBoundsTold (told : List ℕ → Option (List ℕ)) (otherwise : �
 -- so it is with a check or a search; the megabytes in which states are remembered are those of the words, or else CACHE
 abbrev pub IsEffortTold : (List ℕ → Option (List ℕ)) → ℕ → Effort → Type 0
 IsEffortTold told processors effort =
-    AreBoundsTold told (workers_for processors (nat_lt 0 effort.cache)) effort.settings × IsBoundTold (told (codes "cache")) CACHE effort.cache
+    AreBoundsTold told processors effort.settings × IsBoundTold (told (codes "cache")) CACHE effort.cache
 
 -- the megabytes in which states are remembered are those of the words, or else so many; there is a limit
 abbrev pub IsCacheTold : (List ℕ → Option (List ℕ)) → ℕ → ℕ → Type 0
@@ -183,7 +183,7 @@ pub record IsTwiceStandard (found : Found) (r : Refusal) : Type 0 where
 -- why a search is refused: a bound, standard input that is named twice, or the patterns
 abbrev pub IsFindRefused : (List ℕ → Type 0) → (Refusal → Type 0) → Found → ℕ → Refusal → Type 0
 IsFindRefused reads unread found processors r =
-    IsEffortRefused (one_text found) processors r ⊎ IsTwiceStandard found r ⊎ AreNoTexts reads unread (texts_told found) r
+    IsBoundRefused (one_text found) processors r ⊎ IsTwiceStandard found r ⊎ AreNoTexts reads unread (texts_told found) r
 
 -- how many lists of machines it takes: one for each worker, and one more where a schedule that is found is to be drawn
 abbrev pub lists_of : Task → ℕ

@@ -14,9 +14,9 @@ use regmodel::limits::{MOST_CRASHES, MOST_LETTERS, MOST_WORKERS};
 use std::thread;
 use std::thread::Threads;
 
-/// Up to which length a check splits beginnings of schedules into pieces where several workers share them. Each piece begins with nothing
-/// remembered, so they are few.
-const SHARED_CUT: u32 = 1;
+/// Up to which length a check or a search splits beginnings of schedules into pieces where several workers share them: few enough to be
+/// put up in no time, and many more than workers.
+const SHARED_CUT: u32 = 3;
 
 /// How many pieces each worker of a check may put up for the others.
 const ROOM: u32 = 64;
@@ -99,26 +99,19 @@ pub(crate) fn processors<H: Threads>(rt: &H) -> ProcessorCount {
     ProcessorCount { number }
 }
 
-/// How many workers a check or a search has whose words do not say: one where it remembers states,
-/// and as many as there are processors where it remembers none. Each worker would have a part of
-/// the memory to itself, and meet again what others met.
-pub(crate) fn workers_for(processors: ProcessorCount, remembers: bool) -> u32
-    ensures told { result ≡ spec.workers_for processors.number remembers }
-    ensures within { (1 ≤ result) × (result ≤ MOST_WORKERS) }
-{
-    if remembers { 1 } else { processors.number }
-}
-
-/// How far the words of a check or a search ask to go, with so many workers where they do not say.
+/// How far the words of a check or a search ask to go, with as many workers as processors where they do not say.
 /// The error tells the first bound whose text is no number, or not one that it takes.
-pub(crate) fn bounds_of(words: &ArgMatches<'_>, workers: u32) -> Result<Settings, Refusal>
-    requires { (1 ≤ workers) × (workers ≤ MOST_WORKERS) }
-    ensures ok { IfOk result (AreBoundsTold (one_text (found_of words.now)) workers) }
-    ensures err { IfErr result (spec.IsBoundRefused (one_text (found_of words.now)) workers) }
+pub(crate) fn bounds_of(
+    words: &ArgMatches<'_>,
+    processors: ProcessorCount,
+) -> Result<Settings, Refusal>
+    ensures ok { IfOk result (AreBoundsTold (one_text (found_of words.now)) processors.number) }
+    ensures err { IfErr result
+        (spec.IsBoundRefused (one_text (found_of words.now)) processors.number) }
 {
     let length = bound_of(words, Bound::Length, MOST_LETTERS)?;
     let crashes = bound_of(words, Bound::Crashes, 0)?;
-    let workers = bound_of(words, Bound::Workers, workers)?;
+    let workers = bound_of(words, Bound::Workers, processors.number)?;
     let cut = if workers > 1 { SHARED_CUT } else { 0 };
     match Settings::new(length, crashes, workers, cut, ROOM) {
         Ok(settings) => Ok(settings),

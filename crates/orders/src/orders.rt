@@ -2,7 +2,7 @@
 
 ghost use Rattle.std.specs.Prelude.{◌≡◌, ◌≤◌, ◌⊎◌, Err, IfErr, IfOk, map, ℕ};
 ghost use Rattle.clap.specs.Words.{found_of, one_text};
-ghost use Rattle.orders.specs.Bounds.{IsEffortRefused};
+ghost use Rattle.orders.specs.Bounds.{IsBoundRefused};
 ghost use Rattle.orders.specs.Orders.{IsCheck, IsEffortTold, IsExploration, IsFindRefused, IsFindTold, IsSettingRefused, IsWalk, texts_told, word_told};
 ghost use Rattle.orders.specs.Requests.{IsOrderTold, IsRequestBy, IsRequestOf, IsTaskTold};
 ghost use Rattle.regmodel.specs.declared.limits.TheConstants.{MOST_WORKERS};
@@ -10,9 +10,7 @@ ghost use Rattle.orders.specs.Inputs.{IsStandardText};
 ghost use Rattle.orders.specs.PatternTexts.{IsStandardUnread};
 ghost use Rattle.orders.specs.Statuses.{IsNoSchedule, status_of};
 
-use crate::bounds::{
-    Bound, CACHE, MOST_CACHE, ProcessorCount, bound_of, bounds_of, processors, workers_for,
-};
+use crate::bounds::{Bound, CACHE, MOST_CACHE, ProcessorCount, bound_of, bounds_of, processors};
 use crate::inputs::{Opener, STANDARD_INPUT, is_standard};
 use crate::options::{has_flag, is_native, number_of, word_at};
 use crate::parts_told::part_told;
@@ -60,9 +58,8 @@ pub enum Request<'a> {
 /// Reads the words of the command line, the program's name first. Where they are refused, also
 /// where they ask for help, a setting is past its limit, or a schedule or a pattern is no text of
 /// one, it prints why, and the error is the status. A check or a search whose words do not say how
-/// many workers it has has one where it remembers states, and else as many as there are processors,
-/// 1 to 16: `rt` tells that. `opener` opens standard input by its path where the words say that
-/// patterns are read from it.
+/// many workers it has has as many as there are processors, 1 to 16: `rt` tells that. `opener` opens
+/// standard input by its path where the words say that patterns are read from it.
 pub fn command<'a, H: Threads + AllocGlobal, S: AsStr, O: Opener, E: Write>(
     rt: &H,
     words: &'a Result<Vec<S>, Refusal>,
@@ -192,7 +189,7 @@ fn subject_of<'a>(words: &ArgMatches<'a>, refusal: &Refusal) -> &'a str {
 fn check_of(words: &ArgMatches<'_>, processors: ProcessorCount) -> Result<Task, Refusal>
     ensures ok { IfOk result (IsCheck (one_text (found_of words.now)) processors.number) }
     ensures err { IfErr result
-        (IsEffortRefused (one_text (found_of words.now)) processors.number) }
+        (IsBoundRefused (one_text (found_of words.now)) processors.number) }
 {
     let effort = effort_of(words, processors)?;
     let native = is_native(words);
@@ -212,12 +209,10 @@ fn check_of(words: &ArgMatches<'_>, processors: ProcessorCount) -> Result<Task, 
 fn effort_of(words: &ArgMatches<'_>, processors: ProcessorCount) -> Result<Effort, Refusal>
     ensures ok { IfOk result (IsEffortTold (one_text (found_of words.now)) processors.number) }
     ensures err { IfErr result
-        (IsEffortRefused (one_text (found_of words.now)) processors.number) }
+        (IsBoundRefused (one_text (found_of words.now)) processors.number) }
 {
-    let cache = bound_of(words, Bound::Cache, CACHE);
-    let remembers = !matches!(cache, Ok(0));
-    let settings = bounds_of(words, workers_for(processors, remembers))?;
-    let cache = cache?;
+    let settings = bounds_of(words, processors)?;
+    let cache = bound_of(words, Bound::Cache, CACHE)?;
     Ok(Effort { settings, cache })
 }
 
