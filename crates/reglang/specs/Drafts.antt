@@ -81,7 +81,10 @@ add before frames block n fits statement = if nat_lt n MOST_STATEMENTS && fits t
 
 -- one open block more
 abbrev pub enter : Contents → Frame → List Frame → ℕ → Bool → Result Reading LineFault
-enter before frame frames n fits = if nat_lt n MOST_STATEMENTS && fits && nat_lt (length frames) MOST_OPEN_BLOCKS then Ok (Inside before (frame ∷ frames) Stop (suc n)) else Err PastLimit
+enter before frame frames n fits =
+    if nat_lt n MOST_STATEMENTS && fits && nat_lt (length frames) MOST_OPEN_BLOCKS
+    then Ok (Inside before (frame ∷ frames) Stop (suc n))
+    else Err PastLimit
 
 -- the `else` of the innermost block, an `if` without one
 abbrev pub enter_else : Contents → List Frame → Block → ℕ → Result Reading LineFault
@@ -135,7 +138,8 @@ abbrev pub take_inside : Contents → List Frame → Block → ℕ → Line → 
 take_inside before frames block n (line.Set to value) = add before frames block n (target_fits to && expr_fits value) (program.Assign to value Stop)
 take_inside before frames block n (line.Read to from) = add before frames block n (target_fits to && operand_fits from) (program.Read to from Stop)
 take_inside before frames block n (line.Write to value) = add before frames block n (operand_fits to && expr_fits value) (program.Write to value Stop)
-take_inside before frames block n (line.Scan cell first count) = add before frames block n (scan_fits before.registers cell first count) (program.Scan cell first count Stop)
+take_inside before frames block n (line.Scan cell first count) =
+    add before frames block n (scan_fits before.registers cell first count) (program.Scan cell first count Stop)
 take_inside before frames block n (line.Emit value) = add before frames block n (expr_fits value) (program.Emit value Stop)
 take_inside before frames block n line.Halt = add before frames block n true (program.Halt Stop)
 take_inside before frames block n (line.If test) = enter before (First test block) frames n (expr_fits test)
@@ -205,9 +209,13 @@ pub record BlockFits (registers blocks repeats : ℕ) (block : Block) : Type 0 w
 -- open blocks, and the statements of the innermost
 abbrev pub FramesFit : ℕ → List Frame → Block → Type 0
 FramesFit r [] block = BlockFits r 0 0 block
-FramesFit r (First test outer ∷ frames) block = (expr_fits test ≡ true) × (BlockFits r (suc (length frames)) (turns frames) block × FramesFit r frames outer)
-FramesFit r (Second test first outer ∷ frames) block = (expr_fits test ≡ true) × (BlockFits r (suc (length frames)) (turns frames) first × (BlockFits r (suc (length frames)) (turns frames) block × FramesFit r frames outer))
-FramesFit r (Turn count outer ∷ frames) block = (expr_fits count ≡ true) × (BlockFits r (suc (length frames)) (suc (turns frames)) block × FramesFit r frames outer)
+FramesFit r (First test outer ∷ frames) block =
+    (expr_fits test ≡ true) × (BlockFits r (suc (length frames)) (turns frames) block × FramesFit r frames outer)
+FramesFit r (Second test first outer ∷ frames) block =
+    (expr_fits test ≡ true) × (BlockFits r (suc (length frames)) (turns frames) first
+    × (BlockFits r (suc (length frames)) (turns frames) block × FramesFit r frames outer))
+FramesFit r (Turn count outer ∷ frames) block =
+    (expr_fits count ≡ true) × (BlockFits r (suc (length frames)) (suc (turns frames)) block × FramesFit r frames outer)
 
 -- how many statements there are around the innermost block
 abbrev pub statements_around : List Frame → ℕ
@@ -322,4 +330,6 @@ pub record AnswersLine (may_ask : Bool) (expected : Result Reading LineFault) (r
 -- the answer at the end of a text whose checks stand on these lines
 abbrev pub AnswersAtEnd : Reading → List ℕ → Result Source LineFault → Type 0
 AnswersAtEnd reading numbers result =
-    MatchResult result (λ source. (contents_at_end reading ≡ Ok (contents_of source)) × (check_lines_of source ≡ numbers)) (λ fault. contents_at_end reading ≡ Err fault)
+    MatchResult result
+    (λ source. (contents_at_end reading ≡ Ok (contents_of source)) × (check_lines_of source ≡ numbers))
+    (λ fault. contents_at_end reading ≡ Err fault)

@@ -74,7 +74,9 @@ pub no_forms : map of_third_line (codes "emit" ∷ codes "set 5 v0" ∷ codes "s
 no_forms = refl
 
 -- a value past the limit, a slot past the last, a 33rd cell, a scan of nothing, and of a third register
-pub past_the_limits : map of_third_line (codes "emit 1000000001" ∷ codes "use names 0 2 2" ∷ codes "scan 31 0 2" ∷ codes "scan 0 0 0" ∷ codes "scan 0 1 2" ∷ []) ≡ replicate 5 (at 3 6)
+pub past_the_limits : map of_third_line
+    (codes "emit 1000000001" ∷ codes "use names 0 2 2" ∷ codes "scan 31 0 2" ∷ codes "scan 0 0 0" ∷ codes "scan 0 1 2" ∷ [])
+    ≡ replicate 5 (at 3 6)
 past_the_limits = refl
 
 -- a scan of both registers, and the last slot

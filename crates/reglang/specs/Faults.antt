@@ -1,5 +1,5 @@
 -- The first fault of a text.
-use Rattle.std.specs.Prelude.{◌≡◌, ◌≢◌, ℕ, suc, ◌-◌, ◌≤◌, Bool, true, false, not, ◌&&◌, if◌then◌else◌, List, [], ◌∷◌, ◌++◌, length, max, get_or, take, Option, Some, None, IfSome, is_some, is_none, unwrap_or, option_map, Result, Ok, Err, nat_lt}
+use Rattle.std.specs.Prelude.{◌≡◌, ◌≢◌, ℕ, suc, ◌≤◌, Bool, true, false, not, ◌&&◌, if◌then◌else◌, List, [], ◌∷◌, ◌++◌, length, max, take, Option, Some, None, IfSome, is_some, is_none, unwrap_or, option_map, Result, Ok, Err, nat_lt}
 use Rattle.regmodel.specs.declared.limits.TheConstants.{MOST_CHECKS, MOST_OPEN_BLOCKS, MOST_OPEN_REPEATS, MOST_PROCESSES, MOST_REGISTERS, MOST_STATEMENTS}
 use Rattle.reglang.specs.declared.refusals.TheConstants.{NO_MEMORY}
 use Rattle.reglang.specs.LineFaults.{code_of, fault_of}
@@ -8,6 +8,7 @@ use Rattle.reglang.specs.declared.refusals.LineFault.TheVariants.{Misplaced, NoC
 use Rattle.regmodel.specs.Limits.{target_fits, operand_fits, expr_fits, scan_fits}
 use Rattle.reglang.specs.Lines.{lines}
 use Rattle.reglang.specs.Forms.{read_line}
+use Rattle.reglang.specs.Checks.{line_at}
 use Rattle.reglang.specs.Contents.{Contents}
 use Rattle.reglang.specs.Grammar.{Spells, line_said, lines_said}
 use Rattle.uses.specs.Uses.{is_between, use_fits}
@@ -253,10 +254,6 @@ asks (Ok (Some line)) = may_ask line
 asks (Ok None) = false
 asks (Err fault) = false
 
--- the line of a text with this number, counted from 1
-abbrev pub line_at : ℕ → List ℕ → List ℕ
-line_at number text = get_or (lines text) (number - 1) []
-
 -- ---- the first of them
 
 -- where a line stands that comes after these lines
@@ -302,7 +299,9 @@ HasNoneBefore text fault = IfSome (first_fault text) (λ first. fault.line ≤ f
 
 -- memory is refused on a line that may ask for it, where neither it nor a line before has a fault
 pub record RunsOut (text : List ℕ) (number : ℕ) : Type 0 where
-  pub asked : asks (read_line (line_at number text)) ≡ true
+  pub bytes : List ℕ
+  pub there : line_at number text ≡ Some bytes
+  pub asked : asks (read_line bytes) ≡ true
   pub faultless : are_faultless at_start (take number (lines text)) ≡ true
 
 -- so it is where this fault is that of memory

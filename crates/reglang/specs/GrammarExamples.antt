@@ -60,7 +60,13 @@ with_else = record {
     back = line.Else ∷ line.Fi ∷ [];
     whole = refl;
     before = refl;
-    after = record { front = line.Else ∷ []; back = line.Fi ∷ []; whole = refl; before = inr (record { more = []; whole = refl; holds = refl }); after = record { more = []; whole = refl; holds = refl } };
+    after = record {
+      front = line.Else ∷ [];
+      back = line.Fi ∷ [];
+      whole = refl;
+      before = inr (record { more = []; whole = refl; holds = refl });
+      after = record { more = []; whole = refl; holds = refl };
+    };
   };
 }
 

@@ -16,7 +16,9 @@ use Rattle.reglang.specs.declared.words.Word.TheVariants as word
 -- ---- arguments
 
 -- a target, and an expression of three words
-pub target_and_sum : arguments (sort.Target ∷ sort.Expression ∷ []) (word.Operand (operand.Var 2) ∷ word.Operand (operand.Cell 0) ∷ word.Operator op.Add ∷ word.Operand (operand.Number 1) ∷ []) ≡ Some (argument.Target (target.Var 2) ∷ argument.Expression (expr.Two (operand.Cell 0) op.Add (operand.Number 1)) ∷ [])
+pub target_and_sum : arguments (sort.Target ∷ sort.Expression ∷ [])
+    (word.Operand (operand.Var 2) ∷ word.Operand (operand.Cell 0) ∷ word.Operator op.Add ∷ word.Operand (operand.Number 1) ∷ [])
+    ≡ Some (argument.Target (target.Var 2) ∷ argument.Expression (expr.Two (operand.Cell 0) op.Add (operand.Number 1)) ∷ [])
 target_and_sum = refl
 
 -- a number past its limit

@@ -4,6 +4,7 @@ ghost use Rattle.std.specs.Prelude.{◌≡◌, ◌≤◌, ◌&&◌, ◌||◌, le
 ghost use Rattle.std.specs.List.{list_all, list_any};
 ghost use Rattle.reglang.specs.Forms as spec;
 ghost use Rattle.reglang.specs.Forms.{KeepsFirst, words_said};
+ghost use Rattle.reglang.specs.declared.forms.TheConstants.{MOST_WORDS};
 
 use crate::arguments::{clause_with, line_with, use_with};
 use crate::lines::{is_printable, split_word};
@@ -71,7 +72,7 @@ impl LaterWords {
     /// One more word.
     fn add(&mut self, word: Word)
         ensures first { KeepsFirst self.old.first.items word self.new.first.items }
-        ensures few { length self.new.first.items ≤ 6 }
+        ensures few { length self.new.first.items ≤ MOST_WORDS }
         ensures known { self.new.known ≡ (self.old.known && spec.is_known word) }
         ensures no_number { self.new.no_number ≡ (self.old.no_number || spec.is_no_number word) }
     {
@@ -84,7 +85,7 @@ impl LaterWords {
 /// Appends a word where there is room.
 fn keep(first: &mut ArrayVec<Word, MOST_WORDS>, word: Word)
     ensures first { KeepsFirst first.old.items word first.new.items }
-    ensures few { length first.new.items ≤ 6 }
+    ensures few { length first.new.items ≤ MOST_WORDS }
 {
     if first.is_full() {
         return;
@@ -104,7 +105,7 @@ pub fn is_known(word: Word) -> bool
 
 /// The words of what follows the first word of a line.
 fn later_words(line: &[u8]) -> LaterWords
-    ensures first { result.first.items ≡ take 6 (words_said line.now) }
+    ensures first { result.first.items ≡ take MOST_WORDS (words_said line.now) }
     ensures known { result.known ≡ list_all spec.is_known (words_said line.now) }
     ensures no_number { result.no_number ≡ list_any spec.is_no_number (words_said line.now) }
 {
