@@ -1,4 +1,5 @@
--- The checks of a text that spells a source are the lines of its clauses, one after another; and the reader keeps their numbers.
+-- The checks of a text that spells a source are the lines of its clauses, one after another; and
+-- the reader keeps their numbers.
 use Rattle.std.proofs.Common.{◌≡◌, ℕ, zero, suc, ◌+◌, List, [], ◌∷◌, ◌++◌, length, length-append, map, append_assoc, append-nil, Option, Some, None, Result, Ok, inl, inr, refl, ap, sym, subst, ◌∙◌, arith, slice_get, MatchOption, IfSome}
 use Rattle.std.specs.Prelude.{option_map}
 use Rattle.std.specs.List.{flat_map}

@@ -1,4 +1,5 @@
--- What was read tells where the next line stands, and reading by whole values finds the first fault.
+-- What was read tells where the next line stands, and reading by whole values
+-- finds the first fault.
 use Rattle.std.proofs.Common.{◌≡◌, ℕ, suc, Bool, true, false, not, List, [], ◌∷◌, ◌++◌, length, map, Option, Some, None, Result, Ok, Err, refl, ap, sym, ◌∙◌, length-append, arith}
 use Rattle.std.specs.Prelude.{if◌then◌else◌, ◌&&◌, nat_lt, max}
 use Rattle.std.proofs.lemmas.Bool.{lt-ltb}

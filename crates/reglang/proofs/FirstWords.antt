@@ -86,7 +86,8 @@ clause_of-take (w ∷ ws) = property_clause-take (property_of w) ws
 pub keyword_line_from : (key : Keyword) (more : List Word) → list_all is_known more ≡ true → list_any is_no_number more ≡ false → keyword_line key more ≡ or_fault NoForm (form_of key more)
 keyword_line_from key more known numbers = rw (known, numbers) refl
 
--- what the first six of the words behind a keyword tell, where none of the words counts before its form
+-- what the first six of the words behind a keyword tell, where none of the words
+-- counts before its form
 pub keyword_line_told : (key : Keyword) (more first : List Word) (form : Option Line) → form ≡ form_of key first → first ≡ take 6 more → list_all is_known more ≡ true → list_any is_no_number more ≡ false → or_fault NoForm form ≡ keyword_line key more
 keyword_line_told key more first form told six known numbers = ap (or_fault NoForm) (told ∙ ap (form_of key) six ∙ form_of-take key more) ∙ sym (keyword_line_from key more known numbers)
 

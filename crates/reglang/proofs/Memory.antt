@@ -1,4 +1,5 @@
--- Where memory was refused: a line that may ask for it, where neither it nor one before it has a fault.
+-- Where memory was refused: a line that may ask for it, where neither it nor one
+-- before it has a fault.
 use Rattle.std.proofs.Common.{◌≡◌, ℕ, suc, ◌+◌, true, List, slice_get, take, Option, Result, Ok, Err, refl, ap, ◌∙◌, arith}
 use Rattle.std.specs.Prelude.{◌&&◌, is_none, IsOk}
 use Rattle.reglang.specs.Checks.{line_at}

@@ -1,4 +1,5 @@
--- The text of lines within their limits is cut into the lines, each is cut into its words, and each line is read again.
+-- The text of lines within their limits is cut into the lines, each is cut into its words, and each
+-- line is read again.
 use Rattle.std.proofs.Common.{◌≡◌, ℕ, Bool, true, false, not, ◌&&◌, cond, eqb, leb, List, [], ◌∷◌, ◌++◌, map, Some, Ok, Err, IsOk, is_ok, codes, refl, ap, sym, ◌∙◌, subst, arith, append_assoc}
 use Rattle.std.specs.List.{All, AllByRecursion, flat_map, filter, list_all, slice_split}
 use Rattle.std.proofs.lemmas.Bool.{and_from, and_parts, cond-true, eqb-true, le-leb, leb-true}

@@ -72,7 +72,8 @@ one_source text a b h k = let e = spelled_read text a h in let f = spelled_read 
 pub faultless : (text : List ℕ) (source : Contents) → Spells text source → first_fault text ≡ None
 faultless text source h = subst (λ r. Agrees r (first_fault text)) (spelled_read text source h) (read_agrees text)
 
--- ---- the reader's loop: the text is read as what is left of it, after what was read, and no line before has a fault
+-- ---- the reader's loop: the text is read as what is left of it, after what was read, and no
+-- line before has a fault
 
 -- a line that is taken has no fault, and leads where the next one stands
 line_taken : (reading next : Reading) (line : List ℕ) (more : List (List ℕ)) → StepsRead reading (read_line line) (Ok next) → are_faultless (context_of reading) (line ∷ more) ≡ are_faultless (context_of next) more

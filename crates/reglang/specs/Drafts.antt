@@ -1,4 +1,5 @@
--- Inside the crate: reading by whole values: what was read so far, and what one line more makes of it.
+-- Inside the crate: reading by whole values: what was read so far, and what one
+-- line more makes of it.
 use Rattle.std.specs.Prelude.{◌≡◌, ℕ, suc, ◌+◌, ◌<◌, ◌≤◌, Bool, true, false, ◌&&◌, if◌then◌else◌, List, [], ◌∷◌, ◌++◌, length, map, reverse, max, All, Option, Some, None, Result, Ok, Err, IfErr, IsOk, MatchResult, nat_lt}
 use Rattle.regmodel.specs.declared.clauses.Clause.{Clause}
 use Rattle.regmodel.specs.declared.programs.Expr.{Expr}
@@ -43,7 +44,8 @@ program.Stop ⊕ more = more
 (program.Emit value rest) ⊕ more = program.Emit value (rest ⊕ more)
 (program.Halt rest) ⊕ more = program.Halt (rest ⊕ more)
 
--- an open block: its test or count, the first part where its `else` came, and what stands before it in the block around it
+-- an open block: its test or count, the first part where its `else` came, and what stands before it
+-- in the block around it
 pub data Frame : Type 0 where
   First : (test : Expr) (outer : Block) → Frame
   Second : (test : Expr) (first outer : Block) → Frame
@@ -59,8 +61,9 @@ opened_of (Turn count outer) = Repeat
 abbrev pub turns : List Frame → ℕ
 turns frames = repeats_in (map opened_of frames)
 
--- what was read so far: no line, whole processes and checks, or a process after them: its open blocks, the innermost first, the
--- statements of the innermost, and how many there are in all; or one of a use line
+-- what was read so far: no line, whole processes and checks, or a process after them: its open
+-- blocks, the innermost first, the statements of the innermost, and how many there are in all;
+-- or one of a use line
 pub data Reading : Type 0 where
   Empty : Reading
   Between : (before : Contents) → Reading
@@ -200,7 +203,8 @@ read_from reading n (line ∷ lines) = goes_on (faulty_at (suc n) (take_if_said 
 
 -- ---- what is known of what was read
 
--- a block within the limits, where there are so many registers, and so many blocks and repeats are open around it
+-- a block within the limits, where there are so many registers, and so many blocks and
+-- repeats are open around it
 pub record BlockFits (registers blocks repeats : ℕ) (block : Block) : Type 0 where
   pub operands : operands_fit registers block ≡ true
   pub depth : open_blocks block + blocks ≤ MOST_OPEN_BLOCKS
@@ -276,7 +280,8 @@ is_turn (opened.First test outer) = false
 is_turn (opened.Second test first outer) = false
 is_turn (opened.Turn count outer) = true
 
--- a process with these blocks open, this innermost block and so many statements, after whole processes and checks
+-- a process with these blocks open, this innermost block and so many statements, after whole
+-- processes and checks
 abbrev pub open_with : Parts → List Open → Block → ℕ → Reading
 open_with before opens block n = Inside (contents_before before) (frames_of opens) block n
 

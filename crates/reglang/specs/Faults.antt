@@ -25,13 +25,15 @@ pub data Opened : Type 0 where
   Else : Opened
   Repeat : Opened
 
--- outside processes, in one with these open blocks, the innermost first, and so many statements so far, or after a use line
+-- outside processes, in one with these open blocks, the innermost first, and so many statements so
+-- far, or after a use line
 pub data Place : Type 0 where
   Outside : Place
   Inside : (opened : List Opened) (statements : ℕ) → Place
   Used : Place
 
--- how many registers there are, where it was told; the processes and the checks so far; and the place
+-- how many registers there are, where it was told; the processes and the checks
+-- so far; and the place
 pub record Context : Type 0 where
   pub registers : Option ℕ
   pub processes : ℕ
@@ -269,7 +271,8 @@ abbrev pub or_later : Option ReadFault → Option ReadFault → Option ReadFault
 or_later (Some fault) later = Some fault
 or_later None later = later
 
--- the fault of the first of these lines that has one, where they come after others; else that of the end, on the last line
+-- the fault of the first of these lines that has one, where they come after others; else that of
+-- the end, on the last line
 abbrev pub fault_from : List (List ℕ) → List (List ℕ) → Option ReadFault
 fault_from before [] = at_line (max 1 (length before)) (end_fault (context_after before))
 fault_from before (line ∷ lines) =

@@ -39,7 +39,8 @@ tab = refl
 pub skipped : map read_line (codes "  # registers 1" ∷ codes "   " ∷ []) ≡ replicate 2 (Ok None)
 skipped = refl
 
--- a number where the line begins, a variable past v15, and an unknown word, which counts before a number that is none
+-- a number where the line begins, a variable past v15, and an unknown word, which counts before a
+-- number that is none
 pub unknown : map read_line (codes "1" ∷ codes "set v16 1" ∷ codes "emit 007 x" ∷ []) ≡ replicate 3 (Err UnknownWord)
 unknown = refl
 
@@ -47,7 +48,8 @@ unknown = refl
 pub no_numbers : map read_line (codes "emit 007" ∷ codes "end 1a" ∷ []) ≡ replicate 2 (Err NoNumber)
 no_numbers = refl
 
--- no value, a number for a target, a word for a scan's cell that is none, and a scan without a count
+-- no value, a number for a target, a word for a scan's cell that is none, and a
+-- scan without a count
 pub out_of_form : map read_line (codes "emit" ∷ codes "set 5 v0" ∷ codes "scan [0] 30 2" ∷ codes "scan 0 30" ∷ []) ≡ replicate 4 (Err NoForm)
 out_of_form = refl
 

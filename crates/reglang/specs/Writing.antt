@@ -1,4 +1,5 @@
--- The one text that is written of a source: no comment, no empty line, no space but the one between two words.
+-- The one text that is written of a source: no comment, no empty line, no space but the
+-- one between two words.
 use Rattle.std.specs.Prelude.{◌≡◌, ℕ, List, [], ◌∷◌, ◌++◌, map, Some, codes, decimal}
 use Rattle.std.specs.List.{flat_map, join_by}
 use Rattle.regmodel.specs.declared.programs.Target.{Target}

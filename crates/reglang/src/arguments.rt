@@ -199,7 +199,8 @@ fn numbers(numbers: &[u32]) -> Arguments
     arguments
 }
 
-/// The first word of a line and its arguments; those of a use and of a check are told by `use_parts` and `clause_parts`.
+/// The first word of a line and its arguments; those of a use and of a check are told by
+/// `use_parts` and `clause_parts`.
 pub fn line_parts(line: Line) -> (Keyword, Arguments)
     ensures key { result.0 ≡ (spec.line_parts line).0 }
     ensures arguments { result.1.items ≡ (spec.line_parts line).1 }

@@ -42,7 +42,8 @@ impl Draft {
         }
     }
 
-    /// The source that was read, at the end of the text, whose checks stand on these lines; or the end's fault.
+    /// The source that was read, at the end of the text, whose checks stand on these lines;
+    /// or the end's fault.
     pub fn finish(self, check_lines: ArrayVec<u64, 16>) -> Result<Source, LineFault>
         requires { ReadingFits (reading_of self) }
         ensures { AnswersAtEnd (reading_of self) check_lines.items result }

@@ -32,7 +32,8 @@ pub enum Line {
     Read(Target, Operand),
     /// The expression's value is written into the register with the operand's number.
     Write(Operand, Expr),
-    /// Registers are read at once: the first cell that is stored to, the first register, and how many.
+    /// Registers are read at once: the first cell that is stored to, the first
+    /// register, and how many.
     Scan(u32, u32, u32),
     /// What follows runs where the value is not 0.
     If(Expr),
@@ -152,8 +153,9 @@ fn form_of(key: Keyword, more: &[Word]) -> Option<Line>
     }
 }
 
-/// What a line says whose first word is this, no check. Its first fault where a later word is unknown, one begins with a digit and is no
-/// number word, or the words have no form of the first one.
+/// What a line says whose first word is this, no check. Its first fault where a later
+/// word is unknown, one begins with a digit and is no number word, or the words have no
+/// form of the first one.
 fn keyword_line(key: Keyword, rest: &[u8]) -> Result<Option<Line>, LineFault>
     ensures { result ≡ spec.keyword_line key (words_said rest.now) }
 {
@@ -170,9 +172,11 @@ fn keyword_line(key: Keyword, rest: &[u8]) -> Result<Option<Line>, LineFault>
     }
 }
 
-/// What a line says; none where it has no words or its first word begins with `#`. Else its first fault: `NotPrintable` where a byte is not
-/// in 32 to 126; `UnknownWord` where the first word begins no line or, the line being no check, a later word is unknown; `NoNumber` where,
-/// the line being no check, a word begins with a digit and is no number word; `NoForm` where the words have no form of the first one.
+/// What a line says; none where it has no words or its first word begins with `#`. Else its first
+/// fault: `NotPrintable` where a byte is not in 32 to 126; `UnknownWord` where the first word
+/// begins no line or, the line being no check, a later word is unknown; `NoNumber` where, the line
+/// being no check, a word begins with a digit and is no number word; `NoForm` where the words have
+/// no form of the first one.
 pub fn read_line(line: &[u8]) -> Result<Option<Line>, LineFault>
     ensures { result ≡ spec.read_line line.now }
 {
