@@ -58,8 +58,8 @@ name_numbers later proposal (Looks reading) = reading_number reading.clash ∷ l
 name_numbers later proposal Named = 3 ∷ proposal ∷ []
 name_numbers later proposal Over = 4 ∷ []
 
--- what is pending after further replies, where it stands as these numbers tell: behind those of a stage in a round comes what the slots
--- held, told by a mask and what is not 0
+-- what is pending after further replies, where it stands as these numbers tell: behind those of a
+-- stage in a round comes what the slots held, told by a mask and what is not 0
 abbrev pub name_resumed : ℕ → ℕ → ℕ → ℕ → List ℕ → Replies → Pending
 name_resumed base slots own registers (zero ∷ later ∷ proposal ∷ seen) s =
     from_round base slots own registers (suc later) proposal (cells_of (spread 8 seen)) s

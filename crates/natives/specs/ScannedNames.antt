@@ -24,7 +24,8 @@ module _ (base slots own registers : ℕ) where
 
 -- the same of a renaming in progress
 abbrev pub scan_round_rest : Round Scan → Replies → Pending
-scan_round_rest round = from_scan_round round.slots.base round.slots.count round.slots.own round.slots.registers (suc round.later) round.proposal (cells_of round.seen)
+scan_round_rest round =
+    from_scan_round round.slots.base round.slots.count round.slots.own round.slots.registers (suc round.later) round.proposal (cells_of round.seen)
 
 -- at the scan, the value from the round on after the reply to its write
 abbrev pub scan_rest : Round Scan → Scan → Replies → Pending
@@ -37,8 +38,8 @@ names_numbers later proposal (Looks scan) = 1 ∷ later ∷ proposal ∷ []
 names_numbers later proposal Named = 2 ∷ proposal ∷ []
 names_numbers later proposal Over = 3 ∷ []
 
--- what is pending after further replies, where it stands as these numbers tell: behind those of a stage in a round comes what the slots
--- held, told by a mask and what is not 0
+-- what is pending after further replies, where it stands as these numbers tell: behind those of a
+-- stage in a round comes what the slots held, told by a mask and what is not 0
 abbrev pub names_resumed : ℕ → ℕ → ℕ → ℕ → List ℕ → Replies → Pending
 names_resumed base slots own registers (zero ∷ later ∷ proposal ∷ seen) s =
     from_scan_round base slots own registers (suc later) proposal (cells_of (spread 8 seen)) s

@@ -1,4 +1,5 @@
-//! Native machines: the kinds of use lines as machines of their own, each with the program of its line.
+//! Native machines: the kinds of use lines as machines of their own, each with the
+//! program of its line.
 #![tactic(auto)]
 
 mod grid;
@@ -24,6 +25,7 @@ pub use uses::PAST_LIMIT;
 #[derive(Clone, Copy, PartialEq, Eq, Debug, Error)]
 #[error("no machine: code {code}")]
 pub struct MakeFault {
-    /// 1 where a limit of the use line is passed, as where it has no expansion. 2 is that of memory, which no machine here takes.
+    /// 1 where a limit of the use line is passed, as where it has no expansion. 2 is that of
+    /// memory, which no machine here takes.
     pub code: u8,
 }

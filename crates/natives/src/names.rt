@@ -18,8 +18,8 @@ use machine::{Machine, Told, value_of};
 use regmodel::{Access, Pending};
 use uses::Use;
 
-/// A renaming in progress: a register a slot, for the proposal of its process. It keeps what it last read in each
-/// slot, 0 for its own.
+/// A renaming in progress: a register a slot, for the proposal of its process. It keeps what it
+/// last read in each slot, 0 for its own.
 #[derive(Drop)]
 pub struct NameSlots {
     round: Round<Reading>,
@@ -29,8 +29,9 @@ pub struct NameSlots {
 }
 
 impl NameSlots {
-    /// The renaming of a use line, at its start: BASE, SLOTS, SLOT, and how many registers there are. Fault 1 where a limit of
-    /// the line is passed, which [`Use::fits`] tells; no other fault comes. It takes no memory.
+    /// The renaming of a use line, at its start: BASE, SLOTS, SLOT, and how many registers there
+    /// are. Fault 1 where a limit of the line is passed, which [`Use::fits`] tells; no other fault
+    /// comes. It takes no memory.
     pub fn make(base: u32, slots: u32, slot: u32, registers: u32) -> Result<NameSlots, MakeFault>
         ensures { IsMadeFor (kind.Name base slots slot) registers ⟦<NameSlots as Machine>⟧ result }
     {
@@ -74,7 +75,8 @@ impl NameSlots {
         self.go_on(reading.after_slot(held, self.round.proposal, self.round.slots.own));
     }
 
-    /// Puts the stage behind the numbers, with the numbers that it holds, but not what the slots held.
+    /// Puts the stage behind the numbers, with the numbers that it holds, but not
+    /// what the slots held.
     fn put_stage(&self, numbers: &mut Told) -> Option<()>
         ensures { ArePut
             (name_numbers self.now.round.later self.now.round.proposal self.now.round.stage)

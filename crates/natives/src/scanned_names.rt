@@ -1,4 +1,5 @@
-//! Renamings that scan: a process proposes a name in its slot until no other slot holds it, where it sees all slots at once.
+//! Renamings that scan: a process proposes a name in its slot until no other slot holds it, where
+//! it sees all slots at once.
 
 ghost use Rattle.std.specs.Prelude.{◌≡◌, ◌∷◌, length};
 ghost use Rattle.regmodel.specs.Reply.{Replies, one};
@@ -20,16 +21,17 @@ use uses::Use;
 #[derive(Clone, Copy)]
 struct Scan;
 
-/// A renaming in progress: a register a slot, for the proposal of its process. It keeps what it last saw in each slot, 0 for
-/// its own.
+/// A renaming in progress: a register a slot, for the proposal of its process. It keeps what it
+/// last saw in each slot, 0 for its own.
 #[derive(Drop)]
 pub struct Names {
     round: Round<Scan>,
 }
 
 impl Names {
-    /// The renaming of a use line, at its start: BASE, SLOTS, SLOT, and how many registers there are. Fault 1 where a limit of
-    /// the line is passed, which [`Use::fits`] tells; no other fault comes. It takes no memory.
+    /// The renaming of a use line, at its start: BASE, SLOTS, SLOT, and how many registers there
+    /// are. Fault 1 where a limit of the line is passed, which [`Use::fits`] tells; no other fault
+    /// comes. It takes no memory.
     pub fn make(base: u32, slots: u32, slot: u32, registers: u32) -> Result<Names, MakeFault>
         ensures { IsMadeFor (kind.Names base slots slot) registers ⟦<Names as Machine>⟧ result }
     {
@@ -59,7 +61,8 @@ impl Names {
         self.round.finish(reading);
     }
 
-    /// Puts the stage behind the numbers, with the numbers that it holds, but not what the slots held.
+    /// Puts the stage behind the numbers, with the numbers that it holds, but not
+    /// what the slots held.
     fn put_stage(&self, numbers: &mut Told) -> Option<()>
         ensures { ArePut
             (names_numbers self.now.round.later self.now.round.proposal self.now.round.stage)
