@@ -12,8 +12,8 @@ use Rattle.machine.specs.Bits.{packed, unpacked}
 use Rattle.natives.specs.Grids.{grid_from, grid_resumed}
 use Rattle.natives.specs.Resuming.{native_resumed}
 use Rattle.natives.specs.Rounds.{first_slot, after_slot, after_slots, number_from}
-use Rattle.natives.specs.Names.{from_reading, name_resumed}
-use Rattle.natives.specs.ScannedNames.{from_scan_round, names_resumed}
+use Rattle.natives.specs.NameSlots.{from_reading, name_resumed}
+use Rattle.natives.specs.Names.{from_scan_round, names_resumed}
 use Rattle.natives.specs.Trees.{from_stop, from_past, from_at, tree_resumed}
 
 -- ---- a splitter that is about to look who came last

@@ -4,18 +4,18 @@
 
 mod grid;
 mod limits;
+mod name;
 mod names;
 mod numbers;
 mod packing;
 mod rounds;
-mod scanned_names;
 mod split;
 mod splitters;
 mod trees;
 
 pub use grid::Grid;
-pub use names::NameSlots;
-pub use scanned_names::Names;
+pub use name::NameSlots;
+pub use names::Names;
 pub use split::Split;
 use thiserror::Error;
 pub use trees::Tree;
