@@ -7,7 +7,7 @@ use Rattle.reglang.specs.Drafts.{Reading, take_if_said, IsRefusalOf, IsWantOf}
 use Rattle.reglang.specs.Faults.{Context, WantsMemory, are_faultless, asks, fault_of_line}
 use Rattle.reglang.specs.Forms.{read_line}
 use Rattle.reglang.specs.LineFaults.{refusal_code}
-use Rattle.reglang.specs.declared.forms.Line.{Line}
+use Rattle.reglang.specs.declared.arguments.Line.{Line}
 use Rattle.reglang.specs.declared.refusals.LineFault.{LineFault}
 use Rattle.reglang.specs.declared.refusals.LineRefusal.{LineRefusal}
 use Rattle.reglang.specs.declared.refusals.LineRefusal.TheVariants as refusal

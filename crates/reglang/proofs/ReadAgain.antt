@@ -13,7 +13,7 @@ use Rattle.reglang.specs.Grammar.{lines_said, line_said}
 use Rattle.reglang.specs.Lines.{is_empty, is_printable, lines, without_empty_end, words}
 use Rattle.reglang.specs.Words.{word_of}
 use Rattle.reglang.specs.Writing.{line_text, line_words, lines_text, word_text, words_text}
-use Rattle.reglang.specs.declared.forms.Line.{Line}
+use Rattle.reglang.specs.declared.arguments.Line.{Line}
 use Rattle.reglang.specs.declared.words.Word.{Word}
 use Rattle.reglang.specs.declared.refusals.LineFault.TheVariants.{NotPrintable}
 use Rattle.reglang.proofs.LineWords.{line_again, line_fits, words_fit}

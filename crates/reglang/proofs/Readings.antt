@@ -10,7 +10,7 @@ use Rattle.reglang.specs.Faults.{are_faultless, at_start, context_after_lines, f
 use Rattle.reglang.specs.Forms.{read_line}
 use Rattle.reglang.specs.Grammar.{Spells, lines_said, line_said}
 use Rattle.reglang.specs.Lines.{lines}
-use Rattle.reglang.specs.declared.forms.Line.{Line}
+use Rattle.reglang.specs.declared.arguments.Line.{Line}
 use Rattle.reglang.specs.declared.reader.ReadFault.{ReadFault}
 use Rattle.reglang.specs.declared.refusals.LineRefusal.{LineRefusal}
 use Rattle.reglang.specs.declared.refusals.LineRefusal.TheVariants as refusal

@@ -26,8 +26,8 @@ use Rattle.reglang.specs.declared.draft.Draft.{Draft}
 use Rattle.reglang.specs.declared.draft.Draft.TheVariants as draft
 use Rattle.reglang.specs.declared.refusals.LineRefusal.{LineRefusal}
 use Rattle.reglang.specs.declared.refusals.LineRefusal.TheVariants as refusal
-use Rattle.reglang.specs.declared.forms.Line.{Line}
-use Rattle.reglang.specs.declared.forms.Line.TheVariants as line
+use Rattle.reglang.specs.declared.arguments.Line.{Line}
+use Rattle.reglang.specs.declared.arguments.Line.TheVariants as line
 use Rattle.reglang.specs.declared.reader.ReadFault.{ReadFault}
 use Rattle.uses.specs.declared.kinds.Use.{Use}
 

@@ -26,10 +26,10 @@ use Rattle.reglang.specs.declared.vocabulary.Kind.{Kind}
 use Rattle.reglang.specs.declared.vocabulary.Property.{Property}
 use Rattle.reglang.specs.declared.words.Word.{Word}
 use Rattle.reglang.specs.declared.words.Word.TheVariants as word
-use Rattle.reglang.specs.declared.forms.Line.{Line}
+use Rattle.reglang.specs.declared.arguments.Line.{Line}
 use Rattle.reglang.specs.declared.forms.TheConstants.{MOST_WORDS}
-use Rattle.reglang.specs.declared.forms.Line.TheVariants.{Check}
-use Rattle.reglang.specs.declared.forms.Line.TheVariants as line
+use Rattle.reglang.specs.declared.arguments.Line.TheVariants.{Check}
+use Rattle.reglang.specs.declared.arguments.Line.TheVariants as line
 
 -- the number that a word is
 abbrev pub number_in : Word → Option ℕ

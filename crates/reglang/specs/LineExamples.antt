@@ -9,7 +9,7 @@ use Rattle.reglang.specs.declared.refusals.LineFault.TheVariants.{NotPrintable, 
 use Rattle.reglang.specs.Forms.{arguments, read_line}
 use Rattle.uses.specs.declared.kinds.Use.TheVariants as use_line
 use Rattle.reglang.specs.declared.arguments.Argument.TheVariants as argument
-use Rattle.reglang.specs.declared.forms.Line.TheVariants as line
+use Rattle.reglang.specs.declared.arguments.Line.TheVariants as line
 use Rattle.reglang.specs.declared.sorts.Sort.TheVariants as sort
 use Rattle.reglang.specs.declared.words.Word.TheVariants as word
 

@@ -10,7 +10,7 @@ use Rattle.regmodel.specs.Program as program
 use Rattle.reglang.specs.Contents.{Text, Kind}
 use Rattle.reglang.specs.Writing.{line_text, source_text}
 use Rattle.uses.specs.declared.kinds.Use.TheVariants as use_line
-use Rattle.reglang.specs.declared.forms.Line.TheVariants as line
+use Rattle.reglang.specs.declared.arguments.Line.TheVariants as line
 
 pub write_line : line_text (line.Write (operand.Number 0) (expr.Two (operand.CellOf 15) op.Add (operand.Number 1000000000)))
     ≡ codes "write 0 [v15] + 1000000000"

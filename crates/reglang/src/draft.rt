@@ -5,7 +5,7 @@ ghost use Rattle.reglang.specs.Drafts as spec;
 ghost use Rattle.reglang.specs.Drafts.{AnswersAtEnd, AnswersLine, ReadingFits, reading_of, take_line};
 ghost use Rattle.reglang.specs.Faults.{may_ask};
 
-use crate::forms::Line;
+use crate::arguments::Line;
 use crate::open_process::OpenProcess;
 use crate::parts::Parts;
 use crate::refusals::{LineFault, LineRefusal};

@@ -9,8 +9,9 @@ ghost use Rattle.reglang.specs.Grammar.{Spells};
 ghost use Rattle.reglang.specs.LineFaults.{fault_of};
 ghost use Rattle.reglang.specs.Sources.{check_lines_of, contents_of};
 
+use crate::arguments::Line;
 use crate::draft::Draft;
-use crate::forms::{Line, read_line};
+use crate::forms::read_line;
 use crate::lines::split_line;
 use crate::refusals::LineRefusal;
 use crate::source::Source;

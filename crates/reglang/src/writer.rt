@@ -9,7 +9,7 @@ ghost use Rattle.reglang.specs.Writing.{process_text, processes_text, stmts_text
 mod lines;
 mod words;
 
-use crate::forms::Line;
+use crate::arguments::Line;
 use crate::source::{Process, Source};
 use lines::push_line;
 use regmodel::{Clause, OutOfMemory, Stmt};
