@@ -67,8 +67,8 @@ fn number_past(line: &[u8], number: u64) -> u64
     }
 }
 
-/// Where the line of a text with this number comes from, where the text is that of this file: behind a line `#line N "FILE"` stands line N of
-/// FILE.
+/// Where the line of a text with this number comes from, where the text is that of this file:
+/// behind a line `#line N "FILE"` stands line N of FILE.
 pub fn origin_of<'a>(path: &'a [u8], text: &'a [u8], number: u64) -> Origin<'a>
     ensures path { result.path.now ≡ spec.path_told path.now text.now number }
     ensures line { result.line ≡ spec.line_told text.now number }
