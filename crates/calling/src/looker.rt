@@ -48,7 +48,8 @@ pub struct Looker {
 impl Looker {
     ghost use Rattle.calling.specs.Lookers.{IsNoLooker};
 
-    /// The looker of a program, at its start; None where the program is another one, or reads a register that is not there.
+    /// The looker of a program, at its start; None where the program is another one, or reads a
+    /// register that is not there.
     pub fn of(prog: &Prog) -> Option<Looker>
         ensures some { IfSome result (λ m. ⟦<Looker as Machine>⟧.program m ≡ program_of prog.now) }
         ensures none { IfNone result (IsNoLooker (program_of prog.now)) }

@@ -1,4 +1,5 @@
-//! Explores a source by a machine and with a judge of one's own, and prints the report: a page to copy from (docs/CALLING.md).
+//! Explores a source by a machine and with a judge of one's own, and prints the report: a page to
+//! copy from (docs/CALLING.md).
 #![tactic(auto)]
 
 ghost use Rattle.std.specs.Prelude.{◌≡◌, IfOk, map};

@@ -1,4 +1,5 @@
-//! What runs one process: the machine made by hand where there is one for its program, else an interpreter.
+//! What runs one process: the machine made by hand where there is one for its program,
+//! else an interpreter.
 
 ghost use Rattle.std.specs.Prelude.{◌≡◌, ◌<◌, IfOk, Some, length, slice_get};
 ghost use Rattle.reglang.specs.Sources.{source_programs};

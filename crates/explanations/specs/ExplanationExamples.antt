@@ -17,16 +17,24 @@ use Rattle.reglang.specs.declared.vocabulary.Property.TheVariants as property
 -- a fault, a line, and the word of it that is at fault
 abbrev faulty : List (LineFault × List ℕ × Option (List ℕ))
 faulty =
-    -- a word that no line begins with, one that is unknown, and a first and a later word in the other's place
-    (fault.UnknownWord, codes "reads v0 v16", Some (codes "reads")) ∷ (fault.UnknownWord, codes "set v0 v16 + x", Some (codes "v16")) ∷ (fault.UnknownWord, codes "read v0 scan", Some (codes "scan")) ∷ (fault.UnknownWord, codes "names 0 2 0", Some (codes "names"))
-    -- a number where a target stands, and one too many; an operand, and how many registers, that are missing
-    ∷ (fault.NoForm, codes "read 0 v0", Some (codes "0")) ∷ (fault.NoForm, codes "use split 0 1 2", Some (codes "2")) ∷ (fault.NoForm, codes "emit v0 +", None) ∷ (fault.NoForm, codes "scan 0 0", None)
+    -- a word that no line begins with, one that is unknown, and a first and a later word
+    -- in the other's place
+    (fault.UnknownWord, codes "reads v0 v16", Some (codes "reads"))
+    ∷ (fault.UnknownWord, codes "set v0 v16 + x", Some (codes "v16"))
+    ∷ (fault.UnknownWord, codes "read v0 scan", Some (codes "scan"))
+    ∷ (fault.UnknownWord, codes "names 0 2 0", Some (codes "names"))
+    -- a number where a target stands, and one too many; an operand, and how many
+    -- registers, that are missing
+    ∷ (fault.NoForm, codes "read 0 v0", Some (codes "0")) ∷ (fault.NoForm, codes "use split 0 1 2", Some (codes "2"))
+    ∷ (fault.NoForm, codes "emit v0 +", None) ∷ (fault.NoForm, codes "scan 0 0", None)
     -- the numbers of a scan and of a use are words of the text, no variables
-    ∷ (fault.NoForm, codes "scan v0 0 1", Some (codes "v0")) ∷ (fault.NoForm, codes "scan 0 0 [1]", Some (codes "[1]")) ∷ (fault.NoForm, codes "use names 0 2 v1", Some (codes "v1"))
+    ∷ (fault.NoForm, codes "scan v0 0 1", Some (codes "v0")) ∷ (fault.NoForm, codes "scan 0 0 [1]", Some (codes "[1]"))
+    ∷ (fault.NoForm, codes "use names 0 2 v1", Some (codes "v1"))
     -- the first number past the greatest one, and more names than there can be
     ∷ (fault.PastLimit, codes "set v0 1000000001", Some (codes "1000000001")) ∷ (fault.NoClause, codes "check atmost 9 9", Some (codes "9")) ∷ []
 
-pub words_at_fault : map (λ (it : LineFault × List ℕ × Option (List ℕ)). word_at_fault (Fault it.0) it.1) faulty ≡ map (λ (it : LineFault × List ℕ × Option (List ℕ)). it.2) faulty
+pub words_at_fault : map (λ (it : LineFault × List ℕ × Option (List ℕ)). word_at_fault (Fault it.0) it.1) faulty
+    ≡ map (λ (it : LineFault × List ℕ × Option (List ℕ)). it.2) faulty
 words_at_fault = refl
 
 -- what to write for a word of another language, for the name of a register, and for an unknown kind

@@ -16,7 +16,8 @@ use Rattle.reglang.specs.declared.refusals.LineRefusal.TheVariants.{Fault}
 use Rattle.reglang.specs.declared.reader.Rejection.{Rejection}
 use Rattle.explanations.specs.Shown.{is_shown, printable_text, shown}
 
--- what is at fault: the end of the text where it is told to be, else a word of the line where there is one, else the line
+-- what is at fault: the end of the text where it is told to be, else a word of the line where there
+-- is one, else the line
 abbrev pub culprit_of : Rejection → List ℕ → Culprit
 culprit_of rejection line = if rejection.is_of_end then End else (if is_some (word_at_fault rejection.refusal line) then Word else Line)
 
@@ -52,11 +53,12 @@ fault_text rejection line = wrong_text rejection.refusal (culprit_of rejection l
 abbrev pub heading : List ℕ → ℕ → Rejection → List ℕ → List ℕ
 heading path number rejection line = path ++ codes ":" ++ decimal number ++ codes ": " ++ fault_text rejection line ++ codes "\n"
 
--- what is wrong with the text at this line, which is the one with this number in this file, the line, and what to change where this block
--- is open
+-- what is wrong with the text at this line, which is the one with this number in this file, the
+-- line, and what to change where this block is open
 abbrev pub line_explained : List ℕ → ℕ → Rejection → List ℕ → Option Opened → List ℕ
 line_explained path number rejection line opened =
-    heading path number rejection line ++ printable_text line ++ codes "\n" ++ advice_text rejection.refusal (culprit_of rejection line) line opened ++ codes "\n"
+    heading path number rejection line ++ printable_text line ++ codes "\n"
+    ++ advice_text rejection.refusal (culprit_of rejection line) line opened ++ codes "\n"
 
 -- how many lines stand before the fault: all where the end of the text is at fault
 abbrev pub lines_before : Rejection → ℕ
@@ -71,4 +73,5 @@ block_told text None = None
 -- what is wrong with a text that is refused, in the file of this path
 abbrev pub explained : List ℕ → List ℕ → Rejection → List ℕ
 explained path text rejection =
-    line_explained (path_told path text rejection.line) (line_told text rejection.line) rejection (shown (line_at rejection.line text)) (block_told text (innermost (open_after (lines_before rejection) text)))
+    line_explained (path_told path text rejection.line) (line_told text rejection.line) rejection
+    (shown (line_at rejection.line text)) (block_told text (innermost (open_after (lines_before rejection) text)))

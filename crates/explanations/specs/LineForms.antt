@@ -31,8 +31,10 @@ form_text (form.Check property) = check_form property
 abbrev pub keyword_form : Keyword → List ℕ
 keyword_form keyword.Registers = codes "registers NUMBER"
 keyword_form keyword.Set = codes "set TARGET EXPR; TARGET is a variable or a cell, " ++ sorts_words
-keyword_form keyword.Read = codes "read TARGET OPERAND; TARGET is the variable or cell that takes the value, and OPERAND the register, as a number, a variable or a cell"
-keyword_form keyword.Write = codes "write OPERAND EXPR; OPERAND is the register, as a number, a variable or a cell, and EXPR is such an operand, or two with + - * = or < between them"
+keyword_form keyword.Read =
+    codes "read TARGET OPERAND; TARGET is the variable or cell that takes the value, and OPERAND the register, as a number, a variable or a cell"
+keyword_form keyword.Write =
+    codes "write OPERAND EXPR; OPERAND is the register, as a number, a variable or a cell, and EXPR is such an operand, or two with + - * = or < between them"
 keyword_form keyword.Scan = codes "scan CELL REG COUNT with three numbers: the first cell, the first register, and how many"
 keyword_form keyword.If = codes "if EXPR; " ++ sorts_words
 keyword_form keyword.Repeat = codes "repeat EXPR; " ++ sorts_words

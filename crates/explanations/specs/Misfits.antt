@@ -39,7 +39,8 @@ abbrev pub is_past : Word → Bool
 is_past (word.Operand (operand.Number n)) = nat_lt GREATEST_VALUE n
 is_past _ = false
 
--- what the words of these sorts must be, place by place; an expression in its longest form is an operand, an operator and an operand
+-- what the words of these sorts must be, place by place; an expression in its longest form is an
+-- operand, an operator and an operand
 abbrev pub places : List Sort → List (Word → Bool)
 places [] = []
 places (sort.Expression ∷ sorts) = is_of sort.Operand ∷ is_operator ∷ is_of sort.Operand ∷ []
@@ -50,7 +51,8 @@ abbrev pub first_that : (Word → Bool) → List (List ℕ) → Option (List ℕ
 first_that test [] = None
 first_that test (word ∷ more) = if test (word_of word) then Some word else first_that test more
 
--- the first word that is not what its place wants, or has no place; none where words are missing at the end
+-- the first word that is not what its place wants, or has no place; none where words
+-- are missing at the end
 abbrev pub first_misfit : List (Word → Bool) → List (List ℕ) → Option (List ℕ)
 first_misfit places [] = None
 first_misfit [] (word ∷ more) = Some word
@@ -82,8 +84,9 @@ misfit_after (word.Keyword keyword.Check) more = named_misfit keyword.Check more
 misfit_after (word.Keyword key) more = misfit_of (sorts_after key) more
 misfit_after _ more = None
 
--- the word at fault of a line with this fault, by its first word and those behind: the first unknown one, the first that is no number
--- although it begins with a digit, the first that has no place in its line, or the first number that is past the greatest one
+-- the word at fault of a line with this fault, by its first word and those behind: the first
+-- unknown one, the first that is no number although it begins with a digit, the first that has no
+-- place in its line, or the first number that is past the greatest one
 abbrev pub at_fault : LineFault → List ℕ → List (List ℕ) → Option (List ℕ)
 at_fault fault.UnknownWord first more = if is_keyword (word_of first) then first_that is_unknown more else Some first
 at_fault fault.NoNumber first more = first_that is_no_number more

@@ -5,8 +5,8 @@ use Rattle.explanations.specs.declared.open_blocks.Opened.{Opened}
 use Rattle.explanations.specs.declared.open_blocks.TheConstants.{MOST_OPEN}
 use Rattle.reglang.specs.Lines.{lines}
 use Rattle.reglang.specs.Forms.{read_line}
-use Rattle.reglang.specs.declared.forms.Line.{Line}
-use Rattle.reglang.specs.declared.forms.Line.TheVariants as line
+use Rattle.reglang.specs.declared.arguments.Line.{Line}
+use Rattle.reglang.specs.declared.arguments.Line.TheVariants as line
 use Rattle.reglang.specs.declared.refusals.LineFault.{LineFault}
 
 -- one more block inside those that are open; a text that is read has no more than so many

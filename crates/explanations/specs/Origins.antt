@@ -1,4 +1,5 @@
--- Where the lines of a text come from, as a tool tells that made it: behind a line `#line N "FILE"` stands line N of that file.
+-- Where the lines of a text come from, as a tool tells that made it: behind a line `#line N "FILE"`
+-- stands line N of that file.
 use Rattle.std.specs.Prelude.{ℕ, ◌+◌, ◌-◌, if◌then◌else◌, List, [], ◌∷◌, Option, Some, None, codes, is_some, take}
 use Rattle.std.specs.Str.{byte, bytes_eq}
 use Rattle.reglang.specs.Forms.{number_in}

@@ -33,7 +33,8 @@ abbrev pub limit_after : Word → List (List ℕ) → List ℕ
 limit_after (word.Keyword keyword.Registers) more = codes "there are 1 to 64 registers"
 limit_after (word.Keyword keyword.Process) more = codes "there are at most 8 processes"
 limit_after (word.Keyword keyword.Check) more = codes "there are at most 16 checks"
-limit_after (word.Keyword keyword.Scan) more = codes "COUNT is 1 to 32, CELL + COUNT at most 32, REG + COUNT at most the number of registers, and " ++ statement_limit
+limit_after (word.Keyword keyword.Scan) more =
+    codes "COUNT is 1 to 32, CELL + COUNT at most 32, REG + COUNT at most the number of registers, and " ++ statement_limit
 limit_after (word.Keyword keyword.If) more = block_limit
 limit_after (word.Keyword keyword.Repeat) more = block_limit ++ codes ", 3 of them repeats"
 limit_after (word.Keyword keyword.Use) more = use_limit (kind_of (first_of more))

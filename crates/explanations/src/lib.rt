@@ -1,4 +1,5 @@
-//! What is wrong with a source that is refused, in words for a person; and its lines, by their numbers.
+//! What is wrong with a source that is refused, in words for a person; and its
+//! lines, by their numbers.
 #![tactic(auto)]
 
 mod advice;

@@ -109,7 +109,8 @@ fn form_after(first: Word, rest: &[u8]) -> Form
     }
 }
 
-/// The form that a line is to have, by its first word, and by the second one behind `use` and `check`.
+/// The form that a line is to have, by its first word, and by the second one
+/// behind `use` and `check`.
 pub(crate) fn form_of(line: &[u8]) -> Form
     ensures { spec.form_text result ≡ spec.form_of (words line.now) }
 {

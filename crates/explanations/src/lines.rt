@@ -6,7 +6,8 @@ ghost use Rattle.explanations.specs.Shown.{shown};
 
 use reglang::split_line;
 
-/// The line of a text with this number, counted from 1, without its byte 10. None where there is none.
+/// The line of a text with this number, counted from 1, without its byte 10. None
+/// where there is none.
 pub(crate) fn line_at(text: &[u8], number: u64) -> Option<&[u8]>
     ensures { option_copied result ≡ spec.line_at number text.now }
 {

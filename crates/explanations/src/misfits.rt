@@ -13,9 +13,10 @@ use reglang::{
 use regmodel::Operand;
 use regmodel::limits::GREATEST_VALUE;
 
-/// The word of a line that is at fault, where it is refused so: the first unknown one, the first that begins with a digit and is no number
-/// word, the first that has no place in a line with its first word, or the first number that is past the greatest one. None for another
-/// fault, where the line wants another word at its end, and where another limit is passed.
+/// The word of a line that is at fault, where it is refused so: the first unknown one, the first
+/// that begins with a digit and is no number word, the first that has no place in a line with its
+/// first word, or the first number that is past the greatest one. None for another fault, where the
+/// line wants another word at its end, and where another limit is passed.
 pub(crate) fn word_at_fault(line: &[u8], refusal: LineRefusal) -> Option<&[u8]>
     ensures { option_copied result ≡ spec.word_at_fault refusal line.now }
 {
@@ -141,7 +142,8 @@ fn first_misfit<'a>(sorts: &[Sort], line: &'a [u8]) -> Option<&'a [u8]>
     None
 }
 
-/// The first word that has no place in an expression: in its longest form an operand, an operator and an operand.
+/// The first word that has no place in an expression: in its longest form an operand, an
+/// operator and an operand.
 fn expression_misfit(line: &[u8]) -> Option<&[u8]>
     ensures { option_copied result ≡ spec.misfit_of (sort.Expression ∷ []) (words line.now) }
 {

@@ -1,6 +1,6 @@
 //! Where the lines of a text come from, as a tool tells that made it.
 
-ghost use Rattle.std.specs.Prelude.{◌≡◌, ℕ, ◌+◌, ◌<◌, ◌≤◌, option_copied};
+ghost use Rattle.std.specs.Prelude.{◌≡◌, ℕ, ◌+◌, ◌-◌, ◌^◌, ◌<◌, ◌≤◌, option_copied};
 ghost use Rattle.explanations.specs.Origins as spec;
 ghost use Rattle.reglang.specs.Lines.{words};
 
@@ -57,7 +57,7 @@ fn path_past<'a>(line: &'a [u8], path: &'a [u8]) -> &'a [u8]
 
 /// The number of the line behind this one, which has this number.
 fn number_past(line: &[u8], number: u64) -> u64
-    requires { number < 18446744073709551615 }
+    requires { number < 2 ^ 64 - 1 }
     ensures told { result ≡ spec.number_or_next (spec.told_number (words line.now)) number }
     ensures grown { (most : ℕ) → number ≤ most → 4294967295 ≤ most → result ≤ most + 1 }
 {
@@ -67,8 +67,8 @@ fn number_past(line: &[u8], number: u64) -> u64
     }
 }
 
-/// Where the line of a text with this number comes from, where the text is that of this file: behind a line `#line N "FILE"` stands line N of
-/// FILE.
+/// Where the line of a text with this number comes from, where the text is that of this file:
+/// behind a line `#line N "FILE"` stands line N of FILE.
 pub fn origin_of<'a>(path: &'a [u8], text: &'a [u8], number: u64) -> Origin<'a>
     ensures path { result.path.now ≡ spec.path_told path.now text.now number }
     ensures line { result.line ≡ spec.line_told text.now number }

@@ -18,10 +18,11 @@ use reglang::{LineFault, LineRefusal, Rejection};
 use std::io::Write;
 use texts::{Block, Text, WriteFault, write};
 
-/// Writes what is wrong with the text in the file of this path, which was refused so: the number of the line and what is wrong, with the word
-/// or byte at fault where there is one, the line itself, a question mark for each byte that is not printable ASCII, and what to change. Where
-/// a line `#line N "FILE"` tells where the next ones come from, those numbers are told, and that file. After a fault of the writer it has
-/// taken a beginning of that.
+/// Writes what is wrong with the text in the file of this path, which was refused so: the number of
+/// the line and what is wrong, with the word or byte at fault where there is one, the line itself,
+/// a question mark for each byte that is not printable ASCII, and what to change. Where a line
+/// `#line N "FILE"` tells where the next ones come from, those numbers are told, and that file.
+/// After a fault of the writer it has taken a beginning of that.
 pub fn write_explanation<W: Write>(
     path: &[u8],
     text: &[u8],
@@ -76,8 +77,8 @@ fn block_told(text: &[u8], opened: Option<Opened>) -> Option<Opened>
     }
 }
 
-/// What is wrong with a text, the file and the number of the line that are told, the line, the block that is open there, and what to
-/// change.
+/// What is wrong with a text, the file and the number of the line that are told, the line, the
+/// block that is open there, and what to change.
 #[derive(Clone, Copy)]
 struct Explanation<'a> {
     path: &'a [u8],
@@ -110,7 +111,8 @@ impl Text for Explanation<'_> {
     }
 }
 
-/// The word or byte of a line that is at fault, where there is one and the end of the text is not at fault.
+/// The word or byte of a line that is at fault, where there is one and the end of the
+/// text is not at fault.
 #[derive(Clone, Copy)]
 struct WordAtFault<'a> {
     rejection: &'a Rejection,
@@ -158,7 +160,8 @@ fn first_unshown(line: &[u8]) -> Option<usize>
     line.iter().position(|b| !is_shown(*b))
 }
 
-/// What is at fault: the end of the text where it is told to be, else a word of the line where there is one, else the line.
+/// What is at fault: the end of the text where it is told to be, else a word of the line where
+/// there is one, else the line.
 fn culprit_of(rejection: &Rejection, line: &[u8]) -> Culprit
     ensures { result ≡ spec.culprit_of rejection.now line.now }
 {

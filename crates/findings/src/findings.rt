@@ -17,9 +17,11 @@ use verdict::{
 /// What was found of a source.
 #[derive(Drop)]
 pub enum Finding {
-    /// Whether a source holds, and what its least failing schedule breaks; and whether that is the least of the shortest.
+    /// Whether a source holds, and what its least failing schedule breaks; and whether that is the
+    /// least of the shortest.
     Verdict(Box<Verdict>, bool),
-    /// The same with the list of all outcomes, which are those of the exploration where a schedule fails.
+    /// The same with the list of all outcomes, which are those of the exploration
+    /// where a schedule fails.
     Listing(Box<Verdict>, bool, Option<Exploration>),
     /// The report of an exploration.
     Report(Exploration),
@@ -38,7 +40,8 @@ pub enum Finding {
 }
 
 impl Finding {
-    /// Whether a schedule was found to fail, or to lead to what was looked for. A part of an exploration does not tell.
+    /// Whether a schedule was found to fail, or to lead to what was looked for. A part of an
+    /// exploration does not tell.
     pub fn fails(&self) -> bool
         ensures { result ≡ has_failing self.now }
     {

@@ -7,6 +7,7 @@ use Rattle.merging.specs.Merged.{AreJoined, IsToldBy}
 use Rattle.merging.specs.Mergers.{numbers_marked}
 use Rattle.merging.specs.declared.faults.Misfit.TheVariants.{Count}
 use Rattle.merging.specs.declared.merged.Merged.TheVariants.{Least}
+use Rattle.part_texts.specs.PlainHead.{PlainHead}
 use Rattle.merging.specs.Unjoined.{DifferIn}
 
 -- of four parts the first and the third are there
@@ -14,13 +15,20 @@ pub parts_there : numbers_marked 1 (true ∷ false ∷ true ∷ false ∷ []) �
 parts_there = refl
 
 -- the second part failed by R1, the third by R0, and the third was read before the second
-pub lowest_of_three : AreJoined (found.Least None) (found.Least (Some (Run 1 ∷ [], started [] ∷ [])) ∷ found.Least (Some (Run 0 ∷ [], started [] ∷ [])) ∷ []) (found.Least (Some (Run 0 ∷ [], started [] ∷ [])))
+pub lowest_of_three : AreJoined (found.Least None)
+    (found.Least (Some (Run 1 ∷ [], started [] ∷ [])) ∷ found.Least (Some (Run 0 ∷ [], started [] ∷ [])) ∷ [])
+    (found.Least (Some (Run 0 ∷ [], started [] ∷ [])))
 lowest_of_three = (found.Least (Some (Run 0 ∷ [], started [] ∷ [])), (found.Least None, refl, refl), refl)
 
+-- the head of this part, of so many, of an exploration of two processes
+abbrev head : (number count cut : ℕ) → PlainHead
+head number count cut = record { number = number; count = count; processes = 2; length = 20; crashes = 1; cut = cut; source = [] }
+
 -- the numbers of the exploration stand in what is told, and not those of the part
-pub told_of_head : (number count cut : ℕ) → IsToldBy (record { number = number; count = count; processes = 2; length = 20; crashes = 1; cut = cut; source = [] }) (found.Least None) (Least (record { processes = 2; length = 20; crashes = 1; least = None }))
+pub told_of_head : (number count cut : ℕ) → IsToldBy (head number count cut) (found.Least None)
+    (Least (record { processes = 2; length = 20; crashes = 1; least = None }))
 told_of_head number count cut = refl
 
 -- a first part of four and one of five differ in how many parts there are
-pub count_differs : DifferIn Count (record { number = 1; count = 4; processes = 2; length = 20; crashes = 1; cut = 3; source = [] }) (record { number = 2; count = 5; processes = 2; length = 20; crashes = 1; cut = 3; source = [] })
+pub count_differs : DifferIn Count (head 1 4 3) (head 2 5 3)
 count_differs e = absurd (omega (arith, e))

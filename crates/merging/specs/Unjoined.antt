@@ -23,20 +23,23 @@ DifferIn misfit.Bounds head other = head.length ≡ other.length → head.crashe
 DifferIn misfit.Count head other = head.count ≢ other.count
 DifferIn misfit.Cut head other = head.cut ≢ other.cut
 
--- why what was found in two parts is not joined: the same was not sought; or it was, and there are more schedules than can be counted, or memory was
--- refused where there are not
+-- why what was found in two parts is not joined: the same was not sought; or it was, and there are
+-- more schedules than can be counted, or memory was refused where there are not
 abbrev pub AreUnjoined : Found → Found → MergeFault → Type 0
 AreUnjoined first second fault.Sought = AreSoughtAlike first second → ⊥
 AreUnjoined first second fault.TooMany = 2 ^ 64 ≤ tried_of first + tried_of second
 AreUnjoined first second fault.NoMemory = AreSoughtAlike first second × (tried_of first + tried_of second < 2 ^ 64)
 AreUnjoined first second _ = ⊥
 
--- why one part more is not joined to a first part and others: it differs from the first one, the same was not sought of it, its number is
--- there, there are more schedules than can be counted, or memory was refused where there are not
+-- why one part more is not joined to a first part and others: it differs from the first one, the
+-- same was not sought of it, its number is there, there are more schedules than can be counted, or
+-- memory was refused where there are not
 abbrev pub IsUnjoined : PartReport → List PartReport → PartReport → MergeFault → Type 0
-IsUnjoined first others part (fault.Misfit number other misfit) = (number ≡ first.head.number) × (other ≡ part.head.number) × DifferIn misfit first.head part.head
+IsUnjoined first others part (fault.Misfit number other misfit) =
+    (number ≡ first.head.number) × (other ≡ part.head.number) × DifferIn misfit first.head part.head
 IsUnjoined first others part fault.Sought = AreSoughtAlike first.found part.found → ⊥
-IsUnjoined first others part (fault.Twice number) = (number ≡ part.head.number) × Contains (map (λ part. part.head.number) (first ∷ others)) number
+IsUnjoined first others part (fault.Twice number) =
+    (number ≡ part.head.number) × Contains (map (λ part. part.head.number) (first ∷ others)) number
 IsUnjoined first others part fault.TooMany = 2 ^ 64 ≤ all_tried (part ∷ first ∷ others)
 IsUnjoined first others part fault.NoMemory = all_tried (part ∷ first ∷ others) < 2 ^ 64
 IsUnjoined first others part _ = ⊥
@@ -51,8 +54,8 @@ pub record AreUnjoinedIn (remaining : Option (List ℕ)) (fault : MergeFault) : 
   pub fit : All FitsPart (first ∷ reverse (part ∷ others))
   pub why : IsUnjoined first others part fault
 
--- the texts of parts of one exploration, each of which can be read, are all that a reader has left; of all its numbers just theirs are marked, and there
--- are others
+-- the texts of parts of one exploration, each of which can be read, are all that a reader has left;
+-- of all its numbers just theirs are marked, and there are others
 pub record AreIncompleteIn (remaining : Option (List ℕ)) (missing : Missing) : Type 0 where
   pub first : PartReport
   pub others : List PartReport
@@ -62,7 +65,8 @@ pub record AreIncompleteIn (remaining : Option (List ℕ)) (missing : Missing) :
   pub numbers : AreInBalance (map (λ part. part.head.number) (first ∷ others)) (numbers_marked 1 missing.there.items)
   pub incomplete : AreAllParts first.head (first ∷ others) → ⊥
 
--- why the parts that a reader has left are not merged; of a line that is no part's, and of memory, which may be refused at any time, nothing is said
+-- why the parts that a reader has left are not merged; of a line that is no part's, and of memory,
+-- which may be refused at any time, nothing is said
 abbrev pub AreUnmergedBy : Option (List ℕ) → MergeFault → Type 0
 AreUnmergedBy remaining (fault.Text bad) = ⊤
 AreUnmergedBy remaining fault.NoMemory = ⊤

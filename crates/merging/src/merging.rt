@@ -14,10 +14,12 @@ use part_texts::PartStream;
 use std::alloc::Global;
 use std::io::BufRead;
 
-/// What all parts of an exploration tell together whose texts a reader gives, one after another, in whatever order. It holds one of them at a
-/// time. An error where a text is no part, where parts do not fit together, where one is there twice or missing, where more schedules were
-/// tried than the greatest u64, and where a request for memory was refused or the reader answered an error; only one of the last three where
-/// the reader has just the texts of all parts of one exploration, of all of which the same was sought.
+/// What all parts of an exploration tell together whose texts a reader gives, one after another, in
+/// whatever order. It holds one of them at a time. An error where a text is no part, where parts do
+/// not fit together, where one is there twice or missing, where more schedules were tried than the
+/// greatest u64, and where a request for memory was refused or the reader answered an error; only
+/// one of the last three where the reader has just the texts of all parts of one exploration, of
+/// all of which the same was sought.
 pub fn merge_parts<R: BufRead + Drop>(alloc: Global, reader: R) -> Result<Merged, MergeFault>
     ensures merged { IfOk result (IsMergedOf (R.remaining reader)) }
     ensures unmerged { IfErr result (AreUnmergedBy (R.remaining reader)) }

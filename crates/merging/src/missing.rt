@@ -4,14 +4,16 @@ ghost use Rattle.std.specs.Prelude.{◌≡◌, ◌<◌, ◌≤◌, IfSome, lengt
 
 use std::fmt;
 
-/// Which parts are missing of all that there have to be. It is printed as their numbers, from 1 on, as in `3 7-9`.
+/// Which parts are missing of all that there have to be. It is printed as their numbers, from
+/// 1 on, as in `3 7-9`.
 #[derive(Debug, Drop)]
 pub struct Missing {
     there: Vec<bool>,
 }
 
 impl Missing {
-    /// Those that are missing, where it is told for each number from 1 on whether its part is there.
+    /// Those that are missing, where it is told for each number from 1 on
+    /// whether its part is there.
     pub(crate) fn new(there: Vec<bool>) -> Missing
         ensures { result.there ≡ there }
     {
@@ -38,7 +40,8 @@ impl fmt::Display for Missing {
     }
 }
 
-/// Prints the numbers of parts that are missing one behind another, from the place of the first to that past the last.
+/// Prints the numbers of parts that are missing one behind another, from the place of the first to
+/// that past the last.
 fn write_numbers<W: fmt::Write>(
     first: usize,
     past: usize,
@@ -52,7 +55,8 @@ fn write_numbers<W: fmt::Write>(
     }
 }
 
-/// The next parts that are missing one behind another, from a place on: the place of the first, and that past the last.
+/// The next parts that are missing one behind another, from a place on: the place of the first, and
+/// that past the last.
 fn next_missing(there: &[bool], from: usize) -> Option<(usize, usize)>
     requires { from ≤ length there.now }
     ensures on { IfSome result (λ (first, past). from < past) }

@@ -8,8 +8,8 @@ use report::{write_least, write_report};
 use std::io::Write;
 use texts::WriteFault;
 
-/// Writes the report of an exploration whose parts were merged, or its least failing schedule alone. After a fault the writer has taken a
-/// beginning of it.
+/// Writes the report of an exploration whose parts were merged, or its least failing schedule
+/// alone. After a fault the writer has taken a beginning of it.
 pub fn write_merged<W: Write>(merged: &Merged, out: &mut W) -> Result<(), WriteFault>
     ensures { Wrote W.contents out.old out.new (merged_text merged.now) result }
 {

@@ -4,14 +4,14 @@ use Rattle.std.specs.Prelude.{nat_lt, ◌==◌, slice_set}
 use Rattle.regmodel.specs.declared.accesses.Pending.{Pending}
 use Rattle.regmodel.specs.Reply.{Reply, Replies, value_of}
 use Rattle.machine.specs.Sparse.{sparse, spread}
-use Rattle.natives.specs.declared.names.NameSlots.{NameSlots}
+use Rattle.natives.specs.declared.name.NameSlots.{NameSlots}
 use Rattle.natives.specs.declared.rounds.Reading.{Reading}
 use Rattle.natives.specs.declared.rounds.Slots.{Slots}
 use Rattle.natives.specs.declared.rounds.Stage.{Stage}
 use Rattle.natives.specs.declared.rounds.Stage.TheVariants.{Proposes, Looks, Named, Over}
 use Rattle.machine.specs.Bits.{bit}
 use Rattle.natives.specs.Rounds.{after_slot, first_slot, at_slot, cells_of, from_after, reading_number, seen_numbers, stage_rest}
-use Rattle.natives.specs.Names.{IsRead, from_round, from_reading, from_slot, name_numbers, name_resumed, reading_rest, round_rest, rounds_from}
+use Rattle.natives.specs.NameSlots.{IsRead, from_round, from_reading, from_slot, name_numbers, name_resumed, reading_rest, round_rest, rounds_from}
 use Rattle.natives.proofs.NextNames.{rank_after, clash-past, rank-past}
 use Rattle.natives.proofs.RoundEnds.{AreRounds, choice, told-whole}
 use Rattle.natives.proofs.RoundTurns.{alike, read-own, read-other, round-read}

@@ -9,7 +9,7 @@ use Rattle.regmodel.specs.Act.{Flow, GoesOn, Wants, Faults, exec, flow_pending, 
 use Rattle.uses.specs.Expansions.{name_after, name_slot, name_round}
 use Rattle.std.proofs.lemmas.Bool.{cases_eq}
 use Rattle.natives.specs.Rounds.{cells_of, at_slot}
-use Rattle.natives.specs.Names.{rounds_from, turns_from, from_round, from_slot}
+use Rattle.natives.specs.NameSlots.{rounds_from, turns_from, from_round, from_slot}
 use Rattle.natives.proofs.NextNames.{IsChoice, env_at, clash_after, rank_after, rank-rises, long-set, long_cells, AreAlike, after-same}
 use Rattle.natives.proofs.StepEnds.{le_yes, lt_yes, lt_no, eq_yes, eq_no}
 

@@ -12,7 +12,7 @@ use Rattle.uses.specs.Expansions.{name_after, names_slot, names_round}
 use Rattle.machine.specs.Bits.{bit}
 use Rattle.natives.specs.declared.rounds.Reading.{Reading}
 use Rattle.natives.specs.Rounds.{cells_of, from_after, after_slot, after_slots, first_slot}
-use Rattle.natives.specs.ScannedNames.{scan_rounds, from_scan_round}
+use Rattle.natives.specs.Names.{scan_rounds, from_scan_round}
 use Rattle.natives.proofs.NextNames.{IsChoice, env_at, clash_after, rank_after, clash-past, rank-past, long-set, long_cells, AreAlike, after-same}
 use Rattle.natives.proofs.StepEnds.{le_yes, lt_yes, lt_no}
 

@@ -4,15 +4,15 @@ use Rattle.std.specs.Prelude.{slice_set}
 use Rattle.std.proofs.lemmas.List.{length-set, length-append, length-drop}
 use Rattle.regmodel.specs.declared.accesses.Pending.{Pending}
 use Rattle.regmodel.specs.Reply.{Reply, Replies, one}
-use Rattle.natives.specs.declared.scanned_names.Names.{Names}
-use Rattle.natives.specs.declared.scanned_names.Scan.{Scan}
+use Rattle.natives.specs.declared.names.Names.{Names}
+use Rattle.natives.specs.declared.names.Scan.{Scan}
 use Rattle.natives.specs.declared.rounds.Stage.{Stage}
 use Rattle.natives.specs.declared.rounds.Stage.TheVariants.{Proposes, Looks, Named, Over}
 use Rattle.natives.specs.declared.rounds.Slots.{Slots}
 use Rattle.natives.specs.declared.rounds.Reading.{Reading}
 use Rattle.machine.specs.Bits.{bit}
 use Rattle.natives.specs.Rounds.{after_slots, first_slot, at_slot, cells_of, from_after, seen_numbers, stage_rest}
-use Rattle.natives.specs.ScannedNames.{scan_rounds, from_scan_round, names_numbers, names_resumed, scan_rest, scan_round_rest}
+use Rattle.natives.specs.Names.{scan_rounds, from_scan_round, names_numbers, names_resumed, scan_rest, scan_round_rest}
 use Rattle.natives.proofs.NextNames.{long_cells, taken}
 use Rattle.natives.proofs.RoundEnds.{AreRounds, choice, told-whole}
 use Rattle.natives.proofs.ScanRounds.{alike, scan-ends, scanned-seen}

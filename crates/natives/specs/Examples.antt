@@ -12,8 +12,8 @@ use Rattle.machine.specs.Bits.{packed, unpacked}
 use Rattle.natives.specs.Grids.{grid_from, grid_resumed}
 use Rattle.natives.specs.Resuming.{native_resumed}
 use Rattle.natives.specs.Rounds.{first_slot, after_slot, after_slots, number_from}
-use Rattle.natives.specs.Names.{from_reading, name_resumed}
-use Rattle.natives.specs.ScannedNames.{from_scan_round, names_resumed}
+use Rattle.natives.specs.NameSlots.{from_reading, name_resumed}
+use Rattle.natives.specs.Names.{from_scan_round, names_resumed}
 use Rattle.natives.specs.Trees.{from_stop, from_past, from_at, tree_resumed}
 
 -- ---- a splitter that is about to look who came last
@@ -21,7 +21,8 @@ use Rattle.natives.specs.Trees.{from_stop, from_past, from_at, tree_resumed}
 pub split_finds_itself : split_rest (split_program 0 1 2) (At Looks) (one 1 ∷ []) ≡ Done (record { items = 1 ∷ [] })
 split_finds_itself = refl
 
--- ---- a grid of side 2 at registers 0 to 5: at its first vertex, and at the vertex below, in its last turn
+-- ---- a grid of side 2 at registers 0 to 5: at its first vertex, and at the vertex
+-- below, in its last turn
 
 pub grid_goes_right : grid_from 0 1 6 2 0 1 (one 0 ∷ one 1 ∷ []) ≡ Wants (Write 4 1)
 grid_goes_right = refl

@@ -31,7 +31,8 @@ grid_numbers level vertex (At step) = step_number step ∷ level ∷ vertex ∷ 
 grid_numbers level vertex Stopped = 4 ∷ vertex ∷ []
 grid_numbers level vertex Over = 5 ∷ []
 
--- what is pending after further replies, where it stands as these numbers tell: at an access, stopped or over
+-- what is pending after further replies, where it stands as these numbers tell: at an
+-- access, stopped or over
 abbrev pub grid_resumed : ℕ → ℕ → ℕ → ℕ → List ℕ → Replies → Pending
 grid_resumed base side id registers (number ∷ level ∷ vertex ∷ _) s =
     grid_rest (grid_from base id registers (side - level) level vertex) vertex (At (told_step number)) s

@@ -1,11 +1,11 @@
 pub mod Examples
 pub mod Grids
 pub mod Makes
+pub mod NameSlots
 pub mod Names
 pub mod Puts
 pub mod Resuming
 pub mod Rounds
-pub mod ScannedNames
 pub mod Splits
 pub mod Splitters
 pub mod Trees

@@ -6,8 +6,8 @@ use Rattle.uses.specs.declared.kinds.Use.{Use}
 use Rattle.uses.specs.declared.kinds.Use.TheVariants.{Split, Grid, Tree, Name, Names}
 use Rattle.uses.specs.Expansions.{expansion}
 use Rattle.natives.specs.Grids.{grid_resumed}
-use Rattle.natives.specs.Names.{name_resumed}
-use Rattle.natives.specs.ScannedNames.{names_resumed}
+use Rattle.natives.specs.NameSlots.{name_resumed}
+use Rattle.natives.specs.Names.{names_resumed}
 use Rattle.natives.specs.Splits.{split_resumed}
 use Rattle.natives.specs.Trees.{tree_resumed}
 

@@ -20,8 +20,8 @@ abbrev pub reading_number : Bool → ℕ
 reading_number false = 1
 reading_number true = 2
 
--- past a slot that held so much: a clash where that is the proposal, a higher rank where the slot is below the own one and
--- held something
+-- past a slot that held so much: a clash where that is the proposal, a higher rank where the slot
+-- is below the own one and held something
 abbrev pub after_slot : ℕ → ℕ → ℕ → Reading → Reading
 after_slot own proposal held reading = record {
   at = reading.at + 1;
@@ -67,7 +67,8 @@ stage_rest round look proposal (Looks at) s = look at s
 stage_rest round look proposal Named s = Done (record { items = proposal ∷ [] })
 stage_rest round look proposal Over s = Done (record { items = [] })
 
--- once a round has ended, by whether there was a clash and by how many rounds are left: where the process stands,
+-- once a round has ended, by whether there was a clash and by how many rounds are left: where
+-- the process stands,
 abbrev pub stage_after : {L : Type 0} → Bool → ℕ → Stage L
 stage_after false later = Named
 stage_after true zero = Over
@@ -84,7 +85,8 @@ proposal_after false later slots rank seen proposal = proposal
 proposal_after true zero slots rank seen proposal = proposal
 proposal_after true (suc later) slots rank seen proposal = number_from (take slots seen) (2 * slots - 1) rank 0
 
--- what is told of the slots behind a stage: what they held, by a mask and what is not 0, where it is one in a round
+-- what is told of the slots behind a stage: what they held, by a mask and what is not 0, where
+-- it is one in a round
 abbrev pub seen_numbers : {L : Type 0} → Stage L → List ℕ → List ℕ
 seen_numbers Proposes seen = sparse seen
 seen_numbers (Looks at) seen = sparse seen

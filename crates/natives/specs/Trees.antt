@@ -61,7 +61,8 @@ pub record IsIn (last vertex : ℕ) : Type 0 where
 abbrev pub below_reached : ℕ → List Bool → List Bool
 below_reached vertex reached = slice_set (slice_set reached (vertex * 2) true) (vertex * 2 + 1) true
 
--- on the way down the value from the vertex on, in the collect that from the vertex looked at, after the replies since then
+-- on the way down the value from the vertex on, in the collect that from the vertex looked at,
+-- after the replies since then
 abbrev pub tree_rest : (Replies → Pending) → (Replies → Pending) → (ℕ → Replies → Pending) → List ℕ → Stage → Replies → Pending
 tree_rest vertex stop look numbers Marks s = vertex s
 tree_rest vertex stop look numbers (At step) s = vertex (one 0 ∷ since_first step s)
@@ -72,7 +73,8 @@ tree_rest vertex stop look numbers Collected s = Done (record { items = numbers 
 tree_rest vertex stop look numbers Overfull s = Fault 4
 tree_rest vertex stop look numbers Over s = Done (record { items = [] })
 
--- how it is told that a vertex is looked at: a number for the stage, the vertex, which vertices were reached, the numbers so far
+-- how it is told that a vertex is looked at: a number for the stage, the vertex, which vertices
+-- were reached, the numbers so far
 abbrev pub collect_numbers : List Bool → List ℕ → ℕ → ℕ → List ℕ
 collect_numbers reached numbers stage at = stage ∷ at ∷ packed reached ∷ numbers
 
@@ -91,12 +93,17 @@ tree_numbers vertex levels reached numbers Over = 10 ∷ []
 abbrev pub tree_resumed : ℕ → ℕ → ℕ → ℕ → ℕ → ℕ → List ℕ → Replies → Pending
 tree_resumed base registers depth last id value (zero ∷ vertex ∷ levels ∷ _) s = from_vertex base registers depth id value (suc levels) vertex s
 tree_resumed base registers depth last id value (suc zero ∷ vertex ∷ levels ∷ _) s = from_vertex base registers depth id value (suc levels) vertex (one 0 ∷ s)
-tree_resumed base registers depth last id value (suc (suc zero) ∷ vertex ∷ levels ∷ _) s = from_vertex base registers depth id value (suc levels) vertex (one 0 ∷ one 0 ∷ s)
-tree_resumed base registers depth last id value (suc (suc (suc zero)) ∷ vertex ∷ levels ∷ _) s = from_vertex base registers depth id value (suc levels) vertex (one 0 ∷ one 0 ∷ one 0 ∷ s)
-tree_resumed base registers depth last id value (suc (suc (suc (suc zero))) ∷ vertex ∷ levels ∷ _) s = from_vertex base registers depth id value (suc levels) vertex (one 0 ∷ one 0 ∷ one 0 ∷ one 0 ∷ s)
+tree_resumed base registers depth last id value (suc (suc zero) ∷ vertex ∷ levels ∷ _) s =
+    from_vertex base registers depth id value (suc levels) vertex (one 0 ∷ one 0 ∷ s)
+tree_resumed base registers depth last id value (suc (suc (suc zero)) ∷ vertex ∷ levels ∷ _) s =
+    from_vertex base registers depth id value (suc levels) vertex (one 0 ∷ one 0 ∷ one 0 ∷ s)
+tree_resumed base registers depth last id value (suc (suc (suc (suc zero))) ∷ vertex ∷ levels ∷ _) s =
+    from_vertex base registers depth id value (suc levels) vertex (one 0 ∷ one 0 ∷ one 0 ∷ one 0 ∷ s)
 tree_resumed base registers depth last id value (suc (suc (suc (suc (suc zero)))) ∷ vertex ∷ _) s = from_stop base registers depth value vertex s
-tree_resumed base registers depth last id value (suc (suc (suc (suc (suc (suc zero))))) ∷ at ∷ reached ∷ numbers) s = from_at base registers last (unpacked 32 reached) numbers at s
-tree_resumed base registers depth last id value (suc (suc (suc (suc (suc (suc (suc zero)))))) ∷ at ∷ reached ∷ numbers) s = from_at base registers last (unpacked 32 reached) numbers at (one 1 ∷ s)
+tree_resumed base registers depth last id value (suc (suc (suc (suc (suc (suc zero))))) ∷ at ∷ reached ∷ numbers) s =
+    from_at base registers last (unpacked 32 reached) numbers at s
+tree_resumed base registers depth last id value (suc (suc (suc (suc (suc (suc (suc zero)))))) ∷ at ∷ reached ∷ numbers) s =
+    from_at base registers last (unpacked 32 reached) numbers at (one 1 ∷ s)
 tree_resumed base registers depth last id value (suc (suc (suc (suc (suc (suc (suc (suc zero))))))) ∷ numbers) s = Done (record { items = numbers })
 tree_resumed base registers depth last id value (suc (suc (suc (suc (suc (suc (suc (suc (suc zero)))))))) ∷ _) s = Fault 4
 tree_resumed base registers depth last id value _ s = Done (record { items = [] })

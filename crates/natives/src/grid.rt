@@ -1,4 +1,5 @@
-//! Grids of splitters: a process goes from the first vertex right and down until it stops at one or leaves the grid.
+//! Grids of splitters: a process goes from the first vertex right and down until it stops at one
+//! or leaves the grid.
 
 ghost use Rattle.std.specs.Prelude.{◌≡◌, ◌+◌, ◌-◌, ◌*◌, ◌<◌, ◌≤◌};
 ghost use Rattle.regmodel.specs.Reply.{Replies};
@@ -28,8 +29,9 @@ enum Stage {
     Over,
 }
 
-/// A grid of splitters in progress. A vertex has two registers: who came last, and the door, 0 where it is open. The first
-/// vertex is 1; right of vertex v, in row and column that add up to d, is v + d + 2, and below it v + d + 1.
+/// A grid of splitters in progress. A vertex has two registers: who came last, and the door, 0
+/// where it is open. The first vertex is 1; right of vertex v, in row and column that add up to d,
+/// is v + d + 2, and below it v + d + 1.
 #[derive(Drop)]
 pub struct Grid {
     base: u8,
@@ -48,8 +50,9 @@ pub struct Grid {
 }
 
 impl Grid {
-    /// The grid of a use line, at its start: BASE, SIDE, ID, and how many registers there are. Fault 1 where a limit of the
-    /// line is passed, which [`Use::fits`] tells; no other fault comes. It takes no memory.
+    /// The grid of a use line, at its start: BASE, SIDE, ID, and how many registers there are.
+    /// Fault 1 where a limit of the line is passed, which [`Use::fits`] tells; no other fault
+    /// comes. It takes no memory.
     pub fn make(base: u32, side: u32, id: u32, registers: u32) -> Result<Grid, MakeFault>
         ensures { IsMadeFor (kind.Grid base side id) registers ⟦<Grid as Machine>⟧ result }
     {

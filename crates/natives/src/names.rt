@@ -1,108 +1,93 @@
-//! Renamings: a process proposes a name in its slot until no other slot holds it.
+//! Renamings that scan: a process proposes a name in its slot until no other slot holds it, where
+//! it sees all slots at once.
 
-ghost use Rattle.std.specs.Prelude.{◌≡◌, ◌+◌, ◌≤◌, ◌∷◌, slice_index};
-ghost use Rattle.regmodel.specs.Reply.{Replies};
+ghost use Rattle.std.specs.Prelude.{◌≡◌, ◌∷◌, length};
+ghost use Rattle.regmodel.specs.Reply.{Replies, one};
 ghost use Rattle.uses.specs.declared.kinds.Use.TheVariants as kind;
 ghost use Rattle.natives.specs.Makes.{IsMadeFor};
-ghost use Rattle.natives.specs.declared.rounds.Reading.{Reading};
-ghost use Rattle.natives.specs.declared.rounds.Stage.TheVariants.{Looks};
 ghost use Rattle.natives.specs.Puts.{ArePut};
-ghost use Rattle.natives.specs.Names.{IsRead, name_numbers, reading_rest};
+ghost use Rattle.natives.specs.Names.{scan_round_rest, names_numbers};
 ghost use Rattle.natives.specs.Turns.{GoesOnAs};
 
 use crate::MakeFault;
 use crate::limits::check_fits;
 use crate::numbers::{done, done_with};
 use crate::rounds::{Reading, Round, Slots, Stage};
-use machine::{Machine, Told, value_of};
+use machine::{Machine, Told};
 use regmodel::{Access, Pending};
 use uses::Use;
 
-/// A renaming in progress: a register a slot, for the proposal of its process. It keeps what it last read in each
-/// slot, 0 for its own.
+/// The scan of all slots.
+#[derive(Clone, Copy)]
+struct Scan;
+
+/// A renaming in progress: a register a slot, for the proposal of its process. It keeps what it
+/// last saw in each slot, 0 for its own.
 #[derive(Drop)]
-pub struct NameSlots {
-    round: Round<Reading>,
-    ghost own_empty: { slice_index round.seen round.slots.own ≡ 0 },
-    ghost reads: { (reading : Reading) → round.stage ≡ Looks reading
-        → IsRead round.slots.count round.slots.own reading },
+pub struct Names {
+    round: Round<Scan>,
 }
 
-impl NameSlots {
-    /// The renaming of a use line, at its start: BASE, SLOTS, SLOT, and how many registers there are. Fault 1 where a limit of
-    /// the line is passed, which [`Use::fits`] tells; no other fault comes. It takes no memory.
-    pub fn make(base: u32, slots: u32, slot: u32, registers: u32) -> Result<NameSlots, MakeFault>
-        ensures { IsMadeFor (kind.Name base slots slot) registers ⟦<NameSlots as Machine>⟧ result }
+impl Names {
+    /// The renaming of a use line, at its start: BASE, SLOTS, SLOT, and how many registers there
+    /// are. Fault 1 where a limit of the line is passed, which [`Use::fits`] tells; no other fault
+    /// comes. It takes no memory.
+    pub fn make(base: u32, slots: u32, slot: u32, registers: u32) -> Result<Names, MakeFault>
+        ensures { IsMadeFor (kind.Names base slots slot) registers ⟦<Names as Machine>⟧ result }
     {
-        check_fits(Use::Name(base, slots, slot), registers)?;
-        Ok(NameSlots {
+        check_fits(Use::Names(base, slots, slot), registers)?;
+        Ok(Names {
             round: Round::first(Slots::of(base, slots, slot, registers)),
         })
     }
 
-    /// Goes on to a slot, past the own one; past the last one it ends the round.
-    fn go_on(&mut self, reading: Reading)
-        requires inside { reading.at ≤ self.old.round.slots.count }
-        requires some { 1 ≤ reading.rank }
-        requires small { reading.rank ≤ reading.at + 1 }
-        ensures { GoesOnAs ⟦<NameSlots as Machine>⟧ self.old self.new
-            (reading_rest self.old.round reading) }
+    /// Takes what a scan gave, of which the own slot counts as empty, and ends the round.
+    fn take(&mut self, reply: &[u32])
+        requires { length reply.now ≡ self.old.round.slots.count }
+        ensures { GoesOnAs ⟦<Names as Machine>⟧ self.old self.new
+            (λ s. scan_round_rest self.old.round (one 0 ∷ reply.now ∷ s)) }
     {
-        let next = if reading.at == self.round.slots.own {
-            Reading {
-                at: reading.at + 1,
-                ..reading
-            }
-        } else {
-            reading
-        };
-        if next.at < self.round.slots.count {
-            self.round.stage = Stage::Looks(next);
-        } else {
-            self.round.finish(next);
-        }
+        let slots = usize::from(self.round.slots.count);
+        let own = usize::from(self.round.slots.own);
+        let mut seen = self.round.seen;
+        seen[..slots].copy_from_slice(reply);
+        seen[own] = 0;
+        self.round.seen = seen;
+        let reading = Reading::after_slots(
+            &seen[..slots],
+            self.round.proposal,
+            self.round.slots.own,
+        );
+        self.round.finish(reading);
     }
 
-    /// Takes what a slot holds, and goes on to the next one.
-    fn take(&mut self, reading: Reading, reply: &[u32])
-        requires read { IsRead self.old.round.slots.count self.old.round.slots.own reading }
-        ensures { GoesOnAs ⟦<NameSlots as Machine>⟧ self.old self.new
-            (λ s. reading_rest self.old.round reading (reply.now ∷ s)) }
-    {
-        let held = value_of(reply);
-        self.round.seen[usize::from(reading.at)] = held;
-        self.go_on(reading.after_slot(held, self.round.proposal, self.round.slots.own));
-    }
-
-    /// Puts the stage behind the numbers, with the numbers that it holds, but not what the slots held.
+    /// Puts the stage behind the numbers, with the numbers that it holds, but not
+    /// what the slots held.
     fn put_stage(&self, numbers: &mut Told) -> Option<()>
         ensures { ArePut
-            (name_numbers self.now.round.later self.now.round.proposal self.now.round.stage)
+            (names_numbers self.now.round.later self.now.round.proposal self.now.round.stage)
             numbers.old numbers.new result }
     {
         match self.round.stage {
             Stage::Proposes => self.round.put_stage(0, numbers),
-            Stage::Looks(reading) => {
-                self.round.put_stage(reading.number(), numbers)?;
-                numbers.put_all(&[u32::from(reading.at), u32::from(reading.rank)])
-            }
-            Stage::Named => numbers.put_all(&[3, self.round.proposal]),
-            Stage::Over => numbers.put(4),
+            Stage::Looks(_) => self.round.put_stage(1, numbers),
+            Stage::Named => numbers.put_all(&[2, self.round.proposal]),
+            Stage::Over => numbers.put(3),
         }
     }
 }
 
-impl Machine for NameSlots {
+impl Machine for Names {
     ghost use Rattle.uses.specs.declared.kinds.Use.TheVariants as kind;
     ghost use Rattle.uses.specs.Expansions.{expansion};
     ghost use Rattle.natives.specs.Rounds.{stage_rest};
-    ghost use Rattle.natives.specs.Names.{round_rest, reading_rest, name_resumed};
+    ghost use Rattle.natives.specs.Names.{scan_round_rest, scan_rest, names_resumed};
 
-    ghost program = { λ m. expansion (kind.Name m.round.slots.base m.round.slots.count m.round.slots.own) m.round.slots.registers };
+    ghost program = { λ m. expansion (kind.Names m.round.slots.base m.round.slots.count m.round.slots.own) m.round.slots.registers };
 
-    ghost rest = { λ m. stage_rest (round_rest m.round) (reading_rest m.round) m.round.proposal m.round.stage };
+    ghost rest = { λ m. stage_rest (scan_round_rest m.round) (scan_rest m.round) m.round.proposal m.round.stage };
 
-    ghost resumed = { λ m. name_resumed m.round.slots.base m.round.slots.count m.round.slots.own m.round.slots.registers };
+    ghost resumed = { λ m. names_resumed m.round.slots.base m.round.slots.count m.round.slots.own m.round.slots.registers };
 
     fn reset(&mut self) {
         self.round = Round::first(self.round.slots);
@@ -111,8 +96,9 @@ impl Machine for NameSlots {
     fn pending(&self) -> Pending {
         match self.round.stage {
             Stage::Proposes => Pending::Wants(self.round.write()),
-            Stage::Looks(reading) => Pending::Wants(Access::Read(
-                reading.at + self.round.slots.base,
+            Stage::Looks(_) => Pending::Wants(Access::Scan(
+                self.round.slots.base,
+                self.round.slots.count,
             )),
             Stage::Named => done_with(self.round.proposal),
             Stage::Over => done(),
@@ -121,8 +107,8 @@ impl Machine for NameSlots {
 
     fn feed(&mut self, reply: &[u32]) {
         match self.round.stage {
-            Stage::Proposes => self.go_on(Reading::first()),
-            Stage::Looks(reading) => self.take(reading, reply),
+            Stage::Proposes => self.round.stage = Stage::Looks(Scan),
+            Stage::Looks(_) => self.take(reply),
             Stage::Named | Stage::Over => {}
         }
     }

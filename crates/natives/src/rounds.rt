@@ -106,7 +106,8 @@ impl<L: Copy> Round<L> {
         Access::Write(self.slots.base + self.slots.own, self.proposal)
     }
 
-    /// Ends the round: the proposal is the name of the process, or there is a new one for the next round, where one is left.
+    /// Ends the round: the proposal is the name of the process, or there is a new one for the next
+    /// round, where one is left.
     pub fn finish(&mut self, reading: Reading)
         requires { 1 ≤ reading.rank }
         ensures slots { self.new.slots ≡ self.old.slots }
@@ -128,7 +129,8 @@ impl<L: Copy> Round<L> {
         }
     }
 
-    /// Puts behind the numbers that of a stage in the round, how many rounds there are after it, and the proposal.
+    /// Puts behind the numbers that of a stage in the round, how many rounds there are after
+    /// it, and the proposal.
     pub fn put_stage(&self, stage: u32, numbers: &mut Told) -> Option<()>
         ensures { ArePut (stage ∷ self.now.later ∷ self.now.proposal ∷ []) numbers.old numbers.new
             result }

@@ -1,4 +1,5 @@
-//! Splitters: a process leaves its number, tries a door and closes it, and stops, goes right or goes down by what it read.
+//! Splitters: a process leaves its number, tries a door and closes it, and stops, goes right or
+//! goes down by what it read.
 
 ghost use Rattle.std.specs.Prelude.{◌≡◌, ◌+◌, ◌≤◌};
 ghost use Rattle.uses.specs.declared.kinds.Use.TheVariants as kind;
@@ -44,7 +45,8 @@ impl Stage {
     }
 }
 
-/// A splitter in progress: register BASE tells who came last, the next one is the door, 0 where it is open.
+/// A splitter in progress: register BASE tells who came last, the next one is the door,
+/// 0 where it is open.
 #[derive(Drop)]
 pub struct Split {
     base: u8,
@@ -56,8 +58,9 @@ pub struct Split {
 }
 
 impl Split {
-    /// The splitter of a use line, at its start: BASE, ID, and how many registers there are. Fault 1 where a limit of the
-    /// line is passed, which [`Use::fits`] tells; no other fault comes. It takes no memory.
+    /// The splitter of a use line, at its start: BASE, ID, and how many registers there are.
+    /// Fault 1 where a limit of the line is passed, which [`Use::fits`] tells; no other fault
+    /// comes. It takes no memory.
     pub fn make(base: u32, id: u32, registers: u32) -> Result<Split, MakeFault>
         ensures { IsMadeFor (kind.Split base id) registers ⟦<Split as Machine>⟧ result }
     {

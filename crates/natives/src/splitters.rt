@@ -1,4 +1,5 @@
-//! The way through a splitter: a process leaves its number, tries a door and closes it, and looks who came last.
+//! The way through a splitter: a process leaves its number, tries a door and closes it, and
+//! looks who came last.
 
 ghost use Rattle.std.specs.Prelude.{◌≡◌, ◌<◌};
 ghost use Rattle.natives.specs.Splitters.{step_access, step_number};
@@ -19,7 +20,8 @@ pub enum Step {
 }
 
 impl Step {
-    /// The access of the step, by the register that tells who came last; the next one is the door, 0 where it is open.
+    /// The access of the step, by the register that tells who came last; the next one is the door,
+    /// 0 where it is open.
     pub fn access(self, last: u8, id: u32) -> Access
         requires { last < 255 }
         ensures { result ≡ step_access last id self }

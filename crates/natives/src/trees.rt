@@ -1,5 +1,5 @@
-//! Collect trees: a process goes down a binary tree of splitters until it stops at a vertex, leaves its value there, and
-//! collects the values of the vertices whose marks it reads.
+//! Collect trees: a process goes down a binary tree of splitters until it stops at a vertex, leaves
+//! its value there, and collects the values of the vertices whose marks it reads.
 
 ghost use Rattle.std.specs.Prelude.{◌≡◌, ℕ, suc, ◌+◌, ◌-◌, ◌*◌, ◌^◌, ◌<◌, ◌≤◌, [], ◌∷◌, true, false, IfSome, length, replicate, slice_set};
 ghost use Rattle.regmodel.specs.Reply.{Replies, one};
@@ -41,8 +41,9 @@ enum Stage {
     Over,
 }
 
-/// A collect tree in progress. A vertex has four registers: its mark, who came last, the door, 0 where it is open, and its
-/// value. The root is vertex 1; left and right below vertex v are 2 v and 2 v + 1.
+/// A collect tree in progress. A vertex has four registers: its mark, who came last, the
+/// door, 0 where it is open, and its value. The root is vertex 1; left and right below vertex
+/// v are 2 v and 2 v + 1.
 #[derive(Drop)]
 pub struct Tree {
     base: u8,
@@ -70,8 +71,9 @@ pub struct Tree {
 }
 
 impl Tree {
-    /// The collect tree of a use line, at its start: BASE, DEPTH, ID, VALUE, and how many registers there are. Fault 1 where a
-    /// limit of the line is passed, which [`Use::fits`] tells; no other fault comes. It takes no memory.
+    /// The collect tree of a use line, at its start: BASE, DEPTH, ID, VALUE, and how many registers
+    /// there are. Fault 1 where a limit of the line is passed, which [`Use::fits`] tells; no other
+    /// fault comes. It takes no memory.
     pub fn make(
         base: u32,
         depth: u32,
@@ -199,7 +201,8 @@ impl Tree {
         }
     }
 
-    /// Puts behind the numbers that a vertex is looked at, with the number of the stage, and what was collected before it.
+    /// Puts behind the numbers that a vertex is looked at, with the number of the stage, and what
+    /// was collected before it.
     fn put_collect(&self, stage: u32, vertex: u8, numbers: &mut Told) -> Option<()>
         ensures { ArePut (collect_numbers self.now.reached self.now.numbers.items stage vertex)
             numbers.old numbers.new result }

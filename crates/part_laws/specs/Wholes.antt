@@ -27,7 +27,8 @@ pub record IsPartOfSource (source : Source) (settings : Bounds) (accepts : List 
   pub length_is : part.head.length ≡ settings.length
   pub crashes_is : part.head.crashes ≡ settings.crashes
   pub cut_is : part.head.cut ≡ settings.cut
-  pub found : IsFoundIn (search_of source settings accepts) (members_of_part (search_of source settings accepts) settings.cut part.head.count part.head.number) part.found
+  pub found : IsFoundIn (search_of source settings accepts)
+      (members_of_part (search_of source settings accepts) settings.cut part.head.count part.head.number) part.found
 
 -- what is found of the whole source: the report of its exploration, or its least failing schedule
 abbrev pub IsWholeOf : Source → Bounds → (List ProcEnd → Bool) → Merged → Type 0

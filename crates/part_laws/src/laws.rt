@@ -1,4 +1,5 @@
-//! The laws by which parts can be read back from their texts, and merged are the whole, as contracts of functions that do nothing.
+//! The laws by which parts can be read back from their texts, and merged are the whole, as
+//! contracts of functions that do nothing.
 
 ghost use Rattle.std.specs.Prelude.{◌≡◌, ◌^◌, ◌<◌, ◌∷◌, All, Bool, List, length};
 ghost use Rattle.regmodel.specs.Settings.{Bounds};
@@ -20,8 +21,8 @@ use explorer::laws::{merged_findings_are_of_both, parts_are_the_whole, the_whole
 use reglang::Source;
 use regmodel::laws::{outcomes_are_in_a_total_order, wanted_accesses_are_within};
 
-/// What exploring a part of a source finds fits its text, behind a head that fits and tells of as many processes and letters. So the text
-/// that is written of it is one that can be read.
+/// What exploring a part of a source finds fits its text, behind a head that fits and tells of as
+/// many processes and letters. So the text that is written of it is one that can be read.
 pub fn parts_can_be_read(source: &Source)
     ensures explored { (settings : Bounds) (accepts : List ProcEnd → Bool) (part : Part)
         (head : PlainHead) (findings : Findings)
@@ -41,8 +42,8 @@ pub fn parts_can_be_read(source: &Source)
     outcomes_are_in_a_total_order();
 }
 
-/// Where each of the parts that were merged is what was found of that part of one source, by the same settings, they tell what is found of
-/// the whole source by these settings.
+/// Where each of the parts that were merged is what was found of that part of one source, by the
+/// same settings, they tell what is found of the whole source by these settings.
 pub fn merged_parts_are_the_whole()
     ensures { (source : Source) (settings : Bounds) (accepts : List ProcEnd → Bool)
         (first : PartReport) (others : List PartReport) (merged : Merged)

@@ -41,7 +41,8 @@ outcome_behind word ends = word ++ outcome_text ends ++ codes "\n"
 abbrev pub head_text : PlainHead → List ℕ
 head_text head = number_text head.number head.count ++ bounds_in head ++ source_text head.source
 
--- what is found: the least failing schedule, behind how many schedules were tried and the outcomes, if more was sought than that schedule
+-- what is found: the least failing schedule, behind how many schedules were tried and the outcomes,
+-- if more was sought than that schedule
 abbrev pub found_text : Found → List ℕ
 found_text (Explored s) = number_line (codes "tried") s.tried ++ outcomes_text s.outcomes ++ least_text s.least
 found_text (Least least) = least_text least

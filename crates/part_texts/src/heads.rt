@@ -8,8 +8,9 @@ use regmodel::limits::{MOST_PROCESSES, MOST_SOURCE_BYTES};
 use report::Part;
 use std::marker::Model;
 
-/// Which part of which exploration something is told of: the part, the number of processes, the bounds of the exploration and its source.
-/// Each number is within its range. A clause sees them as a record.
+/// Which part of which exploration something is told of: the part, the number of processes,
+/// the bounds of the exploration and its source. Each number is within its range. A clause
+/// sees them as a record.
 #[derive(Debug, Drop)]
 pub struct PartHead {
     part: Part,
@@ -29,11 +30,12 @@ impl Model for PartHead {
 }
 
 impl PartHead {
-    ghost use Rattle.std.specs.Prelude.{◌≡◌, ◌↔◌, IfSome, IsSome, IsTrue};
-    ghost use Rattle.part_texts.specs.PlainHead.{AreOfOne, FitsHead, head_of};
+    ghost use Rattle.std.specs.Prelude.{◌≡◌, ◌↔◌, IfSome, IsSome};
+    ghost use Rattle.part_texts.specs.PlainHead.{FitsHead, head_of};
 
-    /// The head of a part of the exploration of so many processes by these settings, and of this source. None where there are 0 or more
-    /// than 8 processes, or more than 1048576 bytes of source.
+    /// The head of a part of the exploration of so many processes by these settings, and
+    /// of this source. None where there are 0 or more than 8 processes, or more than
+    /// 1048576 bytes of source.
     pub fn new(part: Part, processes: u32, settings: Settings, source: Vec<u8>) -> Option<PartHead>
         ensures value { IfSome result (λ head. head
             ≡ head_of part.number part.count processes settings source.items) }
@@ -77,20 +79,6 @@ impl PartHead {
         ensures cut { result.cut ≡ self.now.cut }
     {
         self.settings
-    }
-
-    /// Whether two parts are of one exploration: but for their numbers, all is the same.
-    pub fn is_of_same(&self, other: &PartHead) -> bool
-        ensures { IsTrue result ↔ AreOfOne self.now other.now }
-    {
-        if self.part.count() != other.part.count() || self.processes != other.processes {
-            return false;
-        }
-        let (own, others) = (self.settings, other.settings);
-        if own.length() != others.length() || own.crashes() != others.crashes() {
-            return false;
-        }
-        own.cut() == others.cut() && self.source() == other.source()
     }
 
     /// The bytes of the source, at most 1048576.

@@ -17,4 +17,4 @@ pub use faults::{BadPart, Cause};
 pub use heads::PartHead;
 pub use parts::{Found, PartReport};
 pub use streams::PartStream;
-pub use writing::{write_explored_part, write_least_part, write_part};
+pub use writing::{write_explored_part, write_least_part};

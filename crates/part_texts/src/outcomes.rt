@@ -11,7 +11,8 @@ use arrayvec::ArrayVec;
 use patterns::{Standing, read_pattern};
 use regmodel::{Outcome, ProcEnd};
 
-/// The outcome of a text: how each process stands, 1 to 8 of them, parted by `; `. None for any text that no outcome has.
+/// The outcome of a text: how each process stands, 1 to 8 of them, parted by `; `. None for any
+/// text that no outcome has.
 pub(crate) fn read_outcome(text: &[u8]) -> Option<Outcome>
     ensures some { IfSome result (λ outcome. outcome_text outcome ≡ text.now) }
     ensures fits { IfSome result (λ outcome. FitsOutcome (length outcome) outcome) }

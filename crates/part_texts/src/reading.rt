@@ -27,9 +27,11 @@ impl<R: BufRead> PartStream<R> {
     ghost use Rattle.part_texts.specs.PartText.{bounds_in, bounds_text, end_text, found_text, head_text, outcome_behind, outcomes_text, part_text, source_text};
     ghost use Rattle.part_texts.specs.Streams.{Reads, ReadsOn, left_of};
 
-    /// The next part; None where nothing is left. An error names the line at fault, and says what is wrong with it, that a request for memory
-    /// was refused, or that the reader answered an error. Where what is left begins with the text of a part, it is one of the last two; where
-    /// nothing is left, it is the last one. After an error the stream stands in the midst of a text.
+    /// The next part; None where nothing is left. An error names the line at fault, and says
+    /// what is wrong with it, that a request for memory was refused, or that the reader
+    /// answered an error. Where what is left begins with the text of a part, it is one of the
+    /// last two; where nothing is left, it is the last one. After an error the stream stands in
+    /// the midst of a text.
     pub fn next_part(&mut self, alloc: Global) -> Result<Option<PartReport>, BadPart>
         ensures next { IfOk result
             (IsNextPart (left_of R.remaining self.old) (left_of R.remaining self.new)) }
@@ -226,7 +228,8 @@ impl<R: BufRead> PartStream<R> {
         outcome_after(self.line.as_slice(), word, processes).ok_or(Cause::Other)
     }
 
-    /// The least failing schedule with its outcome, whose first line is read; None where none fails.
+    /// The least failing schedule with its outcome, whose first line is read;
+    /// None where none fails.
     fn least(&mut self, processes: u32) -> Result<Option<(Prefix, Outcome)>, Cause>
         ensures text { IfOk result
             (λ least. ReadsOn (left_of R.remaining self.old) (left_of R.remaining self.new)

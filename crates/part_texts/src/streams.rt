@@ -9,7 +9,8 @@ use crate::faults::Cause;
 use arrayvec::ArrayVec;
 use std::io::BufRead;
 
-/// The most bytes of a line, without its line feed. The longest one, an outcome of 8 processes with 8 numbers each, has 798.
+/// The most bytes of a line, without its line feed. The longest one, an outcome of 8 processes with
+/// 8 numbers each, has 798.
 pub(crate) const MOST_LINE_BYTES: usize = 1024;
 
 /// Parts that are read one after another. It holds one line at a time.
@@ -41,7 +42,8 @@ impl<R: BufRead> PartStream<R> {
         }
     }
 
-    /// Reads one line. False where nothing is left; then the only error is that the reader answered one.
+    /// Reads one line. False where nothing is left; then the only error is that the
+    /// reader answered one.
     pub(crate) fn next_line(&mut self) -> Result<bool, Cause>
         ensures line { IfOk result (λ there. there ≡ true
             → Consumes (left_of R.remaining self.old) (left_of R.remaining self.new)

@@ -1,19 +1,18 @@
 //! The text of a part, written. No call takes memory.
 
-ghost use Rattle.part_texts.specs.PartText.{bounds_text, explored_part, found_text, head_text, least_part, number_text, part_text};
+ghost use Rattle.part_texts.specs.PartText.{bounds_text, explored_part, head_text, least_part, part_text};
 ghost use Rattle.texts.specs.Appending.{Wrote};
 
 use crate::heads::PartHead;
-use crate::parts::{Found, PartReport};
-use report::{CodedLines, Exploration, Least, LeastLines, OutcomeLines};
+use report::{CodedLines, Exploration, Least, LeastLines};
 use std::io::Write;
 use texts::{Block, NumberLine, Text, WriteFault, write};
 
 /// The last line of a part.
 const END: &str = "end\n";
 
-/// Writes the text of a part of which the whole was sought: its head and what was found. After a fault the writer has taken a beginning of
-/// it.
+/// Writes the text of a part of which the whole was sought: its head and what was found. After a
+/// fault the writer has taken a beginning of it.
 pub fn write_explored_part<W: Write>(
     head: &PartHead,
     exploration: &Exploration,
@@ -29,8 +28,8 @@ pub fn write_explored_part<W: Write>(
     write(&(head, found, END), out)
 }
 
-/// Writes the text of a part of which the least failing schedule alone was sought: its head and that schedule. After a fault the writer has
-/// taken a beginning of it.
+/// Writes the text of a part of which the least failing schedule alone was sought: its head and
+/// that schedule. After a fault the writer has taken a beginning of it.
 pub fn write_least_part<W: Write>(
     head: &PartHead,
     least: &Least,
@@ -39,13 +38,6 @@ pub fn write_least_part<W: Write>(
     ensures { Wrote W.contents out.old out.new (part_text (least_part head.now least.now)) result }
 {
     write(&(head, LeastLines(least.least()), END), out)
-}
-
-/// Writes the text of a part that was read. After a fault the writer has taken a beginning of it.
-pub fn write_part<W: Write>(report: &PartReport, out: &mut W) -> Result<(), WriteFault>
-    ensures { Wrote W.contents out.old out.new (part_text report.now) result }
-{
-    write(&(&report.head, &report.found, END), out)
 }
 
 impl Text for PartHead {
@@ -73,24 +65,5 @@ impl Text for BoundsOf<'_> {
         let crashes = NumberLine::new("crashes", u64::from(settings.crashes()));
         let cut = NumberLine::new("cut", u64::from(settings.cut()));
         (processes, length, crashes, cut).put(out, block)
-    }
-}
-
-impl Text for Found {
-    ghost text = { found_text };
-
-    fn put<W: Write>(&self, out: &mut W, block: &mut Block) -> Result<(), WriteFault> {
-        match self {
-            Found::Explored(found) => {
-                let tried = NumberLine::new("tried", found.tried());
-                let outcomes = NumberLine::new("outcomes", found.outcomes().len() as u64);
-                let lines = OutcomeLines(found.outcomes());
-                (tried, outcomes, lines, LeastLines(found.least())).put(out, block)
-            }
-            Found::Least(Some((schedule, outcome))) => {
-                LeastLines(Some((schedule, outcome))).put(out, block)
-            }
-            Found::Least(None) => LeastLines(None).put(out, block),
-        }
     }
 }

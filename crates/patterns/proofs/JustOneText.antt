@@ -1,4 +1,5 @@
--- No two standings have the same text, nor two patterns; and just one process stands as a standing says that says one.
+-- No two standings have the same text, nor two patterns; and just one process stands as a standing
+-- says that says one.
 use Rattle.std.proofs.Common.{◌≡◌, ◌↔◌, ℕ, ◌<◌, ◌≤◌, Bool, true, false, eqb, leb, List, [], ◌∷◌, ◌++◌, length, codes, decimal, refl, ap, sym, subst, ◌∙◌, arith}
 use Rattle.std.specs.Cmp.Lexicographic.{bytes_decides}
 use Rattle.std.proofs.lemmas.Bool.{and_parts, and_from, eqb-true, leb-true}

@@ -9,7 +9,8 @@ use Rattle.patterns.specs.declared.matching.Match.{Match}
 use Rattle.patterns.specs.declared.standings.Standing.{Standing}
 use Rattle.patterns.specs.declared.standings.Standing.TheVariants as standing
 
--- whether two processes stand alike: done with the same numbers, at fault with the same code, both crashed or both running
+-- whether two processes stand alike: done with the same numbers, at fault with the same code, both
+-- crashed or both running
 abbrev pub are_alike : End → End → Bool
 are_alike (Done a) (Done b) = bytes_eq a.items b.items
 are_alike (Fault c) (Fault d) = c == d

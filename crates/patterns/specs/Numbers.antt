@@ -1,7 +1,8 @@
 -- Numbers as words.
 use Rattle.std.specs.Prelude.{◌≡◌, ◌≢◌, ℕ, List, Option, IfNone, IfSome, decimal}
 
--- the number that a word writes in decimal, without a sign and without a 0 before other digits, where it is a small one; none for any other word
+-- the number that a word writes in decimal, without a sign and without a 0 before other digits,
+-- where it is a small one; none for any other word
 pub record IsNumberIn (IsSmall : ℕ → Type 0) (word : List ℕ) (number : Option ℕ) : Type 0 where
   pub some : IfSome number (λ n. decimal n ≡ word)
   pub small : IfSome number IsSmall

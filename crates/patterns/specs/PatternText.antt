@@ -58,7 +58,8 @@ pub record FitsPattern (standings : List Standing) : Type 0 where
 abbrev pub ended_text : List Standing → List ℕ
 ended_text standings = flat_map (λ s. standing_text s ++ codes "; ") standings
 
--- so many standings stand at the beginning of a text, each with `; ` behind it, and no further one does; after 8 there may be no further one
+-- so many standings stand at the beginning of a text, each with `; ` behind it, and no further one
+-- does; after 8 there may be no further one
 pub record IsBadAt (text : List ℕ) (place : ℕ) : Type 0 where
   pub before : List Standing
   pub fit : list_all standing_fits before ≡ true

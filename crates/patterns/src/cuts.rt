@@ -4,7 +4,8 @@ ghost use Rattle.std.specs.Prelude.{◌≡◌, ◌++◌, ◌==◌, ◌≤◌, le
 ghost use Rattle.std.specs.List.{prefix_len};
 ghost use Rattle.patterns.specs.Cuts.{begins_at, has_no};
 
-/// What stands before the first byte of this value, and the rest from that byte on; all and nothing where there is none.
+/// What stands before the first byte of this value, and the rest from that byte on; all and nothing
+/// where there is none.
 pub fn cut_at(text: &[u8], byte: u8) -> (&[u8], &[u8])
     ensures parts { result.0.now ++ result.1.now ≡ text.now }
     ensures before { has_no byte result.0.now ≡ true }

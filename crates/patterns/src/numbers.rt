@@ -8,7 +8,8 @@ use itoa::Buffer;
 use regmodel::limits::GREATEST_VALUE;
 use std::str;
 
-/// The number 0 to 1000000000 that a word writes in decimal: without a sign, and without a 0 before other digits. None for any other word.
+/// The number 0 to 1000000000 that a word writes in decimal: without a sign, and without a 0 before
+/// other digits. None for any other word.
 pub fn number_of(word: &[u8]) -> Option<u32>
     ensures { IsNumberIn (λ n. n ≤ GREATEST_VALUE) word.now result }
 {
@@ -31,7 +32,8 @@ pub fn long_number_of(word: &[u8]) -> Option<u64>
     Some(number)
 }
 
-/// The number that a word is read as, also where it is not written so. None where it is no number of 64 bits.
+/// The number that a word is read as, also where it is not written so. None where it is
+/// no number of 64 bits.
 fn number_in(word: &[u8]) -> Option<u64>
     ensures { (n : ℕ) → n < 2 ^ 64 → decimal n ≡ word.now → result ≡ Some n }
 {

@@ -20,12 +20,13 @@ use thiserror::Error;
 #[derive(Clone, Copy, PartialEq, Eq, Debug, Error)]
 #[error("standing {place}")]
 pub struct BadPattern {
-    /// The place of the first standing that none can be read of, counted from 0; 8 where 8 were read and the text goes on.
+    /// The place of the first standing that none can be read of, counted from 0; 8 where 8 were
+    /// read and the text goes on.
     pub place: usize,
 }
 
-/// The pattern of a text: a standing for each process, 1 to 8 of them, parted by `; `. An error for any text that no pattern has, with the
-/// place of the first standing at fault.
+/// The pattern of a text: a standing for each process, 1 to 8 of them, parted by `; `. An error for
+/// any text that no pattern has, with the place of the first standing at fault.
 pub fn read_pattern(text: &[u8]) -> Result<Pattern, BadPattern>
     ensures ok { IfOk result (λ pattern. pattern_text pattern ≡ text.now) }
     ensures fits { IfOk result FitsPattern }
@@ -147,7 +148,8 @@ fn read_numbers(text: &[u8]) -> Option<(Numbers, bool)>
     }
 }
 
-/// The code of a fault behind a space, and whether ` idle` is not behind it. None for any other text.
+/// The code of a fault behind a space, and whether ` idle` is not behind it. None
+/// for any other text.
 fn read_code(text: &[u8]) -> Option<(u8, bool)>
     ensures some { IfSome result
         (λ (code, started). code_text code ++ idle_text started ≡ text.now) }
@@ -161,7 +163,8 @@ fn read_code(text: &[u8]) -> Option<(u8, bool)>
     Some((digit - b'0', started))
 }
 
-/// The digit 1 to 4 that stands behind a space at the beginning of a text, and what comes after it. None where there is none.
+/// The digit 1 to 4 that stands behind a space at the beginning of a text, and what comes after it.
+/// None where there is none.
 fn code_digit(text: &[u8]) -> Option<(u8, &[u8])>
     ensures some { IfSome result (λ (digit, after). 32 ∷ digit ∷ after.now ≡ text.now) }
     ensures code { IfSome result (λ (digit, after). (49 ≤ digit) × (digit ≤ 52)) }
@@ -175,7 +178,8 @@ fn code_digit(text: &[u8]) -> Option<(u8, &[u8])>
     }
 }
 
-/// Whether a process took a step, by the end of its text: ` idle` where it took none. None for any other text.
+/// Whether a process took a step, by the end of its text: ` idle` where it took none. None
+/// for any other text.
 fn read_idle(text: &[u8]) -> Option<bool>
     ensures some { IfSome result (λ started. idle_text started ≡ text.now) }
     ensures none { IfNone result ((started : Bool) → idle_text started ≢ text.now) }

@@ -1,4 +1,5 @@
--- The checks of a text that spells a source are the lines of its clauses, one after another; and the reader keeps their numbers.
+-- The checks of a text that spells a source are the lines of its clauses, one after another; and
+-- the reader keeps their numbers.
 use Rattle.std.proofs.Common.{◌≡◌, ℕ, zero, suc, ◌+◌, List, [], ◌∷◌, ◌++◌, length, length-append, map, append_assoc, append-nil, Option, Some, None, Result, Ok, inl, inr, refl, ap, sym, subst, ◌∙◌, arith, slice_get, MatchOption, IfSome}
 use Rattle.std.specs.Prelude.{option_map}
 use Rattle.std.specs.List.{flat_map}
@@ -14,8 +15,8 @@ use Rattle.reglang.specs.Faults.{Context, context_after_lines}
 use Rattle.reglang.specs.Forms.{read_line}
 use Rattle.reglang.specs.Grammar.{BlockSays, ElseSays, BodySays, Part, Process, Check, PartsSay, clauses_in, LinesSay, line_said, lines_said, Spells}
 use Rattle.reglang.specs.Lines.{lines}
-use Rattle.reglang.specs.declared.forms.Line.{Line}
-use Rattle.reglang.specs.declared.forms.Line.TheVariants as line
+use Rattle.reglang.specs.declared.arguments.Line.{Line}
+use Rattle.reglang.specs.declared.arguments.Line.TheVariants as line
 use Rattle.reglang.specs.declared.refusals.LineFault.{LineFault}
 use Rattle.reglang.proofs.Contexts.{StepsRead, context_of, steps_read}
 

@@ -17,8 +17,8 @@ use Rattle.reglang.specs.Sorts.{property_sorts, sorts_after}
 use Rattle.reglang.specs.Words.{word_of}
 use Rattle.reglang.specs.declared.arguments.Argument.{Argument}
 use Rattle.reglang.specs.declared.arguments.Argument.TheVariants as argument
-use Rattle.reglang.specs.declared.forms.Line.{Line}
-use Rattle.reglang.specs.declared.forms.Line.TheVariants as line
+use Rattle.reglang.specs.declared.arguments.Line.{Line}
+use Rattle.reglang.specs.declared.arguments.Line.TheVariants as line
 use Rattle.reglang.specs.declared.sorts.Sort.{Sort}
 use Rattle.reglang.specs.declared.sorts.Sort.TheVariants as sort
 use Rattle.reglang.specs.declared.vocabulary.Keyword.{Keyword}

@@ -1,4 +1,5 @@
--- What was read tells where the next line stands, and reading by whole values finds the first fault.
+-- What was read tells where the next line stands, and reading by whole values
+-- finds the first fault.
 use Rattle.std.proofs.Common.{◌≡◌, ℕ, suc, Bool, true, false, not, List, [], ◌∷◌, ◌++◌, length, map, Option, Some, None, Result, Ok, Err, refl, ap, sym, ◌∙◌, length-append, arith}
 use Rattle.std.specs.Prelude.{if◌then◌else◌, ◌&&◌, nat_lt, max}
 use Rattle.std.proofs.lemmas.Bool.{lt-ltb}
@@ -15,8 +16,8 @@ use Rattle.reglang.specs.Faults.{Context, at_start, context_after_line, context_
 use Rattle.reglang.specs.Forms.{read_line}
 use Rattle.reglang.specs.Grammar.{lines_said, line_said}
 use Rattle.uses.specs.Uses.{is_between, use_fits}
-use Rattle.reglang.specs.declared.forms.Line.{Line}
-use Rattle.reglang.specs.declared.forms.Line.TheVariants as line
+use Rattle.reglang.specs.declared.arguments.Line.{Line}
+use Rattle.reglang.specs.declared.arguments.Line.TheVariants as line
 use Rattle.reglang.specs.declared.reader.ReadFault.{ReadFault}
 use Rattle.uses.specs.declared.kinds.Use.{Use}
 use Rattle.reglang.specs.declared.refusals.LineFault.{LineFault}

@@ -9,8 +9,8 @@ use Rattle.reglang.specs.Lines.{words, is_printable}
 use Rattle.reglang.specs.Sorts.{kind_sorts, property_sorts, sorts_after}
 use Rattle.reglang.specs.Words.{word_of}
 use Rattle.reglang.specs.declared.arguments.Argument.TheVariants as argument
-use Rattle.reglang.specs.declared.forms.Line.{Line}
-use Rattle.reglang.specs.declared.forms.Line.TheVariants as line
+use Rattle.reglang.specs.declared.arguments.Line.{Line}
+use Rattle.reglang.specs.declared.arguments.Line.TheVariants as line
 use Rattle.reglang.specs.declared.sorts.Sort.{Sort}
 use Rattle.reglang.specs.declared.sorts.Sort.TheVariants as sort
 use Rattle.reglang.specs.declared.vocabulary.Keyword.{Keyword}
@@ -86,7 +86,8 @@ clause_of-take (w ∷ ws) = property_clause-take (property_of w) ws
 pub keyword_line_from : (key : Keyword) (more : List Word) → list_all is_known more ≡ true → list_any is_no_number more ≡ false → keyword_line key more ≡ or_fault NoForm (form_of key more)
 keyword_line_from key more known numbers = rw (known, numbers) refl
 
--- what the first six of the words behind a keyword tell, where none of the words counts before its form
+-- what the first six of the words behind a keyword tell, where none of the words
+-- counts before its form
 pub keyword_line_told : (key : Keyword) (more first : List Word) (form : Option Line) → form ≡ form_of key first → first ≡ take 6 more → list_all is_known more ≡ true → list_any is_no_number more ≡ false → or_fault NoForm form ≡ keyword_line key more
 keyword_line_told key more first form told six known numbers = ap (or_fault NoForm) (told ∙ ap (form_of key) six ∙ form_of-take key more) ∙ sym (keyword_line_from key more known numbers)
 

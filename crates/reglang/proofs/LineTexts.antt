@@ -8,8 +8,8 @@ use Rattle.regmodel.specs.Blocks.{block_of, with_stmt}
 use Rattle.regmodel.specs.declared.programs.Stmt.{Stmt}
 use Rattle.regmodel.specs.declared.programs.Stmt.TheVariants as stmt
 use Rattle.reglang.specs.Writing.{line_text, lines_text, else_lines, block_lines}
-use Rattle.reglang.specs.declared.forms.Line.{Line}
-use Rattle.reglang.specs.declared.forms.Line.TheVariants as line
+use Rattle.reglang.specs.declared.arguments.Line.{Line}
+use Rattle.reglang.specs.declared.arguments.Line.TheVariants as line
 
 -- one line and its end
 abbrev pub ended : Line → List ℕ

@@ -1,12 +1,13 @@
--- Where memory was refused: a line that may ask for it, where neither it nor one before it has a fault.
-use Rattle.std.proofs.Common.{◌≡◌, ℕ, ◌+◌, ◌-◌, true, List, [], get_or, take, Option, Result, Ok, Err, refl, ap, ◌∙◌, arith}
+-- Where memory was refused: a line that may ask for it, where neither it nor one
+-- before it has a fault.
+use Rattle.std.proofs.Common.{◌≡◌, ℕ, suc, ◌+◌, true, List, slice_get, take, Option, Result, Ok, Err, refl, ap, ◌∙◌, arith}
 use Rattle.std.specs.Prelude.{◌&&◌, is_none, IsOk}
+use Rattle.reglang.specs.Checks.{line_at}
 use Rattle.reglang.specs.Drafts.{Reading, take_if_said, IsRefusalOf, IsWantOf}
 use Rattle.reglang.specs.Faults.{Context, WantsMemory, are_faultless, asks, fault_of_line}
 use Rattle.reglang.specs.Forms.{read_line}
 use Rattle.reglang.specs.LineFaults.{refusal_code}
-use Rattle.reglang.specs.Lines.{lines}
-use Rattle.reglang.specs.declared.forms.Line.{Line}
+use Rattle.reglang.specs.declared.arguments.Line.{Line}
 use Rattle.reglang.specs.declared.refusals.LineFault.{LineFault}
 use Rattle.reglang.specs.declared.refusals.LineRefusal.{LineRefusal}
 use Rattle.reglang.specs.declared.refusals.LineRefusal.TheVariants as refusal
@@ -21,10 +22,11 @@ no_fault context reading read (Err wrong) same steps ok = absurd cc
 pub ran_out : (text rest line after : List ℕ) (reading : Reading) (n : ℕ) (refusal : LineRefusal) → IsLeft text reading n rest → IsCut rest line after → IsRefusalOf (take_if_said reading (read_line line)) refusal → IsWantOf (asks (read_line line)) refusal → WantsMemory text (record { line = n + 1; code = refusal_code refusal })
 ran_out text rest line after reading n (refusal.Fault wrong) h c e want nine = absurd (not_memory wrong nine)
 ran_out text rest line after reading n refusal.Memory h c e want nine =
-    let before : n + 1 - 1 ≡ n + 0 = omega arith in
-    let first : get_or (lines text) (n + 1 - 1) [] ≡ line = ap (λ m. get_or (lines text) m []) before ∙ (h.there 0 ∙ ap (λ ls. get_or ls 0 []) c.cut) in
+    let number : n + 1 ≡ suc (n + 0) = omega arith in
     record {
-      asked = ap (λ l. asks (read_line l)) first ∙ want;
+      bytes = line;
+      there = ap (λ m. line_at m text) number ∙ (h.there 0 ∙ ap (λ ls. slice_get ls 0) c.cut);
+      asked = want;
       faultless =
           h.passed 1 ∙ (ap (λ ls. are_faultless (context_of reading) (take 1 ls)) c.cut
           ∙ ap (λ t. t && true) (no_fault (context_of reading) reading (read_line line) _ refl (steps_read reading (read_line line)) e));

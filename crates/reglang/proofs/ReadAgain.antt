@@ -1,4 +1,5 @@
--- The text of lines within their limits is cut into the lines, each is cut into its words, and each line is read again.
+-- The text of lines within their limits is cut into the lines, each is cut into its words, and each
+-- line is read again.
 use Rattle.std.proofs.Common.{◌≡◌, ℕ, Bool, true, false, not, ◌&&◌, cond, eqb, leb, List, [], ◌∷◌, ◌++◌, map, Some, Ok, Err, IsOk, is_ok, codes, refl, ap, sym, ◌∙◌, subst, arith, append_assoc}
 use Rattle.std.specs.List.{All, AllByRecursion, flat_map, filter, list_all, slice_split}
 use Rattle.std.proofs.lemmas.Bool.{and_from, and_parts, cond-true, eqb-true, le-leb, leb-true}
@@ -12,7 +13,7 @@ use Rattle.reglang.specs.Grammar.{lines_said, line_said}
 use Rattle.reglang.specs.Lines.{is_empty, is_printable, lines, without_empty_end, words}
 use Rattle.reglang.specs.Words.{word_of}
 use Rattle.reglang.specs.Writing.{line_text, line_words, lines_text, word_text, words_text}
-use Rattle.reglang.specs.declared.forms.Line.{Line}
+use Rattle.reglang.specs.declared.arguments.Line.{Line}
 use Rattle.reglang.specs.declared.words.Word.{Word}
 use Rattle.reglang.specs.declared.refusals.LineFault.TheVariants.{NotPrintable}
 use Rattle.reglang.proofs.LineWords.{line_again, line_fits, words_fit}

@@ -1,5 +1,5 @@
 -- Reading by whole values answers just the source that a text spells, or its first fault.
-use Rattle.std.proofs.Common.{◌≡◌, ◌≢◌, ℕ, suc, ◌+◌, true, false, List, [], ◌∷◌, ◌++◌, length, get_or, take, Option, Some, None, Result, Ok, Err, refl, ap, sym, subst, ◌∙◌, arith}
+use Rattle.std.proofs.Common.{◌≡◌, ◌≢◌, ℕ, suc, ◌+◌, true, false, List, [], ◌∷◌, ◌++◌, length, slice_get, take, Option, Some, None, Result, Ok, Err, refl, ap, sym, subst, ◌∙◌, arith}
 use Rattle.std.specs.Prelude.{◌≤◌, ◌&&◌, IfSome, max, is_none, IsOk}
 use Rattle.std.specs.List.{AllByRecursion}
 use Rattle.std.proofs.lemmas.Bool.{lt-ltb}
@@ -10,7 +10,7 @@ use Rattle.reglang.specs.Faults.{are_faultless, at_start, context_after_lines, f
 use Rattle.reglang.specs.Forms.{read_line}
 use Rattle.reglang.specs.Grammar.{Spells, lines_said, line_said}
 use Rattle.reglang.specs.Lines.{lines}
-use Rattle.reglang.specs.declared.forms.Line.{Line}
+use Rattle.reglang.specs.declared.arguments.Line.{Line}
 use Rattle.reglang.specs.declared.reader.ReadFault.{ReadFault}
 use Rattle.reglang.specs.declared.refusals.LineRefusal.{LineRefusal}
 use Rattle.reglang.specs.declared.refusals.LineRefusal.TheVariants as refusal
@@ -72,7 +72,8 @@ one_source text a b h k = let e = spelled_read text a h in let f = spelled_read 
 pub faultless : (text : List ℕ) (source : Contents) → Spells text source → first_fault text ≡ None
 faultless text source h = subst (λ r. Agrees r (first_fault text)) (spelled_read text source h) (read_agrees text)
 
--- ---- the reader's loop: the text is read as what is left of it, after what was read, and no line before has a fault
+-- ---- the reader's loop: the text is read as what is left of it, after what was read, and no
+-- line before has a fault
 
 -- a line that is taken has no fault, and leads where the next one stands
 line_taken : (reading next : Reading) (line : List ℕ) (more : List (List ℕ)) → StepsRead reading (read_line line) (Ok next) → are_faultless (context_of reading) (line ∷ more) ≡ are_faultless (context_of next) more
@@ -89,7 +90,7 @@ pub record IsLeft (text : List ℕ) (reading : Reading) (n : ℕ) (rest : List �
   pub same : read_from Empty 0 (lines text) ≡ read_from reading n (lines rest)
   pub faultless : are_faultless at_start (lines text) ≡ are_faultless (context_of reading) (lines rest)
   pub passed : (k : ℕ) → are_faultless at_start (take (n + k) (lines text)) ≡ are_faultless (context_of reading) (take k (lines rest))
-  pub there : (k : ℕ) → get_or (lines text) (n + k) [] ≡ get_or (lines rest) k []
+  pub there : (k : ℕ) → slice_get (lines text) (n + k) ≡ slice_get (lines rest) k
 
 -- the first line of what is left, and what comes after it
 pub record IsCut (rest line after : List ℕ) : Type 0 where
@@ -111,7 +112,7 @@ left_next text rest line after reading next n h c e = record {
       ∙ line_taken reading next line (take k (lines after)) (subst (StepsRead reading (read_line line)) e (steps_read reading (read_line line)))));
   there = λ k.
       let further : n + 1 + k ≡ n + suc k = omega arith in
-      ap (λ m. get_or (lines text) m []) further ∙ (h.there (suc k) ∙ ap (λ ls. get_or ls (suc k) []) c.cut);
+      ap (slice_get (lines text)) further ∙ (h.there (suc k) ∙ ap (λ ls. slice_get ls (suc k)) c.cut);
 }
 
 pub left_refused : (text rest line after : List ℕ) (reading : Reading) (n : ℕ) (refusal : LineRefusal) → IsLeft text reading n rest → IsCut rest line after → IsRefusalOf (take_if_said reading (read_line line)) refusal → refusal_code refusal ≢ 9 → read_from Empty 0 (lines text) ≡ Err (record { line = n + 1; code = refusal_code refusal })

@@ -13,11 +13,8 @@ use Rattle.regmodel.specs.Limits.{operand_fits}
 use Rattle.reglang.specs.Lines.{is_empty}
 use Rattle.reglang.specs.Words.{is_digit, is_number, up_to_limit, number_of, only_below, variable_of, before_last, in_brackets, cell_or, cell_or_other, cell_word, variable_or, number_word, value_word, keywords, operators, kinds, properties, spelled_in, word_of}
 use Rattle.reglang.specs.Writing.{word_text}
-use Rattle.reglang.specs.declared.vocabulary.Keyword.{Keyword}
 use Rattle.reglang.specs.declared.vocabulary.Keyword.TheVariants as keyword
-use Rattle.reglang.specs.declared.vocabulary.Kind.{Kind}
 use Rattle.reglang.specs.declared.vocabulary.Kind.TheVariants as kind
-use Rattle.reglang.specs.declared.vocabulary.Property.{Property}
 use Rattle.reglang.specs.declared.vocabulary.Property.TheVariants as property
 use Rattle.reglang.specs.declared.words.Word.{Word}
 use Rattle.reglang.specs.declared.words.Word.TheVariants as word

@@ -1,4 +1,5 @@
--- Inside the crate: reading by whole values: what was read so far, and what one line more makes of it.
+-- Inside the crate: reading by whole values: what was read so far, and what one
+-- line more makes of it.
 use Rattle.std.specs.Prelude.{◌≡◌, ℕ, suc, ◌+◌, ◌<◌, ◌≤◌, Bool, true, false, ◌&&◌, if◌then◌else◌, List, [], ◌∷◌, ◌++◌, length, map, reverse, max, All, Option, Some, None, Result, Ok, Err, IfErr, IsOk, MatchResult, nat_lt}
 use Rattle.regmodel.specs.declared.clauses.Clause.{Clause}
 use Rattle.regmodel.specs.declared.programs.Expr.{Expr}
@@ -25,8 +26,8 @@ use Rattle.reglang.specs.declared.draft.Draft.{Draft}
 use Rattle.reglang.specs.declared.draft.Draft.TheVariants as draft
 use Rattle.reglang.specs.declared.refusals.LineRefusal.{LineRefusal}
 use Rattle.reglang.specs.declared.refusals.LineRefusal.TheVariants as refusal
-use Rattle.reglang.specs.declared.forms.Line.{Line}
-use Rattle.reglang.specs.declared.forms.Line.TheVariants as line
+use Rattle.reglang.specs.declared.arguments.Line.{Line}
+use Rattle.reglang.specs.declared.arguments.Line.TheVariants as line
 use Rattle.reglang.specs.declared.reader.ReadFault.{ReadFault}
 use Rattle.uses.specs.declared.kinds.Use.{Use}
 
@@ -43,7 +44,8 @@ program.Stop ⊕ more = more
 (program.Emit value rest) ⊕ more = program.Emit value (rest ⊕ more)
 (program.Halt rest) ⊕ more = program.Halt (rest ⊕ more)
 
--- an open block: its test or count, the first part where its `else` came, and what stands before it in the block around it
+-- an open block: its test or count, the first part where its `else` came, and what stands before it
+-- in the block around it
 pub data Frame : Type 0 where
   First : (test : Expr) (outer : Block) → Frame
   Second : (test : Expr) (first outer : Block) → Frame
@@ -59,8 +61,9 @@ opened_of (Turn count outer) = Repeat
 abbrev pub turns : List Frame → ℕ
 turns frames = repeats_in (map opened_of frames)
 
--- what was read so far: no line, whole processes and checks, or a process after them: its open blocks, the innermost first, the
--- statements of the innermost, and how many there are in all; or one of a use line
+-- what was read so far: no line, whole processes and checks, or a process after them: its open
+-- blocks, the innermost first, the statements of the innermost, and how many there are in all;
+-- or one of a use line
 pub data Reading : Type 0 where
   Empty : Reading
   Between : (before : Contents) → Reading
@@ -81,7 +84,10 @@ add before frames block n fits statement = if nat_lt n MOST_STATEMENTS && fits t
 
 -- one open block more
 abbrev pub enter : Contents → Frame → List Frame → ℕ → Bool → Result Reading LineFault
-enter before frame frames n fits = if nat_lt n MOST_STATEMENTS && fits && nat_lt (length frames) MOST_OPEN_BLOCKS then Ok (Inside before (frame ∷ frames) Stop (suc n)) else Err PastLimit
+enter before frame frames n fits =
+    if nat_lt n MOST_STATEMENTS && fits && nat_lt (length frames) MOST_OPEN_BLOCKS
+    then Ok (Inside before (frame ∷ frames) Stop (suc n))
+    else Err PastLimit
 
 -- the `else` of the innermost block, an `if` without one
 abbrev pub enter_else : Contents → List Frame → Block → ℕ → Result Reading LineFault
@@ -135,7 +141,8 @@ abbrev pub take_inside : Contents → List Frame → Block → ℕ → Line → 
 take_inside before frames block n (line.Set to value) = add before frames block n (target_fits to && expr_fits value) (program.Assign to value Stop)
 take_inside before frames block n (line.Read to from) = add before frames block n (target_fits to && operand_fits from) (program.Read to from Stop)
 take_inside before frames block n (line.Write to value) = add before frames block n (operand_fits to && expr_fits value) (program.Write to value Stop)
-take_inside before frames block n (line.Scan cell first count) = add before frames block n (scan_fits before.registers cell first count) (program.Scan cell first count Stop)
+take_inside before frames block n (line.Scan cell first count) =
+    add before frames block n (scan_fits before.registers cell first count) (program.Scan cell first count Stop)
 take_inside before frames block n (line.Emit value) = add before frames block n (expr_fits value) (program.Emit value Stop)
 take_inside before frames block n line.Halt = add before frames block n true (program.Halt Stop)
 take_inside before frames block n (line.If test) = enter before (First test block) frames n (expr_fits test)
@@ -196,7 +203,8 @@ read_from reading n (line ∷ lines) = goes_on (faulty_at (suc n) (take_if_said 
 
 -- ---- what is known of what was read
 
--- a block within the limits, where there are so many registers, and so many blocks and repeats are open around it
+-- a block within the limits, where there are so many registers, and so many blocks and
+-- repeats are open around it
 pub record BlockFits (registers blocks repeats : ℕ) (block : Block) : Type 0 where
   pub operands : operands_fit registers block ≡ true
   pub depth : open_blocks block + blocks ≤ MOST_OPEN_BLOCKS
@@ -205,9 +213,13 @@ pub record BlockFits (registers blocks repeats : ℕ) (block : Block) : Type 0 w
 -- open blocks, and the statements of the innermost
 abbrev pub FramesFit : ℕ → List Frame → Block → Type 0
 FramesFit r [] block = BlockFits r 0 0 block
-FramesFit r (First test outer ∷ frames) block = (expr_fits test ≡ true) × (BlockFits r (suc (length frames)) (turns frames) block × FramesFit r frames outer)
-FramesFit r (Second test first outer ∷ frames) block = (expr_fits test ≡ true) × (BlockFits r (suc (length frames)) (turns frames) first × (BlockFits r (suc (length frames)) (turns frames) block × FramesFit r frames outer))
-FramesFit r (Turn count outer ∷ frames) block = (expr_fits count ≡ true) × (BlockFits r (suc (length frames)) (suc (turns frames)) block × FramesFit r frames outer)
+FramesFit r (First test outer ∷ frames) block =
+    (expr_fits test ≡ true) × (BlockFits r (suc (length frames)) (turns frames) block × FramesFit r frames outer)
+FramesFit r (Second test first outer ∷ frames) block =
+    (expr_fits test ≡ true) × (BlockFits r (suc (length frames)) (turns frames) first
+    × (BlockFits r (suc (length frames)) (turns frames) block × FramesFit r frames outer))
+FramesFit r (Turn count outer ∷ frames) block =
+    (expr_fits count ≡ true) × (BlockFits r (suc (length frames)) (suc (turns frames)) block × FramesFit r frames outer)
 
 -- how many statements there are around the innermost block
 abbrev pub statements_around : List Frame → ℕ
@@ -268,7 +280,8 @@ is_turn (opened.First test outer) = false
 is_turn (opened.Second test first outer) = false
 is_turn (opened.Turn count outer) = true
 
--- a process with these blocks open, this innermost block and so many statements, after whole processes and checks
+-- a process with these blocks open, this innermost block and so many statements, after whole
+-- processes and checks
 abbrev pub open_with : Parts → List Open → Block → ℕ → Reading
 open_with before opens block n = Inside (contents_before before) (frames_of opens) block n
 
@@ -322,4 +335,6 @@ pub record AnswersLine (may_ask : Bool) (expected : Result Reading LineFault) (r
 -- the answer at the end of a text whose checks stand on these lines
 abbrev pub AnswersAtEnd : Reading → List ℕ → Result Source LineFault → Type 0
 AnswersAtEnd reading numbers result =
-    MatchResult result (λ source. (contents_at_end reading ≡ Ok (contents_of source)) × (check_lines_of source ≡ numbers)) (λ fault. contents_at_end reading ≡ Err fault)
+    MatchResult result
+    (λ source. (contents_at_end reading ≡ Ok (contents_of source)) × (check_lines_of source ≡ numbers))
+    (λ fault. contents_at_end reading ≡ Err fault)

@@ -73,8 +73,11 @@ no_number = refl
 pub no_forms : map of_third_line (codes "emit" ∷ codes "set 5 v0" ∷ codes "scan v0 0 1" ∷ []) ≡ replicate 3 (at 3 4)
 no_forms = refl
 
--- a value past the limit, a slot past the last, a 33rd cell, a scan of nothing, and of a third register
-pub past_the_limits : map of_third_line (codes "emit 1000000001" ∷ codes "use names 0 2 2" ∷ codes "scan 31 0 2" ∷ codes "scan 0 0 0" ∷ codes "scan 0 1 2" ∷ []) ≡ replicate 5 (at 3 6)
+-- a value past the limit, a slot past the last, a 33rd cell, a scan of nothing, and
+-- of a third register
+pub past_the_limits : map of_third_line
+    (codes "emit 1000000001" ∷ codes "use names 0 2 2" ∷ codes "scan 31 0 2" ∷ codes "scan 0 0 0" ∷ codes "scan 0 1 2" ∷ [])
+    ≡ replicate 5 (at 3 6)
 past_the_limits = refl
 
 -- a scan of both registers, and the last slot
@@ -97,6 +100,7 @@ fi_missing = refl
 pub process_before_registers : are_all_faultless (codes "process" ▹ codes "end" ▹ []) ≡ false
 process_before_registers = refl
 
--- memory may be refused at a statement and at the end of a process, and not where one begins, nor at a line that is skipped
+-- memory may be refused at a statement and at the end of a process, and not where one begins, nor
+-- at a line that is skipped
 pub lines_that_ask : map (λ line. asks (read_line line)) (codes "halt" ∷ codes "end" ∷ codes "process" ∷ codes "# halt" ∷ []) ≡ true ∷ true ∷ false ∷ false ∷ []
 lines_that_ask = refl

@@ -1,5 +1,5 @@
 -- The first fault of a text.
-use Rattle.std.specs.Prelude.{◌≡◌, ◌≢◌, ℕ, suc, ◌-◌, ◌≤◌, Bool, true, false, not, ◌&&◌, if◌then◌else◌, List, [], ◌∷◌, ◌++◌, length, max, get_or, take, Option, Some, None, IfSome, is_some, is_none, unwrap_or, option_map, Result, Ok, Err, nat_lt}
+use Rattle.std.specs.Prelude.{◌≡◌, ◌≢◌, ℕ, suc, ◌≤◌, Bool, true, false, not, ◌&&◌, if◌then◌else◌, List, [], ◌∷◌, ◌++◌, length, max, take, Option, Some, None, IfSome, is_some, is_none, unwrap_or, option_map, Result, Ok, Err, nat_lt}
 use Rattle.regmodel.specs.declared.limits.TheConstants.{MOST_CHECKS, MOST_OPEN_BLOCKS, MOST_OPEN_REPEATS, MOST_PROCESSES, MOST_REGISTERS, MOST_STATEMENTS}
 use Rattle.reglang.specs.declared.refusals.TheConstants.{NO_MEMORY}
 use Rattle.reglang.specs.LineFaults.{code_of, fault_of}
@@ -8,11 +8,12 @@ use Rattle.reglang.specs.declared.refusals.LineFault.TheVariants.{Misplaced, NoC
 use Rattle.regmodel.specs.Limits.{target_fits, operand_fits, expr_fits, scan_fits}
 use Rattle.reglang.specs.Lines.{lines}
 use Rattle.reglang.specs.Forms.{read_line}
+use Rattle.reglang.specs.Checks.{line_at}
 use Rattle.reglang.specs.Contents.{Contents}
 use Rattle.reglang.specs.Grammar.{Spells, line_said, lines_said}
 use Rattle.uses.specs.Uses.{is_between, use_fits}
-use Rattle.reglang.specs.declared.forms.Line.{Line}
-use Rattle.reglang.specs.declared.forms.Line.TheVariants as line
+use Rattle.reglang.specs.declared.arguments.Line.{Line}
+use Rattle.reglang.specs.declared.arguments.Line.TheVariants as line
 use Rattle.reglang.specs.declared.reader.ReadFault.{ReadFault}
 use Rattle.reglang.specs.declared.reader.Rejection.{Rejection}
 
@@ -24,13 +25,15 @@ pub data Opened : Type 0 where
   Else : Opened
   Repeat : Opened
 
--- outside processes, in one with these open blocks, the innermost first, and so many statements so far, or after a use line
+-- outside processes, in one with these open blocks, the innermost first, and so many statements so
+-- far, or after a use line
 pub data Place : Type 0 where
   Outside : Place
   Inside : (opened : List Opened) (statements : ℕ) → Place
   Used : Place
 
--- how many registers there are, where it was told; the processes and the checks so far; and the place
+-- how many registers there are, where it was told; the processes and the checks
+-- so far; and the place
 pub record Context : Type 0 where
   pub registers : Option ℕ
   pub processes : ℕ
@@ -253,10 +256,6 @@ asks (Ok (Some line)) = may_ask line
 asks (Ok None) = false
 asks (Err fault) = false
 
--- the line of a text with this number, counted from 1
-abbrev pub line_at : ℕ → List ℕ → List ℕ
-line_at number text = get_or (lines text) (number - 1) []
-
 -- ---- the first of them
 
 -- where a line stands that comes after these lines
@@ -272,7 +271,8 @@ abbrev pub or_later : Option ReadFault → Option ReadFault → Option ReadFault
 or_later (Some fault) later = Some fault
 or_later None later = later
 
--- the fault of the first of these lines that has one, where they come after others; else that of the end, on the last line
+-- the fault of the first of these lines that has one, where they come after others; else that of
+-- the end, on the last line
 abbrev pub fault_from : List (List ℕ) → List (List ℕ) → Option ReadFault
 fault_from before [] = at_line (max 1 (length before)) (end_fault (context_after before))
 fault_from before (line ∷ lines) =
@@ -302,7 +302,9 @@ HasNoneBefore text fault = IfSome (first_fault text) (λ first. fault.line ≤ f
 
 -- memory is refused on a line that may ask for it, where neither it nor a line before has a fault
 pub record RunsOut (text : List ℕ) (number : ℕ) : Type 0 where
-  pub asked : asks (read_line (line_at number text)) ≡ true
+  pub bytes : List ℕ
+  pub there : line_at number text ≡ Some bytes
+  pub asked : asks (read_line bytes) ≡ true
   pub faultless : are_faultless at_start (take number (lines text)) ≡ true
 
 -- so it is where this fault is that of memory

@@ -26,9 +26,10 @@ use Rattle.reglang.specs.declared.vocabulary.Kind.{Kind}
 use Rattle.reglang.specs.declared.vocabulary.Property.{Property}
 use Rattle.reglang.specs.declared.words.Word.{Word}
 use Rattle.reglang.specs.declared.words.Word.TheVariants as word
-use Rattle.reglang.specs.declared.forms.Line.{Line}
-use Rattle.reglang.specs.declared.forms.Line.TheVariants.{Check}
-use Rattle.reglang.specs.declared.forms.Line.TheVariants as line
+use Rattle.reglang.specs.declared.arguments.Line.{Line}
+use Rattle.reglang.specs.declared.forms.TheConstants.{MOST_WORDS}
+use Rattle.reglang.specs.declared.arguments.Line.TheVariants.{Check}
+use Rattle.reglang.specs.declared.arguments.Line.TheVariants as line
 
 -- the number that a word is
 abbrev pub number_in : Word → Option ℕ
@@ -169,4 +170,4 @@ read_line line = if is_printable line then line_of (words_said line) else Err No
 -- one word more is kept where there is room: whatever comes after, the first six are those that
 -- they would be
 abbrev pub KeepsFirst : List Word → Word → List Word → Type 0
-KeepsFirst old word new = (more : List Word) → take 6 (new ++ more) ≡ take 6 (old ++ word ∷ more)
+KeepsFirst old word new = (more : List Word) → take MOST_WORDS (new ++ more) ≡ take MOST_WORDS (old ++ word ∷ more)

@@ -7,9 +7,9 @@ use Rattle.regmodel.specs.Program.{Block}
 use Rattle.reglang.specs.Lines.{lines}
 use Rattle.reglang.specs.Forms.{read_line}
 use Rattle.reglang.specs.Contents.{Body, Text, Kind, Contents, IsSourceWithin}
-use Rattle.reglang.specs.declared.forms.Line.{Line}
+use Rattle.reglang.specs.declared.arguments.Line.{Line}
 use Rattle.reglang.specs.declared.refusals.LineFault.{LineFault}
-use Rattle.reglang.specs.declared.forms.Line.TheVariants as line
+use Rattle.reglang.specs.declared.arguments.Line.TheVariants as line
 
 -- one line, and after it lines of which `rest` holds
 pub record Begins (first : Line) (rest : List Line → Type 0) (lines : List Line) : Type 0 where

@@ -6,7 +6,7 @@ use Rattle.regmodel.specs.declared.programs.Operand.TheVariants.{Var}
 use Rattle.regmodel.specs.Program.{Block, Stop, Scan, If, Halt}
 use Rattle.reglang.specs.Contents.{Contents, Text}
 use Rattle.reglang.specs.Grammar.{BlockSays, LinesSay, Process, lines_said}
-use Rattle.reglang.specs.declared.forms.Line.TheVariants as line
+use Rattle.reglang.specs.declared.arguments.Line.TheVariants as line
 
 -- a process that is done at once
 abbrev halts : Contents
@@ -60,7 +60,13 @@ with_else = record {
     back = line.Else ∷ line.Fi ∷ [];
     whole = refl;
     before = refl;
-    after = record { front = line.Else ∷ []; back = line.Fi ∷ []; whole = refl; before = inr (record { more = []; whole = refl; holds = refl }); after = record { more = []; whole = refl; holds = refl } };
+    after = record {
+      front = line.Else ∷ [];
+      back = line.Fi ∷ [];
+      whole = refl;
+      before = inr (record { more = []; whole = refl; holds = refl });
+      after = record { more = []; whole = refl; holds = refl };
+    };
   };
 }
 

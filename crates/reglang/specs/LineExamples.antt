@@ -9,14 +9,16 @@ use Rattle.reglang.specs.declared.refusals.LineFault.TheVariants.{NotPrintable, 
 use Rattle.reglang.specs.Forms.{arguments, read_line}
 use Rattle.uses.specs.declared.kinds.Use.TheVariants as use_line
 use Rattle.reglang.specs.declared.arguments.Argument.TheVariants as argument
-use Rattle.reglang.specs.declared.forms.Line.TheVariants as line
+use Rattle.reglang.specs.declared.arguments.Line.TheVariants as line
 use Rattle.reglang.specs.declared.sorts.Sort.TheVariants as sort
 use Rattle.reglang.specs.declared.words.Word.TheVariants as word
 
 -- ---- arguments
 
 -- a target, and an expression of three words
-pub target_and_sum : arguments (sort.Target ∷ sort.Expression ∷ []) (word.Operand (operand.Var 2) ∷ word.Operand (operand.Cell 0) ∷ word.Operator op.Add ∷ word.Operand (operand.Number 1) ∷ []) ≡ Some (argument.Target (target.Var 2) ∷ argument.Expression (expr.Two (operand.Cell 0) op.Add (operand.Number 1)) ∷ [])
+pub target_and_sum : arguments (sort.Target ∷ sort.Expression ∷ [])
+    (word.Operand (operand.Var 2) ∷ word.Operand (operand.Cell 0) ∷ word.Operator op.Add ∷ word.Operand (operand.Number 1) ∷ [])
+    ≡ Some (argument.Target (target.Var 2) ∷ argument.Expression (expr.Two (operand.Cell 0) op.Add (operand.Number 1)) ∷ [])
 target_and_sum = refl
 
 -- a number past its limit
@@ -37,7 +39,8 @@ tab = refl
 pub skipped : map read_line (codes "  # registers 1" ∷ codes "   " ∷ []) ≡ replicate 2 (Ok None)
 skipped = refl
 
--- a number where the line begins, a variable past v15, and an unknown word, which counts before a number that is none
+-- a number where the line begins, a variable past v15, and an unknown word, which counts before a
+-- number that is none
 pub unknown : map read_line (codes "1" ∷ codes "set v16 1" ∷ codes "emit 007 x" ∷ []) ≡ replicate 3 (Err UnknownWord)
 unknown = refl
 
@@ -45,7 +48,8 @@ unknown = refl
 pub no_numbers : map read_line (codes "emit 007" ∷ codes "end 1a" ∷ []) ≡ replicate 2 (Err NoNumber)
 no_numbers = refl
 
--- no value, a number for a target, a word for a scan's cell that is none, and a scan without a count
+-- no value, a number for a target, a word for a scan's cell that is none, and a
+-- scan without a count
 pub out_of_form : map read_line (codes "emit" ∷ codes "set 5 v0" ∷ codes "scan [0] 30 2" ∷ codes "scan 0 30" ∷ []) ≡ replicate 4 (Err NoForm)
 out_of_form = refl
 

@@ -1,4 +1,5 @@
--- The one text that is written of a source: no comment, no empty line, no space but the one between two words.
+-- The one text that is written of a source: no comment, no empty line, no space but the
+-- one between two words.
 use Rattle.std.specs.Prelude.{◌≡◌, ℕ, List, [], ◌∷◌, ◌++◌, map, Some, codes, decimal}
 use Rattle.std.specs.List.{flat_map, join_by}
 use Rattle.regmodel.specs.declared.programs.Target.{Target}
@@ -24,8 +25,8 @@ use Rattle.reglang.specs.declared.source.Process.{Process}
 use Rattle.reglang.specs.declared.source.Source.{Source}
 use Rattle.reglang.specs.declared.words.Word.{Word}
 use Rattle.reglang.specs.declared.words.Word.TheVariants as word
-use Rattle.reglang.specs.declared.forms.Line.{Line}
-use Rattle.reglang.specs.declared.forms.Line.TheVariants as line
+use Rattle.reglang.specs.declared.arguments.Line.{Line}
+use Rattle.reglang.specs.declared.arguments.Line.TheVariants as line
 
 -- a number between two pieces of text
 abbrev pub between : List ℕ → ℕ → List ℕ → List ℕ

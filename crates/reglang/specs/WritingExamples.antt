@@ -10,9 +10,10 @@ use Rattle.regmodel.specs.Program as program
 use Rattle.reglang.specs.Contents.{Text, Kind}
 use Rattle.reglang.specs.Writing.{line_text, source_text}
 use Rattle.uses.specs.declared.kinds.Use.TheVariants as use_line
-use Rattle.reglang.specs.declared.forms.Line.TheVariants as line
+use Rattle.reglang.specs.declared.arguments.Line.TheVariants as line
 
-pub write_line : line_text (line.Write (operand.Number 0) (expr.Two (operand.CellOf 15) op.Add (operand.Number 1000000000))) ≡ codes "write 0 [v15] + 1000000000"
+pub write_line : line_text (line.Write (operand.Number 0) (expr.Two (operand.CellOf 15) op.Add (operand.Number 1000000000)))
+    ≡ codes "write 0 [v15] + 1000000000"
 unfolding digits
 write_line = refl
 
@@ -36,7 +37,9 @@ one_part = refl
 -- an `else` before a second part, where the first one is empty; and a use line
 pub second_part : source_text (record {
   registers = 2;
-  processes = Text (program.If (expr.One (operand.Cell 31)) program.Stop (program.Read (target.Var 1) (operand.Number 0) program.Stop) program.Stop) ∷ Kind (use_line.Split 0 7) ∷ [];
+  processes =
+      Text (program.If (expr.One (operand.Cell 31)) program.Stop (program.Read (target.Var 1) (operand.Number 0) program.Stop) program.Stop)
+      ∷ Kind (use_line.Split 0 7) ∷ [];
   clauses = [];
 }) ≡ codes "registers 2\nprocess\nif [31]\nelse\nread v1 0\nfi\nend\nprocess\nuse split 0 7\nend\n"
 unfolding digits
@@ -45,7 +48,9 @@ second_part = refl
 -- a scan in a block, and a renaming that scans
 pub scans : source_text (record {
   registers = 2;
-  processes = Text (program.Repeat (expr.One (operand.Number 3)) (program.Scan 0 1 1 program.Stop) (program.Halt program.Stop)) ∷ Kind (use_line.Names 0 2 0) ∷ [];
+  processes =
+      Text (program.Repeat (expr.One (operand.Number 3)) (program.Scan 0 1 1 program.Stop) (program.Halt program.Stop))
+      ∷ Kind (use_line.Names 0 2 0) ∷ [];
   clauses = [];
 }) ≡ codes "registers 2\nprocess\nrepeat 3\nscan 0 1 1\ndone\nhalt\nend\nprocess\nuse names 0 2 0\nend\n"
 unfolding digits

@@ -4,12 +4,49 @@ ghost use Rattle.std.specs.Prelude.{◌≡◌, ◌≤◌, ◌∷◌, [], length,
 ghost use Rattle.reglang.specs.Arguments as spec;
 ghost use Rattle.reglang.specs.declared.arguments.Argument.TheVariants.{Number};
 
-use crate::forms::Line;
 use crate::sorts::MOST_ARGUMENTS;
 use crate::vocabulary::{Keyword, Kind, Property};
 use arrayvec::ArrayVec;
 use regmodel::{Clause, Expr, Operand, Target};
 use uses::Use;
+
+/// What a line says that is not skipped.
+#[derive(Clone, Copy)]
+pub enum Line {
+    /// There are so many registers.
+    Registers(u32),
+    /// A process begins.
+    Process,
+    /// A process ends.
+    End,
+    /// The expression's value is stored in the target.
+    Set(Target, Expr),
+    /// The register with the operand's number is read into the target.
+    Read(Target, Operand),
+    /// The expression's value is written into the register with the operand's number.
+    Write(Operand, Expr),
+    /// Registers are read at once: the first cell that is stored to, the first
+    /// register, and how many.
+    Scan(u32, u32, u32),
+    /// What follows runs where the value is not 0.
+    If(Expr),
+    /// What follows runs where the value of the `if` is 0.
+    Else,
+    /// An `if` ends.
+    Fi,
+    /// What follows runs as often as the value says.
+    Repeat(Expr),
+    /// A `repeat` ends.
+    Done,
+    /// The value is appended to the result.
+    Emit(Expr),
+    /// The process is done with its numbers.
+    Halt,
+    /// The whole process is the expansion of a kind.
+    Use(Use),
+    /// A property of outcomes; none where the words are no clause.
+    Check(Option<Clause>),
+}
 
 /// What stands at a place of a line.
 #[derive(Clone, Copy)]
@@ -199,7 +236,8 @@ fn numbers(numbers: &[u32]) -> Arguments
     arguments
 }
 
-/// The first word of a line and its arguments; those of a use and of a check are told by `use_parts` and `clause_parts`.
+/// The first word of a line and its arguments; those of a use and of a check are told by
+/// `use_parts` and `clause_parts`.
 pub fn line_parts(line: Line) -> (Keyword, Arguments)
     ensures key { result.0 ≡ (spec.line_parts line).0 }
     ensures arguments { result.1.items ≡ (spec.line_parts line).1 }

@@ -5,7 +5,7 @@ ghost use Rattle.reglang.specs.Drafts as spec;
 ghost use Rattle.reglang.specs.Drafts.{AnswersAtEnd, AnswersLine, ReadingFits, reading_of, take_line};
 ghost use Rattle.reglang.specs.Faults.{may_ask};
 
-use crate::forms::Line;
+use crate::arguments::Line;
 use crate::open_process::OpenProcess;
 use crate::parts::Parts;
 use crate::refusals::{LineFault, LineRefusal};
@@ -42,7 +42,8 @@ impl Draft {
         }
     }
 
-    /// The source that was read, at the end of the text, whose checks stand on these lines; or the end's fault.
+    /// The source that was read, at the end of the text, whose checks stand on these lines;
+    /// or the end's fault.
     pub fn finish(self, check_lines: ArrayVec<u64, 16>) -> Result<Source, LineFault>
         requires { ReadingFits (reading_of self) }
         ensures { AnswersAtEnd (reading_of self) check_lines.items result }

@@ -4,8 +4,9 @@ ghost use Rattle.std.specs.Prelude.{◌≡◌, ◌≤◌, ◌&&◌, ◌||◌, le
 ghost use Rattle.std.specs.List.{list_all, list_any};
 ghost use Rattle.reglang.specs.Forms as spec;
 ghost use Rattle.reglang.specs.Forms.{KeepsFirst, words_said};
+ghost use Rattle.reglang.specs.declared.forms.TheConstants.{MOST_WORDS};
 
-use crate::arguments::{clause_with, line_with, use_with};
+use crate::arguments::{Line, clause_with, line_with, use_with};
 use crate::lines::{is_printable, split_word};
 use crate::operands::{arguments, kind_of, property_of};
 use crate::refusals::LineFault;
@@ -13,45 +14,7 @@ use crate::sorts::{kind_sorts, property_sorts, sorts_after};
 use crate::vocabulary::Keyword;
 use crate::words::{Word, word_of};
 use arrayvec::ArrayVec;
-use regmodel::{Clause, Expr, Operand, Target};
-use uses::Use;
-
-/// What a line says that is not skipped.
-#[derive(Clone, Copy)]
-pub enum Line {
-    /// There are so many registers.
-    Registers(u32),
-    /// A process begins.
-    Process,
-    /// A process ends.
-    End,
-    /// The expression's value is stored in the target.
-    Set(Target, Expr),
-    /// The register with the operand's number is read into the target.
-    Read(Target, Operand),
-    /// The expression's value is written into the register with the operand's number.
-    Write(Operand, Expr),
-    /// Registers are read at once: the first cell that is stored to, the first register, and how many.
-    Scan(u32, u32, u32),
-    /// What follows runs where the value is not 0.
-    If(Expr),
-    /// What follows runs where the value of the `if` is 0.
-    Else,
-    /// An `if` ends.
-    Fi,
-    /// What follows runs as often as the value says.
-    Repeat(Expr),
-    /// A `repeat` ends.
-    Done,
-    /// The value is appended to the result.
-    Emit(Expr),
-    /// The process is done with its numbers.
-    Halt,
-    /// The whole process is the expansion of a kind.
-    Use(Use),
-    /// A property of outcomes; none where the words are no clause.
-    Check(Option<Clause>),
-}
+use regmodel::Clause;
 
 /// One more than the longest line has after its first word.
 const MOST_WORDS: usize = 6;
@@ -71,7 +34,7 @@ impl LaterWords {
     /// One more word.
     fn add(&mut self, word: Word)
         ensures first { KeepsFirst self.old.first.items word self.new.first.items }
-        ensures few { length self.new.first.items ≤ 6 }
+        ensures few { length self.new.first.items ≤ MOST_WORDS }
         ensures known { self.new.known ≡ (self.old.known && spec.is_known word) }
         ensures no_number { self.new.no_number ≡ (self.old.no_number || spec.is_no_number word) }
     {
@@ -84,7 +47,7 @@ impl LaterWords {
 /// Appends a word where there is room.
 fn keep(first: &mut ArrayVec<Word, MOST_WORDS>, word: Word)
     ensures first { KeepsFirst first.old.items word first.new.items }
-    ensures few { length first.new.items ≤ 6 }
+    ensures few { length first.new.items ≤ MOST_WORDS }
 {
     if first.is_full() {
         return;
@@ -104,7 +67,7 @@ pub fn is_known(word: Word) -> bool
 
 /// The words of what follows the first word of a line.
 fn later_words(line: &[u8]) -> LaterWords
-    ensures first { result.first.items ≡ take 6 (words_said line.now) }
+    ensures first { result.first.items ≡ take MOST_WORDS (words_said line.now) }
     ensures known { result.known ≡ list_all spec.is_known (words_said line.now) }
     ensures no_number { result.no_number ≡ list_any spec.is_no_number (words_said line.now) }
 {
@@ -151,8 +114,9 @@ fn form_of(key: Keyword, more: &[Word]) -> Option<Line>
     }
 }
 
-/// What a line says whose first word is this, no check. Its first fault where a later word is unknown, one begins with a digit and is no
-/// number word, or the words have no form of the first one.
+/// What a line says whose first word is this, no check. Its first fault where a later
+/// word is unknown, one begins with a digit and is no number word, or the words have no
+/// form of the first one.
 fn keyword_line(key: Keyword, rest: &[u8]) -> Result<Option<Line>, LineFault>
     ensures { result ≡ spec.keyword_line key (words_said rest.now) }
 {
@@ -169,9 +133,11 @@ fn keyword_line(key: Keyword, rest: &[u8]) -> Result<Option<Line>, LineFault>
     }
 }
 
-/// What a line says; none where it has no words or its first word begins with `#`. Else its first fault: `NotPrintable` where a byte is not
-/// in 32 to 126; `UnknownWord` where the first word begins no line or, the line being no check, a later word is unknown; `NoNumber` where,
-/// the line being no check, a word begins with a digit and is no number word; `NoForm` where the words have no form of the first one.
+/// What a line says; none where it has no words or its first word begins with `#`. Else its first
+/// fault: `NotPrintable` where a byte is not in 32 to 126; `UnknownWord` where the first word
+/// begins no line or, the line being no check, a later word is unknown; `NoNumber` where, the line
+/// being no check, a word begins with a digit and is no number word; `NoForm` where the words have
+/// no form of the first one.
 pub fn read_line(line: &[u8]) -> Result<Option<Line>, LineFault>
     ensures { result ≡ spec.read_line line.now }
 {

@@ -14,7 +14,8 @@ pub fn a_text_spells_at_most_one_source()
     ensures faultless { (text : List ℕ) (a : Contents) → Spells text a → first_fault text ≡ None }
 {}
 
-/// A text spells a source where it is only known that it does so in some way, as a ghost field can say.
+/// A text spells a source where it is only known that it does so in some way, as a
+/// ghost field can say.
 pub fn what_is_spelled_is_known()
     ensures { (text : List ℕ) (source : Source) → ∥ Spells text (contents_of source) ∥₁
         → Spells text (contents_of source) }

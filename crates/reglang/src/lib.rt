@@ -18,8 +18,8 @@ mod vocabulary;
 mod words;
 mod writer;
 
-pub use arguments::Argument;
-pub use forms::{Line, is_known, read_line};
+pub use arguments::{Argument, Line};
+pub use forms::{is_known, read_line};
 pub use lines::{split_line, split_word, without_indent};
 pub use operands::{argument_of, kind_of, number_in, operator_of, property_of, target_of};
 pub use reader::{ReadFault, Rejection, read_source, read_text};

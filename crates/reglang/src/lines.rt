@@ -40,7 +40,8 @@ fn place_of(bytes: &[u8], byte: u8) -> Option<usize>
     bytes.iter().position(|b| *b == byte)
 }
 
-/// What stands before the first byte of this value and after it, or all and nothing where there is none.
+/// What stands before the first byte of this value and after it, or all and nothing
+/// where there is none.
 fn cut_at(bytes: &[u8], byte: u8) -> (&[u8], &[u8])
     ensures before { result.0.now ≡ before_first (λ b. b == byte) bytes.now }
     ensures after { result.1.now ≡ after_first (λ b. b == byte) bytes.now }

@@ -5,10 +5,10 @@ ghost use Rattle.regmodel.specs.Program.{Stop};
 ghost use Rattle.reglang.specs.Drafts.{Answers, AnswersLine, Inside, ReadingFits, add_to, contents_before};
 ghost use Rattle.reglang.specs.Drafts.{entered, inside_of, is_turn, may_enter, open_with, pushed, take_line};
 ghost use Rattle.reglang.specs.Faults.{may_ask};
-ghost use Rattle.reglang.specs.declared.forms.Line.TheVariants as line;
+ghost use Rattle.reglang.specs.declared.arguments.Line.TheVariants as line;
 
+use crate::arguments::Line;
 use crate::draft::Draft;
-use crate::forms::Line;
 use crate::parts::Parts;
 use crate::refusals::{LineFault, LineRefusal};
 use crate::source::Process;

@@ -106,8 +106,8 @@ pub fn argument_of(sort: Sort, word: Word) -> Option<Argument>
     }
 }
 
-/// The arguments of these sorts that words are: one word is one argument, but an expression is all the words that are left.
-/// None for any other words.
+/// The arguments of these sorts that words are: one word is one argument, but an expression is all
+/// the words that are left. None for any other words.
 pub fn arguments(sorts: Sorts, words: &[Word]) -> Option<Arguments>
     ensures { option_map (λ list. list.items) result ≡ spec.arguments sorts.list.now words.now }
 {

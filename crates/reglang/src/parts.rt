@@ -3,8 +3,8 @@
 ghost use Rattle.std.specs.Prelude.{◌≡◌, All, true};
 ghost use Rattle.reglang.specs.Bodies.{is_over};
 
+use crate::arguments::Line;
 use crate::draft::Draft;
-use crate::forms::Line;
 use crate::open_process::OpenProcess;
 use crate::refusals::{LineFault, LineRefusal};
 use crate::source::{Process, Source};
@@ -30,7 +30,7 @@ impl Parts {
     ghost use Rattle.reglang.specs.Drafts.{Answers, AnswersAtEnd, AnswersLine, Between, ReadingFits};
     ghost use Rattle.reglang.specs.Faults.{may_ask};
     ghost use Rattle.reglang.specs.Drafts.{begun, contents_before, with_body};
-    ghost use Rattle.reglang.specs.declared.forms.Line.TheVariants as line;
+    ghost use Rattle.reglang.specs.declared.arguments.Line.TheVariants as line;
     ghost use Rattle.reglang.specs.declared.source.Process.TheVariants as process;
 
     /// So many registers, and nothing else so far.

@@ -9,8 +9,9 @@ ghost use Rattle.reglang.specs.Grammar.{Spells};
 ghost use Rattle.reglang.specs.LineFaults.{fault_of};
 ghost use Rattle.reglang.specs.Sources.{check_lines_of, contents_of};
 
+use crate::arguments::Line;
 use crate::draft::Draft;
-use crate::forms::{Line, read_line};
+use crate::forms::read_line;
 use crate::lines::split_line;
 use crate::refusals::LineRefusal;
 use crate::source::Source;
@@ -23,11 +24,12 @@ use thiserror::Error;
 #[derive(Clone, Copy, PartialEq, Eq, Debug, Error)]
 #[error("line {line} code {code}")]
 pub struct ReadFault {
-    /// The line that was refused, counted from 1; at the end of the text the last one, or 1 where there is none.
+    /// The line that was refused, counted from 1; at the end of the text the last one, or 1
+    /// where there is none.
     pub line: u64,
-    /// Of the first fault of the text: 1 a byte not in 32 to 126, 2 an unknown word, 3 no number word, 4 no form of its first
-    /// word, 5 a line that cannot stand there, 6 a limit, 7 a line before `registers`, 8 no clause; or 9 where a request for
-    /// memory was refused.
+    /// Of the first fault of the text: 1 a byte not in 32 to 126, 2 an unknown word, 3 no number
+    /// word, 4 no form of its first word, 5 a line that cannot stand there, 6 a limit, 7 a line
+    /// before `registers`, 8 no clause; or 9 where a request for memory was refused.
     pub code: u8,
 }
 
@@ -65,9 +67,10 @@ impl Rejection {
     }
 }
 
-/// Reads the source of a text, in one pass. A refused text has the code of its first fault, 1 to 8, and its line; code 9 is
-/// answered only where a request for memory was refused, with the line then being read: a statement, or a line that parts or
-/// ends a block or ends a process. Neither it nor a line before it has a fault then.
+/// Reads the source of a text, in one pass. A refused text has the code of its first fault, 1 to 8,
+/// and its line; code 9 is answered only where a request for memory was refused, with the line then
+/// being read: a statement, or a line that parts or ends a block or ends a process. Neither it nor
+/// a line before it has a fault then.
 pub fn read_source(alloc: Global, text: &[u8]) -> Result<Source, ReadFault>
     ensures spelled { IfOk result (λ source. Spells text.now (contents_of source)) }
     ensures lines { IfOk result (λ source. check_lines_of source ≡ check_lines text.now) }
@@ -84,8 +87,9 @@ pub fn read_source(alloc: Global, text: &[u8]) -> Result<Source, ReadFault>
     }
 }
 
-/// Reads the source of a text as `read_source` does, and tells of a refused text, too, whether its first fault is that of its end. The end is
-/// at fault where no line is; it never is where memory was refused.
+/// Reads the source of a text as `read_source` does, and tells of a refused text, too, whether
+/// its first fault is that of its end. The end is at fault where no line is; it never is where
+/// memory was refused.
 pub fn read_text(alloc: Global, text: &[u8]) -> Result<Source, Rejection>
     ensures spelled { IfOk result (λ source. Spells text.now (contents_of source)) }
     ensures lines { IfOk result (λ source. check_lines_of source ≡ check_lines text.now) }

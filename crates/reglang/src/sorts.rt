@@ -43,7 +43,8 @@ impl Sorts {
     }
 }
 
-/// What follows a first word. After `use` comes a kind and after `check` a property, and then what follows these.
+/// What follows a first word. After `use` comes a kind and after `check` a property, and then
+/// what follows these.
 pub fn sorts_after(key: Keyword) -> Sorts
     ensures { result.list.now ≡ spec.sorts_after key }
 {

@@ -26,7 +26,8 @@ impl Process {
     ghost use Rattle.reglang.specs.Contents.{program_over};
     ghost use Rattle.reglang.specs.Bodies.{body_of};
 
-    /// What it runs: a copy of its own program, or its expansion. An error where a request for memory was refused.
+    /// What it runs: a copy of its own program, or its expansion. An error where a request for
+    /// memory was refused.
     fn prog(&self, alloc: Global, registers: u32) -> Result<Prog, OutOfMemory>
         requires { is_over registers self.now ≡ true }
         ensures { IfOk result (λ p. program_of p ≡ program_over registers (body_of self.now)) }
@@ -44,7 +45,8 @@ impl Process {
     }
 }
 
-/// 1 to 8 processes, all over the same 1 to 64 registers, and at most 16 clauses; always within the limits.
+/// 1 to 8 processes, all over the same 1 to 64 registers, and at most 16 clauses;
+/// always within the limits.
 #[derive(Debug, Drop)]
 pub struct Source {
     registers: u32,
@@ -132,7 +134,8 @@ impl Source {
         &self.clauses
     }
 
-    /// The numbers of the lines that are the checks of the text that was read, counted from 1: that of each clause, in their order.
+    /// The numbers of the lines that are the checks of the text that was read, counted from 1: that
+    /// of each clause, in their order.
     pub fn check_lines(&self) -> &[u64]
         ensures { result.now ≡ check_lines_of self.now }
     {

@@ -1,4 +1,5 @@
-//! The words of the language that have one spelling: the first words of lines, the operators, the kinds of use lines and the properties.
+//! The words of the language that have one spelling: the first words of lines, the operators, the
+//! kinds of use lines and the properties.
 
 use regmodel::Op;
 

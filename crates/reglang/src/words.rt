@@ -75,7 +75,8 @@ fn value_of(digits: &[u8]) -> u32
     value
 }
 
-/// The value of a number word; 1000000001 stands for each value past 1000000000. None for any other word.
+/// The value of a number word; 1000000001 stands for each value past 1000000000. None
+/// for any other word.
 fn number_of(word: &[u8]) -> Option<u32>
     ensures { result ≡ spec.number_of word.now }
 {

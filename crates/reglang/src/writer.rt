@@ -9,14 +9,15 @@ ghost use Rattle.reglang.specs.Writing.{process_text, processes_text, stmts_text
 mod lines;
 mod words;
 
-use crate::forms::Line;
+use crate::arguments::Line;
 use crate::source::{Process, Source};
 use lines::push_line;
 use regmodel::{Clause, OutOfMemory, Stmt};
 
-/// Appends the one text that is written of a source: its `registers` line, its processes and its checks in their order, words
-/// parted by one space, `else` only before a second part that is not empty, each line ended by a byte 10. `read_source` reads
-/// the source from it again. After an error, a request for memory that was refused, `out` is as before.
+/// Appends the one text that is written of a source: its `registers` line, its processes and its
+/// checks in their order, words parted by one space, `else` only before a second part that is not
+/// empty, each line ended by a byte 10. `read_source` reads the source from it again. After an
+/// error, a request for memory that was refused, `out` is as before.
 pub fn write_source(source: &Source, out: &mut Vec<u8>) -> Result<(), OutOfMemory>
     ensures text { OnOk result (out.new.items ≡ out.old.items ++ text_of source.now) }
     ensures spells { OnOk result (Spells (text_of source.now) (contents_of source.now)) }
@@ -96,7 +97,8 @@ fn push_stmt(text: &mut Vec<u8>, stmt: &Stmt) -> Result<(), OutOfMemory>
     }
 }
 
-/// Appends an `else` and the lines of the second part of an `if`, or nothing where that part is empty.
+/// Appends an `else` and the lines of the second part of an `if`, or nothing where
+/// that part is empty.
 #[cycle(writing)]
 fn push_second(text: &mut Vec<u8>, second: &[Stmt]) -> Result<(), OutOfMemory>
     ensures { OnOk result (text.new.items ≡ text.old.items ++ else_text second.now) }

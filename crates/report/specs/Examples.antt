@@ -17,7 +17,8 @@ found_of_both = record {
   least = None;
 }
 
-pub report_of_both : report_text found_of_both ≡ codes "processes 2\nlength 2\ncrashes 0\ntried 2\noutcomes 2\noutcome done; done 0\noutcome done; done 5\nleast none\n"
+pub report_of_both : report_text found_of_both
+    ≡ codes "processes 2\nlength 2\ncrashes 0\ntried 2\noutcomes 2\noutcome done; done 0\noutcome done; done 5\nleast none\n"
 unfolding digits
 report_of_both = refl
 

@@ -22,6 +22,5 @@ pub use parts::{MOST_PARTS, Part};
 pub use reports::Report;
 pub use tallied::Tallied;
 pub use writing::{
-    CodedLines, LeastLines, OutcomeLines, write_exploration, write_least, write_report,
-    write_standing,
+    CodedLines, LeastLines, write_exploration, write_least, write_report, write_standing,
 };

@@ -17,7 +17,8 @@ pub struct Part {
 }
 
 impl Part {
-    /// The part with this number, of so many. None where the number is 0 or past the count, and where there are more than 65536 parts.
+    /// The part with this number, of so many. None where the number is 0 or past the count, and
+    /// where there are more than 65536 parts.
     pub fn new(number: u32, count: u32) -> Option<Part>
         ensures value { IfSome result (λ part. (part.number ≡ number) × (part.count ≡ count)) }
         ensures fits { IsSome result ↔ (1 ≤ number) × (number ≤ count) × (count ≤ MOST_PARTS) }

@@ -18,7 +18,8 @@ pub trait Text {
         ensures { Adds W.contents out.old block.old out.new block.new (text self.now) result };
 }
 
-/// Writes a text: the writer is called once for many bytes. After a fault it has taken a beginning of the text.
+/// Writes a text: the writer is called once for many bytes. After a fault it has taken a
+/// beginning of the text.
 pub fn write<T: Text, W: Write>(text: &T, out: &mut W) -> Result<(), WriteFault>
     ensures { Wrote W.contents out.old out.new (T.text text.now) result }
 {

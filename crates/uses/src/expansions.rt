@@ -38,8 +38,8 @@ pub struct ExpandFault {
     pub code: u8,
 }
 
-/// The program of a use line over so many registers. Fault 1 where a limit of the line is passed, which [`Use::fits`] tells;
-/// fault 2 only where a request for memory was refused.
+/// The program of a use line over so many registers. Fault 1 where a limit of the line is passed,
+/// which [`Use::fits`] tells; fault 2 only where a request for memory was refused.
 pub fn expand(alloc: Global, kind: &Use, registers: u32) -> Result<Prog, ExpandFault>
     ensures program { IfOk result (λ prog. program_of prog ≡ expansion kind.now registers) }
     ensures limits { (result ≡ Err (record { code = PAST_LIMIT }))

@@ -8,27 +8,32 @@ use regmodel::limits::{GREATEST_VALUE, MOST_LEVELS, MOST_REGISTERS, MOST_ROWS, M
 
 /// What a use line says: a kind, and its numbers in the order of the line.
 ///
-/// BASE is the first register that the kind takes. ID is the number by which the process is known there.
+/// BASE is the first register that the kind takes. ID is the number by which the
+/// process is known there.
 #[derive(Clone, Copy, PartialEq, Eq, Debug)]
 pub enum Use {
     /// A splitter: BASE, ID. It takes 2 registers.
     Split(u32, u32),
-    /// A grid of splitters: BASE; SIDE, 1 to 7 rows and columns; ID. It takes SIDE * (SIDE + 1) registers.
+    /// A grid of splitters: BASE; SIDE, 1 to 7 rows and columns; ID. It takes SIDE *
+    /// (SIDE + 1) registers.
     Grid(u32, u32, u32),
-    /// A binary tree of splitters: BASE; DEPTH, 1 to 4 levels; ID; VALUE, what the process leaves where it stops. It takes
-    /// 4 * (2^DEPTH - 1) registers.
+    /// A binary tree of splitters: BASE; DEPTH, 1 to 4 levels; ID; VALUE, what the process leaves
+    /// where it stops. It takes 4 * (2^DEPTH - 1) registers.
     Tree(u32, u32, u32, u32),
-    /// A renaming: BASE; SLOTS, 1 to 8; SLOT, that of the process, below SLOTS. It takes SLOTS registers.
+    /// A renaming: BASE; SLOTS, 1 to 8; SLOT, that of the process, below SLOTS. It
+    /// takes SLOTS registers.
     Name(u32, u32, u32),
-    /// A renaming that scans its slots at once: BASE, SLOTS, SLOT, as those of a renaming. It takes SLOTS registers.
+    /// A renaming that scans its slots at once: BASE, SLOTS, SLOT, as those of a renaming. It
+    /// takes SLOTS registers.
     Names(u32, u32, u32),
 }
 
 impl Use {
     ghost use Rattle.uses.specs.Uses.{use_fits};
 
-    /// Whether the use line is within its limits over so many registers: they are 1 to 64, those of the kind are among them,
-    /// ID and VALUE are 1 to 1000000000, and the other numbers are as the kind says.
+    /// Whether the use line is within its limits over so many registers: they are 1 to 64,
+    /// those of the kind are among them, ID and VALUE are 1 to 1000000000, and the other
+    /// numbers are as the kind says.
     pub fn fits(&self, registers: u32) -> bool
         ensures { result ≡ use_fits self.now registers }
     {

@@ -48,7 +48,8 @@ fn push_piece(text: &mut Vec<u8>, piece: &[u8]) -> Result<(), OutOfMemory>
     Ok(())
 }
 
-/// Appends a word. A word that no line has leaves the text as it is. An error where a request for memory was refused.
+/// Appends a word. A word that no line has leaves the text as it is. An error where a request for
+/// memory was refused.
 pub fn push_word(text: &mut Vec<u8>, word: Word) -> Result<(), OutOfMemory>
     ensures { OnOk result (text.new.items ≡ text.old.items ++ spec.word_text word) }
 {

@@ -25,7 +25,8 @@ fn keeps_the_limits(rt: HostRuntime) -> Result<(), Fail> {
     Ok(())
 }
 
-/// A use line, a number of registers, and how many statements the expansion has, those of inner blocks left out.
+/// A use line, a number of registers, and how many statements the expansion has, those of
+/// inner blocks left out.
 const SIZES: [(Use, u32, usize); 5] = [
     (Use::Split(0, 1), 2, 6),
     (Use::Grid(0, 2, 1), 6, 3),

@@ -67,7 +67,8 @@ fn numbers_past_a_limit_are_refused(rt: HostRuntime) {
     assert!(rt; made == [Some(MakeFault { code: 1 }); 7]);
 }
 
-/// A value that is read: often what the machine wrote last, 0 or a small number, and now and then any number.
+/// A value that is read: often what the machine wrote last, 0 or a small number, and now
+/// and then any number.
 fn value(random: &mut SmallRng, written: u32, echoes: u32) -> u32 {
     if random.random_range(0u32..8) < echoes {
         return written;
@@ -81,8 +82,8 @@ fn value(random: &mut SmallRng, written: u32, echoes: u32) -> u32 {
     }
 }
 
-/// Gives a native machine and its interpreter the same replies until they are over; they stand alike at each step. Gives
-/// what was pending at the end.
+/// Gives a native machine and its interpreter the same replies until they are over; they stand
+/// alike at each step. Gives what was pending at the end.
 fn beside<M: Machine>(
     rt: &impl Abort,
     native: &mut M,
@@ -119,7 +120,8 @@ fn beside<M: Machine>(
     native.pending()
 }
 
-/// Gives a native machine and the interpreter of its use line many lists of replies, some of which end like this.
+/// Gives a native machine and the interpreter of its use line many lists of replies, some of
+/// which end like this.
 fn does_as_its_program<M: Machine>(
     rt: &(impl Abort + AllocGlobal),
     native: &mut M,
@@ -179,7 +181,8 @@ fn trees_do_as_their_programs(rt: HostRuntime) -> Result<(), Fail> {
     Ok(())
 }
 
-/// A first register, a number of slots and a slot, over so many registers, and the numbers with which some lists of replies end.
+/// A first register, a number of slots and a slot, over so many registers, and the numbers with
+/// which some lists of replies end.
 const CHOICES: [(u32, u32, u32, u32, &[u32]); 4] = [
     (0, 1, 0, 1, &[1]),
     (0, 2, 1, 2, &[3]),

@@ -1,9 +1,8 @@
-//! The texts of parts of an exploration, read from a stream and written.
+//! The texts of parts of an exploration, read from a stream.
 
-use part_texts::{BadPart, Cause, Found, PartReport, PartStream, write_part};
+use part_texts::{BadPart, Cause, Found, PartReport, PartStream};
 use std::alloc::Global;
 use std::io::{self, BufReader, ErrorKind, Read};
-use std::process::Abort;
 use std::test::Fail;
 
 /// What was found of a part.
@@ -33,24 +32,22 @@ fn is_over(alloc: Global, stream: &mut PartStream<&[u8]>) -> bool {
     matches!(stream.next_part(alloc), Ok(None))
 }
 
-/// Reads a part that is there, and writes it again.
-fn again(rt: &(impl Abort + AllocGlobal), stream: &mut PartStream<&[u8]>) -> Result<Vec<u8>, Fail> {
-    let report = stream.next_part(rt.alloc())?.ok_or("no part is there")?;
-    let mut out: Vec<u8> = Vec::new(rt.alloc());
-    assert!(rt; write_part(&report, &mut out) == Ok(()));
-    Ok(out)
+/// The number of the next part, which is there.
+fn next_number(alloc: Global, stream: &mut PartStream<&[u8]>) -> Result<u32, Fail> {
+    let report = stream.next_part(alloc)?.ok_or("no part is there")?;
+    Ok(report.head.part().number())
 }
 
 #[test]
-fn parts_one_after_another_are_read_and_written_as_they_stood(rt: HostRuntime) -> Result<(), Fail> {
+fn parts_one_after_another_are_read(rt: HostRuntime) -> Result<(), Fail> {
     let mut texts = Vec::new(rt.alloc());
     for text in [EXPLORED, FAILS, HOLDS] {
         texts.extend_from_slice(text)?;
     }
     let mut stream = PartStream::new(texts.as_slice());
-    assert!(rt; again(&rt, &mut stream)?.as_slice() == EXPLORED);
-    assert!(rt; again(&rt, &mut stream)?.as_slice() == FAILS);
-    assert!(rt; again(&rt, &mut stream)?.as_slice() == HOLDS);
+    for number in [3, 16, 1] {
+        assert!(rt; next_number(rt.alloc(), &mut stream)? == number);
+    }
     assert!(rt; is_over(rt.alloc(), &mut stream));
     assert!(rt; is_over(rt.alloc(), &mut stream));
     Ok(())
@@ -68,18 +65,6 @@ fn a_part_tells_what_stood_there(rt: HostRuntime) -> Result<(), Fail> {
         return Err(Fail::from("the least alone was read"));
     };
     assert!(rt; (found.tried(), found.outcomes().len(), found.least()) == (123, 2, None));
-    Ok(())
-}
-
-#[test]
-fn parts_of_one_exploration_are_known(rt: HostRuntime) -> Result<(), Fail> {
-    let fourth =
-        b"part 4 of 16\nprocesses 2\nlength 20\ncrashes 0\ncut 4\nsource 6\nempty\nleast none\nend\n";
-    let own = part_of(rt.alloc(), EXPLORED)?;
-    let beside = part_of(rt.alloc(), fourth.as_slice())?;
-    let other = part_of(rt.alloc(), FAILS)?;
-    assert!(rt; own.head.is_of_same(&beside.head));
-    assert!(rt; !own.head.is_of_same(&other.head));
     Ok(())
 }
 

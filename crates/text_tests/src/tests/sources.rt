@@ -66,7 +66,8 @@ fn shown(alloc: Global, prog: &Prog) -> Result<Vec<u8>, Fail> {
     Ok(text)
 }
 
-/// Compares the program of a source's one process with the expansion of a use line over as many registers.
+/// Compares the program of a source's one process with the expansion of a use line
+/// over as many registers.
 fn expands_to(rt: &(impl Abort + AllocGlobal), source: &Source, kind: &Use) -> Result<(), Fail> {
     assert!(rt; source.processes() == 1);
     let prog = source.prog(rt.alloc(), 0)?;

@@ -79,7 +79,8 @@ fn visit(alloc: Global, base: u32, slot: u32) -> Result<Vec<Stmt>, OutOfMemory>
     ]?)
 }
 
-/// Reads another slot: a clash where it holds the proposal, a higher rank where it is smaller and holds something.
+/// Reads another slot: a clash where it holds the proposal, a higher rank where it is smaller
+/// and holds something.
 fn other(alloc: Global, base: u32, slot: u32) -> Result<Vec<Stmt>, OutOfMemory>
     ensures { IfOk result (λ block. block_of block.items ≡ name_other base slot) }
 {

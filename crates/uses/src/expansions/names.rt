@@ -27,7 +27,8 @@ pub fn names_block(alloc: Global, slots: Slots) -> Result<Vec<Stmt>, OutOfMemory
     rounds(alloc, round)
 }
 
-/// One slot: a clash where it held the proposal, a higher rank where it is smaller and held something.
+/// One slot: a clash where it held the proposal, a higher rank where it is smaller
+/// and held something.
 fn look(alloc: Global, slot: u32) -> Result<Vec<Stmt>, OutOfMemory>
     ensures { IfOk result (λ block. block_of block.items ≡ names_slot slot) }
 {

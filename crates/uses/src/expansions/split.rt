@@ -12,7 +12,8 @@ use regmodel::Stmt::{Emit, Halt, If, Read, Write};
 use regmodel::{OutOfMemory, Stmt, Target};
 use std::alloc::Global;
 
-/// The statements of a splitter whose registers are `base` and the next, for the process with this number.
+/// The statements of a splitter whose registers are `base` and the next, for the
+/// process with this number.
 pub fn split_block(alloc: Global, base: u32, id: u32) -> Result<Vec<Stmt>, OutOfMemory>
     requires { base ≤ MOST_REGISTERS }
     ensures { IfOk result (λ block. block_of block.items ≡ split_body base id) }

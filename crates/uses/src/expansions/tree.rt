@@ -13,7 +13,8 @@ use regmodel::Stmt::{Assign, Emit, Halt, If, Read, Repeat, Write};
 use regmodel::{OutOfMemory, Stmt, Target};
 use std::alloc::Global;
 
-/// The statements of a tree whose registers begin at `base`, for the process with this number and this value.
+/// The statements of a tree whose registers begin at `base`, for the process with this
+/// number and this value.
 pub fn tree_block(
     alloc: Global,
     base: u32,

@@ -2,7 +2,7 @@ use Rattle.std.proofs.Common.{Ok, Some, map, ap, sym, ◌∙◌}
 use Rattle.reglang.specs.Forms.{clause_of}
 use Rattle.reglang.specs.Lines.{words}
 use Rattle.reglang.specs.Words.{word_of}
-use Rattle.reglang.specs.declared.forms.Line.TheVariants.{Check}
+use Rattle.reglang.specs.declared.arguments.Line.TheVariants.{Check}
 use Rattle.reglang.specs.declared.words.Word.TheVariants as word
 use Rattle.reglang.proofs.FirstWords.{clause_of-take, read_check}
 use Rattle.reglang.proofs.forms.read_line.Goals as goal

@@ -1,9 +1,9 @@
 use Rattle.std.proofs.Common.{◌≡◌, ◌+◌, ap, sym, ◌∙◌, arith, rules}
-use Rattle.natives.specs.Names.{reading_rest}
+use Rattle.natives.specs.NameSlots.{reading_rest}
 use Rattle.natives.proofs.RenamingStages.{are-rounds, reads-last, reads-own}
 use Rattle.natives.proofs.RoundEnds.{ends}
-use Rattle.natives.proofs.names.NameSlots.go_on.Goals as goal
-use Rattle.natives.proofs.names.NameSlots.go_on.Goals.{then-reading-self, else-reading-self}
+use Rattle.natives.proofs.name.NameSlots.go_on.Goals as goal
+use Rattle.natives.proofs.name.NameSlots.go_on.Goals.{then-reading-self, else-reading-self}
 
 pub returns-then-next-self : goal.returns-then-next-self
 returns-then-next-self c = record {

@@ -1,7 +1,7 @@
-use Rattle.natives.specs.Names.{reading_rest}
+use Rattle.natives.specs.NameSlots.{reading_rest}
 use Rattle.natives.proofs.RenamingStages.{are-rounds}
 use Rattle.natives.proofs.RoundEnds.{starts}
-use Rattle.natives.proofs.names.NameSlotsMachine.reset.Goals as goal
+use Rattle.natives.proofs.name.NameSlotsMachine.reset.Goals as goal
 
 pub returns-clause-starts : goal.returns-clause-starts
 returns-clause-starts c = λ s lawful.

@@ -1,8 +1,8 @@
 use Rattle.std.proofs.Common.{sym, ◌∙◌, rules}
-use Rattle.natives.specs.ScannedNames.{scan_rest}
+use Rattle.natives.specs.Names.{scan_rest}
 use Rattle.natives.proofs.RoundEnds.{ends}
 use Rattle.natives.proofs.ScanStages.{are-rounds, scan-kept, scan-taken}
-use Rattle.natives.proofs.scanned_names.Names.take.Goals as goal
+use Rattle.natives.proofs.names.Names.take.Goals as goal
 
 pub returns : goal.returns
 returns c = record {

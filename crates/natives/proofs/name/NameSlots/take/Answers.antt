@@ -1,9 +1,9 @@
 use Rattle.std.proofs.Common.{sym, ap, ◌∙◌, rules}
 use Rattle.std.specs.Prelude.{slice_set}
 use Rattle.natives.specs.Rounds.{after_slot}
-use Rattle.natives.specs.Names.{from_reading}
+use Rattle.natives.specs.NameSlots.{from_reading}
 use Rattle.natives.proofs.RenamingStages.{reads-other}
-use Rattle.natives.proofs.names.NameSlots.take.Goals as goal
+use Rattle.natives.proofs.name.NameSlots.take.Goals as goal
 
 pub returns : goal.returns
 returns c = record {

@@ -1,7 +1,7 @@
 use Rattle.std.proofs.Common.{◌∷◌, sym, ap, ◌∙◌}
-use Rattle.natives.specs.Names.{from_reading}
+use Rattle.natives.specs.NameSlots.{from_reading}
 use Rattle.natives.proofs.RenamingStages.{rest_at, round-begins}
-use Rattle.natives.proofs.names.NameSlotsMachine.feed.Goals as goal
+use Rattle.natives.proofs.name.NameSlotsMachine.feed.Goals as goal
 
 pub returns-in-Proposes-clause-goes_on : goal.returns-in-Proposes-clause-goes_on
 returns-in-Proposes-clause-goes_on c = λ s.

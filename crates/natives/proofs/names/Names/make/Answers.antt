@@ -1,9 +1,9 @@
 use Rattle.std.proofs.Common.{rules}
-use Rattle.natives.specs.ScannedNames.{scan_rest}
+use Rattle.natives.specs.Names.{scan_rest}
 use Rattle.natives.proofs.ScanStages.{are-rounds}
 use Rattle.natives.proofs.MachineStarts.{made-at-start}
 use Rattle.natives.proofs.RoundEnds.{starts}
-use Rattle.natives.proofs.scanned_names.Names.make.Goals as goal
+use Rattle.natives.proofs.names.Names.make.Goals as goal
 
 pub returns : goal.returns
 returns c =

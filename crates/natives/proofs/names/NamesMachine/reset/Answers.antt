@@ -1,7 +1,7 @@
-use Rattle.natives.specs.ScannedNames.{scan_rest}
+use Rattle.natives.specs.Names.{scan_rest}
 use Rattle.natives.proofs.ScanStages.{are-rounds}
 use Rattle.natives.proofs.RoundEnds.{starts}
-use Rattle.natives.proofs.scanned_names.NamesMachine.reset.Goals as goal
+use Rattle.natives.proofs.names.NamesMachine.reset.Goals as goal
 
 pub returns-clause-starts : goal.returns-clause-starts
 returns-clause-starts c = λ s lawful.

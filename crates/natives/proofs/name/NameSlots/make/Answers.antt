@@ -1,9 +1,9 @@
 use Rattle.std.proofs.Common.{rules}
-use Rattle.natives.specs.Names.{reading_rest}
+use Rattle.natives.specs.NameSlots.{reading_rest}
 use Rattle.natives.proofs.RenamingStages.{are-rounds}
 use Rattle.natives.proofs.MachineStarts.{made-at-start}
 use Rattle.natives.proofs.RoundEnds.{starts}
-use Rattle.natives.proofs.names.NameSlots.make.Goals as goal
+use Rattle.natives.proofs.name.NameSlots.make.Goals as goal
 
 pub returns : goal.returns
 returns c =

@@ -1,7 +1,7 @@
 use Rattle.std.proofs.Common.{sym, ◌∙◌}
-use Rattle.natives.proofs.RenamingStages.{stage-told}
+use Rattle.natives.proofs.ScanStages.{stage-told}
 use Rattle.natives.proofs.RoundEnds.{told-behind}
-use Rattle.natives.proofs.names.NameSlotsMachine.tell.Goals as goal
+use Rattle.natives.proofs.names.NamesMachine.tell.Goals as goal
 
 pub returns-then-is_some : goal.returns-then-is_some
 returns-then-is_some c = λ told.
