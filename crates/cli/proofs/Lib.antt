@@ -3,3 +3,4 @@ mod VerdictsFound
 mod Steps
 mod CountedFiles
 mod CutOffsFound
+mod CutVerdicts

@@ -1,7 +1,7 @@
 //! What the machines of a source are made for.
 
 ghost use Rattle.std.specs.Prelude.{◌≡◌, IfErr, IfOk};
-ghost use Rattle.cli.specs.Runs.{IsNextAim, IsReached, IsUnreached};
+ghost use Rattle.cli.specs.Runs.{IsReached, IsUnreached};
 
 use crate::cut_offs::cut_off;
 use crate::faults::AnswerFault;
@@ -66,7 +66,6 @@ pub fn reached<H: Threads + Wait + Sync, G: Gate>(
     run: &Run<'_, H, G>,
     aim: &Aim<'_>,
 ) -> Result<Option<Finding>, AnswerFault>
-    requires next { IsNextAim aim.now run.now.spelling.text.now }
     ensures found { IfOk result (IsReached aim.now run.now.spelling.text.now) }
     ensures refused { IfErr result (IsUnreached aim.now run.now.spelling.text.now) }
 {

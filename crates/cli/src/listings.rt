@@ -58,7 +58,7 @@ fn exploration_beside<H: Threads + Wait + Sync, G: Gate>(
 {
     match verdict {
         Verdict::Holds(_) => Ok(None),
-        Verdict::Fails(_) => Ok(Some(explored_once_more(run, effort, native)?)),
+        Verdict::Fails(_, _) => Ok(Some(explored_once_more(run, effort, native)?)),
     }
 }
 

@@ -1,5 +1,5 @@
 use Rattle.std.proofs.Common.{refl}
-use Rattle.cli.proofs.VerdictsFound.{plain_check, verdict_asked, verdict_is}
+use Rattle.cli.proofs.VerdictsFound.{plain_check, verdict_is}
 use Rattle.cli.proofs.tasks.checked.Goals as goal
 
 pub verdict_on-verdict-requires-clause-checked : goal.verdict_on-verdict-requires-clause-checked
@@ -7,9 +7,9 @@ verdict_on-verdict-requires-clause-checked g c =
     let checked = rw (c.whole-job.ensures, c.clauses.ensures.value) at c.in-Ok.ensures.checked in
     plain_check c.args.effort.settings c.args.run.now.spelling.source.now c.args.allows_faults c.in-Ok.found checked
 
-pub returns-in_ok-new-in-Ok : goal.returns-in_ok-new-in-Ok
-returns-in_ok-new-in-Ok g c =
-    λ native.
+pub returns-in_ok-new-in-Ok-clause-found : goal.returns-in_ok-new-in-Ok-clause-found
+returns-in_ok-new-in-Ok-clause-found g c =
+    λ native lists.
     let checked = rw (c.whole-job.ensures, c.clauses.ensures.value) at c.in-Ok.ensures.checked in
     let verdict = verdict_is c.args.effort.settings c.args.run.now.spelling.source.now c.args.allows_faults c.args.run.now.spelling.text.now c.in-Ok.found c.verdict_on-verdict.result c.spells.ensures checked c.verdict_on-verdict.ensures in
-    record { found = (verdict_asked c.args.shortest c.args.effort native c.args.allows_faults c.args.run.now.spelling.text.now c.verdict_on-verdict.result c.in_ok-new-in-Ok.field-0.value c.in_ok-new-in-Ok.ensures.ok (c.requires.tried native) verdict, refl); refused = tt }
+    (rw c.in_ok-new-in-Ok.ensures.ok verdict, refl)

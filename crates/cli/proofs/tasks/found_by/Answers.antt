@@ -1,23 +1,33 @@
-use Rattle.std.proofs.Common.{◌≡◌, false, map}
+use Rattle.std.proofs.Common.{◌≡◌, map}
+use Rattle.std.proofs.lemmas.Result.{IfErr-weaker, IfOk-weaker}
 use Rattle.reglang.specs.Sources.{source_programs}
 use Rattle.explorer.proofs.GrownLists.{last_has}
 use Rattle.cli.proofs.tasks.found_by.Goals as goal
 
-pub returns-in-Check : goal.returns-in-Check
-returns-in-Check g c =
-    let alone : c.in-Check.lists ≡ false = rw c.in-Check.is at c.requires.alone in
-    rw (c.in-Check.is, alone) (c.checked.ensures c.in-Check.native)
+pub returns-in-Check-clause-found : goal.returns-in-Check-clause-found
+returns-in-Check-clause-found g c =
+    rw c.in-Check.is (IfOk-weaker c.checked.result _ _ (λ finding first. first c.in-Check.native c.in-Check.lists) c.checked.ensures.found)
 
-pub returns-in-Explore : goal.returns-in-Explore
-returns-in-Explore g c = rw c.in-Explore.is (c.explored.ensures c.in-Explore.native)
+pub returns-in-Check-clause-refused : goal.returns-in-Check-clause-refused
+returns-in-Check-clause-refused g c =
+    rw c.in-Check.is (IfErr-weaker c.checked.result _ _ (λ fault refused. refused c.in-Check.effort c.in-Check.native c.in-Check.shortest c.in-Check.lists) c.checked.ensures.refused)
 
-pub returns-in-Find : goal.returns-in-Find
-returns-in-Find g c = rw c.in-Find.is (c.searched.ensures c.in-Find.native)
+pub returns-in-Explore-clause-found : goal.returns-in-Explore-clause-found
+returns-in-Explore-clause-found g c = rw c.in-Explore.is (c.explored.ensures c.in-Explore.native).found
+
+pub returns-in-Explore-clause-refused : goal.returns-in-Explore-clause-refused
+returns-in-Explore-clause-refused g c = rw c.in-Explore.is (c.explored.ensures c.in-Explore.native).refused
+
+pub returns-in-Find-clause-found : goal.returns-in-Find-clause-found
+returns-in-Find-clause-found g c = rw c.in-Find.is (c.searched.ensures c.in-Find.native).found
+
+pub returns-in-Find-clause-refused : goal.returns-in-Find-clause-refused
+returns-in-Find-clause-refused g c = rw c.in-Find.is (c.searched.ensures c.in-Find.native).refused
 
 pub standing_after-requires : goal.standing_after-requires
 standing_after-requires g c =
-    last_has (λ list. map (λ b. (goal.Machine-dyn g (b.vtable, b.value)).program b.value) list.items ≡ source_programs c.args.run.now.spelling.source.now) c.last_of.result c.last_of.new.lists.items c.args.lists.items c.last_of.ensures c.requires.machines.1
+    last_has (λ list. map (λ b. (goal.Machine-dyn g (b.vtable, b.value)).program b.value) list.items ≡ source_programs c.args.run.now.spelling.source.now) c.last_of.result c.last_of.new.lists.items c.args.lists.items c.last_of.ensures c.requires.1
 
 pub shown-requires : goal.shown-requires
 shown-requires g c =
-    last_has (λ list. map (λ b. (goal.Machine-dyn g (b.vtable, b.value)).program b.value) list.items ≡ source_programs c.args.run.now.spelling.source.now) c.last_of-in-Show.result c.last_of-in-Show.new.lists.items c.args.lists.items c.last_of-in-Show.ensures c.requires.machines.1
+    last_has (λ list. map (λ b. (goal.Machine-dyn g (b.vtable, b.value)).program b.value) list.items ≡ source_programs c.args.run.now.spelling.source.now) c.last_of-in-Show.result c.last_of-in-Show.new.lists.items c.args.lists.items c.last_of-in-Show.ensures c.requires.1
