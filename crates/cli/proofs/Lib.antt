@@ -4,3 +4,6 @@ mod Steps
 mod CountedFiles
 mod CutOffsFound
 mod CutVerdicts
+mod LengthsTried
+mod ShortestFound
+mod SearchesFound

@@ -7,25 +7,36 @@ use crate::cut_offs::cut_off;
 use crate::faults::AnswerFault;
 use crate::machines::machine_of;
 use crate::runs::Run;
+use crate::searches::matching;
 use crate::shortest::failing;
 use crate::tasks::found_by;
 use explorer::{Effort, Gate};
 use findings::Finding;
 use machine::Machine;
 use orders::Task;
+use patterns::Pattern;
 use std::sync::Wait;
 use std::thread::Threads;
+
+/// What is sought at one length after another.
+#[derive(Clone, Copy)]
+pub enum Quest<'a> {
+    /// A schedule that fails, where `ended` is not asked.
+    Failing { allows_faults: bool },
+    /// A schedule whose outcome matches one of these patterns.
+    Matching(&'a Vec<Pattern>),
+}
 
 /// What the machines of a source are made for.
 #[derive(Drop)]
 pub enum Aim<'a> {
     /// All that a task asks.
     Asked(&'a Task),
-    /// A schedule that fails within this effort, where `ended` is not asked.
-    Failing {
+    /// What is sought, within this effort.
+    Sought {
         effort: Effort,
         native: bool,
-        allows_faults: bool,
+        quest: Quest<'a>,
     },
     /// A schedule that is cut off within this effort.
     CutOff {
@@ -43,7 +54,7 @@ impl Aim<'_> {
     {
         match self {
             Aim::Asked(task) => task.lists(),
-            Aim::Failing { effort, .. } => effort.settings.workers() + 1,
+            Aim::Sought { effort, .. } => effort.settings.workers() + 1,
             Aim::CutOff { effort, .. } => effort.settings.workers(),
         }
     }
@@ -54,14 +65,14 @@ impl Aim<'_> {
     {
         match self {
             Aim::Asked(task) => task.is_native(),
-            Aim::Failing { native, .. } => *native,
+            Aim::Sought { native, .. } => *native,
             Aim::CutOff { native, .. } => *native,
         }
     }
 }
 
-/// What is found with the machines of a source, of which as many lists are made as the aim takes, one machine a process. Of a schedule that
-/// fails, or that is cut off, there may be none.
+/// What is found with the machines of a source, of which as many lists are made as the aim takes,
+/// one machine a process. Of what is sought, and of a schedule that is cut off, there may be none.
 pub fn reached<H: Threads + Wait + Sync, G: Gate>(
     run: &Run<'_, H, G>,
     aim: &Aim<'_>,
@@ -81,11 +92,10 @@ pub fn reached<H: Threads + Wait + Sync, G: Gate>(
     }
     match aim {
         Aim::Asked(task) => Ok(Some(found_by(run, task, lists)?)),
-        Aim::Failing {
-            effort,
-            allows_faults,
-            ..
-        } => failing(run, *effort, *allows_faults, lists),
+        Aim::Sought { effort, quest, .. } => match *quest {
+            Quest::Failing { allows_faults } => failing(run, *effort, allows_faults, lists),
+            Quest::Matching(patterns) => matching(run, *effort, patterns, lists),
+        },
         Aim::CutOff { effort, .. } => cut_off(run, *effort, lists),
     }
 }

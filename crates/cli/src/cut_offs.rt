@@ -6,7 +6,8 @@ ghost use Rattle.regmodel.specs.Judging.{is_running};
 ghost use Rattle.reglang.specs.Sources.{source_programs};
 ghost use Rattle.explorer.specs.Running.{AreListsOf};
 ghost use Rattle.cli.specs.CutOffs.{IsCutOffFound};
-ghost use Rattle.cli.specs.Runs.{IsCheckRefused};
+ghost use Rattle.cli.specs.Runs.{IsQuestRefused};
+ghost use Rattle.cli.specs.declared.aims.Quest.{Quest};
 
 use crate::faults::AnswerFault;
 use crate::runs::Run;
@@ -51,8 +52,8 @@ pub fn cut_off<H: Threads + Wait + Sync, G: Gate>(
     requires machines { AreListsOf program (source_programs run.now.spelling.source.now)
         effort.settings.workers lists.items }
     ensures found { IfOk result (IsCutOffFound effort run.now.spelling.text.now) }
-    ensures refused { IfErr result (λ fault. (allows_faults : Bool)
-        → IsCheckRefused allows_faults run.now.spelling.text.now fault) }
+    ensures refused { IfErr result (λ fault. (quest : Quest)
+        → IsQuestRefused quest run.now.spelling.text.now fault) }
 {
     run.spelling.spells();
     let judge = Ending;

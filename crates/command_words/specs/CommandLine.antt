@@ -32,8 +32,8 @@ explore_words = needed (codes "FILE") ∷ needed_number (codes "length")
     ∷ flag (codes "progress") ∷ []
 
 abbrev pub find_words : List Rule
-find_words = needed (codes "FILE") ∷ several (codes "PATTERN") ∷ bounds ++ flag (codes "text")
-    ∷ flag (codes "progress") ∷ []
+find_words = needed (codes "FILE") ∷ several (codes "PATTERN") ∷ bounds ++ flag (codes "shortest")
+    ∷ flag (codes "text") ∷ flag (codes "progress") ∷ []
 
 abbrev pub merge_words : List Rule
 merge_words = needed (codes "FILE") ∷ []

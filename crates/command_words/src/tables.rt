@@ -162,6 +162,11 @@ const FIND: &[Word] = &[
     CRASHES,
     WORKERS,
     CACHE,
+    Word {
+        name: "shortest",
+        kind: Kind::Flag,
+        help: "Tell the least of the shortest schedules that lead there, in place of the least of all: lengths are tried from 0 on, up to --length",
+    },
     TEXT,
     PROGRESS,
 ];

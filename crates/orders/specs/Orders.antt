@@ -117,7 +117,7 @@ IsExploration told text (Check effort native allows_faults shortest lists) = ⊥
 IsExploration told text (Explore effort native part least_alone) =
     AreSettingsTold told effort.settings × IsCacheTold told 0 effort.cache × IsNativeTold told native × IsFlagTold (told (codes "least")) least_alone
     × IsPartTold text part
-IsExploration told text (Find effort native patterns) = ⊥
+IsExploration told text (Find effort native patterns shortest) = ⊥
 IsExploration told text (Replay schedule) = ⊥
 IsExploration told text (Show schedule all) = ⊥
 
@@ -125,7 +125,7 @@ IsExploration told text (Show schedule all) = ⊥
 abbrev pub is_native : Task → Bool
 is_native (Check effort native allows_faults shortest lists) = native
 is_native (Explore effort native part least_alone) = native
-is_native (Find effort native patterns) = native
+is_native (Find effort native patterns shortest) = native
 is_native (Replay schedule) = false
 is_native (Show schedule all) = false
 
@@ -133,7 +133,7 @@ is_native (Show schedule all) = false
 abbrev pub is_in_words : Task → Bool
 is_in_words (Check effort native allows_faults shortest lists) = true
 is_in_words (Explore effort native part least_alone) = false
-is_in_words (Find effort native patterns) = true
+is_in_words (Find effort native patterns shortest) = true
 is_in_words (Replay schedule) = false
 is_in_words (Show schedule all) = true
 
@@ -143,7 +143,7 @@ IsCheck told processors (Check effort native allows_faults shortest lists) =
     IsEffortTold told processors effort × IsNativeTold told native × IsFlagTold (told (codes "allow-faults")) allows_faults × IsFlagTold (told (codes "shortest")) shortest
     × IsFlagTold (told (codes "outcomes")) lists
 IsCheck told processors (Explore effort native part least_alone) = ⊥
-IsCheck told processors (Find effort native patterns) = ⊥
+IsCheck told processors (Find effort native patterns shortest) = ⊥
 IsCheck told processors (Replay schedule) = ⊥
 IsCheck told processors (Show schedule all) = ⊥
 
@@ -159,12 +159,13 @@ word_at name found = elim (first_value found name) [ Some text ↦ text | None �
 abbrev pub texts_told : Found → List (List ℕ)
 texts_told found = texts_at (codes "PATTERN") found
 
--- to look as far as the words tell for outcomes that match one of the patterns of these texts
+-- to look as far as the words tell for outcomes that match one of the patterns of these texts, with the fewest letters where they say so
 abbrev pub IsFind : (List ℕ → Option (List ℕ)) → ℕ → List (List ℕ) → Task → Type 0
 IsFind told processors texts (Check effort native allows_faults shortest lists) = ⊥
 IsFind told processors texts (Explore effort native part least_alone) = ⊥
-IsFind told processors texts (Find effort native patterns) =
+IsFind told processors texts (Find effort native patterns shortest) =
     IsEffortTold told processors effort × IsNativeTold told native × (map pattern_text patterns.items ≡ texts)
+    × IsFlagTold (told (codes "shortest")) shortest
 IsFind told processors texts (Replay schedule) = ⊥
 IsFind told processors texts (Show schedule all) = ⊥
 
@@ -189,6 +190,6 @@ IsFindRefused reads unread found processors r =
 abbrev pub lists_of : Task → ℕ
 lists_of (Check effort native allows_faults shortest lists) = effort.settings.workers + 1
 lists_of (Explore effort native part least_alone) = effort.settings.workers
-lists_of (Find effort native patterns) = effort.settings.workers + 1
+lists_of (Find effort native patterns shortest) = effort.settings.workers + 1
 lists_of (Replay schedule) = 1
 lists_of (Show schedule all) = 1

@@ -221,7 +221,8 @@ fn effort_of(words: &ArgMatches<'_>, processors: ProcessorCount) -> Result<Effor
     Ok(Effort { settings, cache })
 }
 
-/// How far the words of `find` ask to look, and for which outcomes. Standard input cannot be both the source and the patterns.
+/// How far the words of `find` ask to look, for which outcomes, and whether for the shortest
+/// schedule. Standard input cannot be both the source and the patterns.
 fn find_of<O: Opener>(
     alloc: Global,
     words: &ArgMatches<'_>,
@@ -243,10 +244,12 @@ fn find_of<O: Opener>(
         return Err(Refusal::TwiceStandard);
     }
     let patterns = patterns_told(alloc, texts, opener)?;
+    let shortest = has_flag(words, "shortest");
     Ok(Task::Find {
         effort,
         native,
         patterns,
+        shortest,
     })
 }
 

@@ -27,11 +27,13 @@ pub enum Task {
         part: Option<Part>,
         least_alone: bool,
     },
-    /// Look this far for the least schedule whose outcome matches one of these patterns.
+    /// Look this far for the least schedule whose outcome matches one of these patterns, or for the
+    /// least of the shortest.
     Find {
         effort: Effort,
         native: bool,
         patterns: Vec<Pattern>,
+        shortest: bool,
     },
     /// Replay this schedule.
     Replay {

@@ -71,16 +71,33 @@ impl Text for Nowhere {
     }
 }
 
+/// That no shorter schedule leads to any of so many patterns, where the shortest one was asked for.
+#[derive(Clone, Copy)]
+struct NoShorter(bool, u64);
+
+impl Text for NoShorter {
+    ghost text = { λ n. spec.no_shorter_text n.0 n.1 };
+
+    fn put<W: Write>(&self, out: &mut W, block: &mut Block) -> Result<(), WriteFault> {
+        if self.0 {
+            return ("No shorter one leads ", Nowhere(self.1), ".\n").put(out, block);
+        }
+        Ok(())
+    }
+}
+
 /// Writes what was found of the source in the file of this path: the least schedule that leads to
 /// an outcome that was looked for, which of several patterns it matches, its drawing and the
-/// command that draws it again; or that none does, and how far was looked. After a fault the
-/// writer has taken a beginning of it.
+/// command that draws it again; or that none does, and how far was looked. Where the shortest one
+/// was asked for, that no shorter one does. After a fault the writer has taken a beginning of it.
 pub fn write_discovery<W: Write>(
     path: &[u8],
     discovery: &Discovery,
+    is_shortest: bool,
     out: &mut W,
 ) -> Result<(), WriteFault>
-    ensures { Wrote W.contents out.old out.new (discovery_text path.now discovery.now) result }
+    ensures { Wrote W.contents out.old out.new
+        (discovery_text path.now discovery.now is_shortest) result }
 {
     let sought = discovery.sought;
     match &discovery.way {
@@ -90,6 +107,7 @@ pub fn write_discovery<W: Write>(
                 sought,
                 found: &way.matched,
             };
+            let matched = (matched, NoShorter(is_shortest, sought));
             let drawing = Drawn {
                 drawing: &way.drawing,
                 all: false,

@@ -1,5 +1,5 @@
-use Rattle.std.proofs.Common.{◌≡◌, map}
-use Rattle.std.proofs.lemmas.Result.{IfErr-weaker, IfOk-weaker}
+use Rattle.std.proofs.Common.{◌≡◌, false, map}
+use Rattle.std.proofs.lemmas.Result.{IfErr-weaker, IfOk-weaker, err_from_is_err_and}
 use Rattle.reglang.specs.Sources.{source_programs}
 use Rattle.explorer.proofs.GrownLists.{last_has}
 use Rattle.cli.proofs.tasks.found_by.Goals as goal
@@ -18,11 +18,10 @@ returns-in-Explore-clause-found g c = rw c.in-Explore.is (c.explored.ensures c.i
 pub returns-in-Explore-clause-refused : goal.returns-in-Explore-clause-refused
 returns-in-Explore-clause-refused g c = rw c.in-Explore.is (c.explored.ensures c.in-Explore.native).refused
 
-pub returns-in-Find-clause-found : goal.returns-in-Find-clause-found
-returns-in-Find-clause-found g c = rw c.in-Find.is (c.searched.ensures c.in-Find.native).found
-
-pub returns-in-Find-clause-refused : goal.returns-in-Find-clause-refused
-returns-in-Find-clause-refused g c = rw c.in-Find.is (c.searched.ensures c.in-Find.native).refused
+pub returns-in_err-discovery-in-Find-clause-refused : goal.returns-in_err-discovery-in-Find-clause-refused
+returns-in_err-discovery-in-Find-clause-refused g c =
+    let p = err_from_is_err_and c.from_residual.result c.from_residual.ensures.1 in
+    rw (p.1, p.2, c.in-Find.is) (c.in_err-discovery-in-Find.ensures.refused c.in-Find.effort c.in-Find.native c.in-Find.shortest false)
 
 pub standing_after-requires : goal.standing_after-requires
 standing_after-requires g c =
