@@ -1,5 +1,5 @@
 -- Which schedule leads to an outcome that was looked for, in words.
-use Rattle.std.specs.Prelude.{ℕ, ◌==◌, Bool, false, if◌then◌else◌, List, [], ◌++◌, length, Some, None, codes, decimal}
+use Rattle.std.specs.Prelude.{ℕ, ◌==◌, Bool, false, if◌then◌else◌, List, [], ◌++◌, length, Option, Some, None, codes, decimal}
 use Rattle.regmodel.specs.declared.outcomes.ProcEnd.{ProcEnd}
 use Rattle.texts.specs.OutcomeText.{outcome_text}
 use Rattle.drawing.specs.DrawingText.{drawing_text}
@@ -40,10 +40,21 @@ way_text path sought is_shortest way =
 abbrev pub nowhere_text : List ℕ → ℕ → ℕ → ℕ → List ℕ
 nowhere_text path sought limit crashes = path ++ codes ": no schedule leads " ++ nowhere sought ++ bounds_text limit crashes
 
+-- a pattern, by its number; the only one without
+abbrev pub pattern_told : ℕ → ℕ → List ℕ
+pattern_told sought number = if sought == 1 then codes "The pattern" else codes "Pattern " ++ decimal number
+
+-- which pattern asks for more crashes than there may be, where one does
+abbrev pub excess_text : ℕ → Option ℕ → List ℕ
+excess_text sought excess = elim excess [
+  | Some number ↦ pattern_told sought number ++ codes " asks for more crashes than there may be: give a greater --crashes.\n"
+  | None ↦ []
+]
+
 -- what is told of a source in the file of this path
 abbrev pub discovery_text : List ℕ → Discovery → Bool → List ℕ
 discovery_text path discovery is_shortest =
     elim discovery.way [
       | Some way ↦ way_text path discovery.sought is_shortest way
-      | None ↦ nowhere_text path discovery.sought discovery.least.length discovery.least.crashes
+      | None ↦ nowhere_text path discovery.sought discovery.least.length discovery.least.crashes ++ excess_text discovery.sought discovery.excess
     ]

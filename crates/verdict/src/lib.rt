@@ -4,6 +4,7 @@
 mod breaches;
 mod counts;
 mod demands;
+mod excesses;
 mod faults;
 mod gaps;
 mod listings;

@@ -86,9 +86,29 @@ impl Text for NoShorter {
     }
 }
 
+/// Which of so many patterns, by its number, asks for more crashes than there may be, where one does.
+#[derive(Clone, Copy)]
+struct Excess(u64, Option<u64>);
+
+impl Text for Excess {
+    ghost text = { λ e. spec.excess_text e.0 e.1 };
+
+    fn put<W: Write>(&self, out: &mut W, block: &mut Block) -> Result<(), WriteFault> {
+        let Some(number) = self.1 else {
+            return Ok(());
+        };
+        let asks = " asks for more crashes than there may be: give a greater --crashes.\n";
+        if self.0 == 1 {
+            return ("The pattern", asks).put(out, block);
+        }
+        ("Pattern ", number, asks).put(out, block)
+    }
+}
+
 /// Writes what was found of the source in the file of this path: the least schedule that leads to
 /// an outcome that was looked for, which of several patterns it matches, its drawing and the
-/// command that draws it again; or that none does, and how far was looked. Where the shortest one
+/// command that draws it again; or that none does, how far was looked, and whether a pattern asks
+/// for more crashes than there may be. Where the shortest one
 /// was asked for, that no shorter one does. After a fault the writer has taken a beginning of it.
 pub fn write_discovery<W: Write>(
     path: &[u8],
@@ -123,10 +143,8 @@ pub fn write_discovery<W: Write>(
                 length: u64::from(discovery.least.length()),
                 crashes: u64::from(discovery.least.crashes()),
             };
-            write(
-                &(path, ": no schedule leads ", Nowhere(sought), bounds),
-                out,
-            )
+            let nowhere = (path, ": no schedule leads ", Nowhere(sought), bounds);
+            write(&(nowhere, Excess(sought, discovery.excess)), out)
         }
     }
 }

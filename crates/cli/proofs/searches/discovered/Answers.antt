@@ -16,5 +16,6 @@ returns-in_ok-new-in-Ok-clause-found g c =
       fit = fit;
       least_is = rw c.discovery_on-discovery.ensures.least least;
       sought = rw patterns at c.discovery_on-discovery.ensures.sought;
+      excess = rw patterns at c.discovery_on-discovery.ensures.excess;
       way = rw c.discovery_on-discovery.ensures.least (rw patterns at c.discovery_on-discovery.ensures.way);
     })
