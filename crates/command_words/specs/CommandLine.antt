@@ -42,7 +42,8 @@ abbrev pub replay_words : List Rule
 replay_words = needed (codes "FILE") ∷ needed (codes "SCHEDULE") ∷ []
 
 abbrev pub show_words : List Rule
-show_words = needed (codes "FILE") ∷ needed (codes "SCHEDULE") ∷ flag (codes "all") ∷ []
+show_words = needed (codes "FILE") ∷ needed (codes "SCHEDULE") ∷ flag (codes "all")
+    ∷ any_text (codes "width") ∷ []
 
 -- the subcommands, by their names
 abbrev pub subcommands : List Shape

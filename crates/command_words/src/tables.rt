@@ -190,6 +190,11 @@ const SHOW: &[Word] = &[
         kind: Kind::Flag,
         help: "Draw all registers, however long the lines become",
     },
+    Word {
+        name: "width",
+        kind: Kind::Text("N"),
+        help: "How long a line may become, as far as leaving out registers helps: 1 to 65536 [default: 80 for up to two processes, else 132]",
+    },
 ];
 
 /// What the help says of a source.

@@ -5,7 +5,7 @@ ghost use Rattle.texts.specs.Appending.{Wrote};
 ghost use Rattle.findings.specs.FindingText.{finding_text, has_failing};
 
 use crate::standings::Standing;
-use drawing::{Drawing, Drawn};
+use drawing::{Breadth, Drawing, Drawn};
 use part_texts::{PartHead, write_explored_part, write_least_part};
 use report::{Exploration, Least, write_exploration, write_least, write_standing};
 use std::io::Write;
@@ -34,8 +34,8 @@ pub enum Finding {
     Discovery(Box<Discovery>, bool),
     /// Where a schedule leads.
     Standing(Standing),
-    /// What a schedule does, and whether all registers are wanted.
-    Drawing(Box<Drawing>, bool),
+    /// What a schedule does, and how broad its drawing may be.
+    Drawing(Box<Drawing>, Breadth),
 }
 
 impl Finding {
@@ -79,8 +79,9 @@ impl Finding {
             Finding::Standing(standing) => {
                 write_standing(&standing.outcome, standing.registers.as_slice(), out)
             }
-            Finding::Drawing(drawing, all) => {
-                let drawn = Drawn { drawing, all: *all };
+            Finding::Drawing(drawing, breadth) => {
+                let breadth = *breadth;
+                let drawn = Drawn { drawing, breadth };
                 write(&(drawn, FaultLine(first_fault(drawing.outcome()))), out)
             }
         }

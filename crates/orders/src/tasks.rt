@@ -2,6 +2,7 @@
 
 ghost use Rattle.std.specs.Prelude.{◌≡◌, None, Some, if◌then◌else◌, option_map};
 
+use drawing::Breadth;
 use patterns::Pattern;
 use regmodel::Prefix;
 use report::{Effort, Part};
@@ -39,10 +40,10 @@ pub enum Task {
     Replay {
         schedule: Prefix,
     },
-    /// Draw this schedule, with all registers or with those that fit into a line.
+    /// Draw this schedule, so broad.
     Show {
         schedule: Prefix,
-        all: bool,
+        breadth: Breadth,
     },
 }
 

@@ -10,6 +10,7 @@ use Rattle.report.specs.PlainReport.{Findings}
 use Rattle.regmodel.specs.ScheduleText.{schedule_text}
 use Rattle.reglang.specs.Lines.{without_indent}
 use Rattle.reglang.specs.Checks.{line_at}
+use Rattle.drawing.specs.declared.breadths.Breadth.TheVariants.{Usual}
 use Rattle.drawing.specs.DrawingText.{drawing_text}
 use Rattle.explanations.specs.Origins.{line_told, path_told}
 use Rattle.explanations.specs.Shown.{shown}
@@ -84,7 +85,7 @@ show_text path w = codes "\nregtry show " ++ operand_text path ++ codes " '" ++ 
 -- that a schedule fails and why, the schedule as a drawing, and the command that draws it again
 abbrev pub breach_text : List ℕ → List ℕ → Bool → Breach → List ℕ
 breach_text path text is_shortest breach =
-    failing_text path text is_shortest (length breach.schedule) breach.cause breach.onset ++ drawing_text false breach.drawing ++ show_text path breach.schedule
+    failing_text path text is_shortest (length breach.schedule) breach.cause breach.onset ++ drawing_text Usual breach.drawing ++ show_text path breach.schedule
 
 -- that a schedule is cut off, what it breaks, and the command that draws it
 abbrev pub cut_text : List ℕ → List ℕ → Cut → List ℕ

@@ -2,6 +2,7 @@
 use Rattle.std.specs.Prelude.{ℕ, ◌==◌, Bool, false, if◌then◌else◌, List, [], ◌++◌, length, Option, Some, None, codes, decimal}
 use Rattle.regmodel.specs.declared.outcomes.ProcEnd.{ProcEnd}
 use Rattle.texts.specs.OutcomeText.{outcome_text}
+use Rattle.drawing.specs.declared.breadths.Breadth.TheVariants.{Usual}
 use Rattle.drawing.specs.DrawingText.{drawing_text}
 use Rattle.patterns.specs.PatternText.{pattern_text}
 use Rattle.patterns.specs.declared.matching.Match.{Match}
@@ -34,7 +35,7 @@ no_shorter_text is_shortest sought = if is_shortest then codes "No shorter one l
 abbrev pub way_text : List ℕ → ℕ → Bool → Way → List ℕ
 way_text path sought is_shortest way =
     leading_text path (length way.schedule) way.outcome ++ (match_text sought way.matched ++ no_shorter_text is_shortest sought) ++ codes "\n"
-    ++ drawing_text false way.drawing ++ show_text path way.schedule
+    ++ drawing_text Usual way.drawing ++ show_text path way.schedule
 
 -- that no schedule leads there, and how far was looked
 abbrev pub nowhere_text : List ℕ → ℕ → ℕ → ℕ → List ℕ

@@ -11,7 +11,7 @@ use crate::faults::FaultLine;
 use crate::gaps::Gap;
 use crate::reach::{Reach, reach_of};
 use crate::show_commands::ShowCommand;
-use drawing::Drawn;
+use drawing::{Breadth, Drawn};
 use explanations::{origin_of, shown_line};
 use reglang::without_indent;
 use regmodel::Subject;
@@ -100,7 +100,7 @@ impl Text for Failing<'_> {
         };
         let drawing = Drawn {
             drawing: &breach.drawing,
-            all: false,
+            breadth: Breadth::Usual,
         };
         let fails = Fails(self.is_shortest);
         let failing = (self.path, ": a schedule of ", letters, fails);

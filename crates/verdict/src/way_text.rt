@@ -8,7 +8,7 @@ ghost use Rattle.verdict.specs.WayText.{discovery_text};
 use crate::counts::{Bounds, Letters};
 use crate::show_commands::ShowCommand;
 use crate::ways::{Discovery, Way};
-use drawing::Drawn;
+use drawing::{Breadth, Drawn};
 use patterns::Match;
 use std::io::Write;
 use texts::{Block, Text, WriteFault, write};
@@ -130,7 +130,7 @@ pub fn write_discovery<W: Write>(
             let matched = (matched, NoShorter(is_shortest, sought));
             let drawing = Drawn {
                 drawing: &way.drawing,
-                all: false,
+                breadth: Breadth::Usual,
             };
             let show = ShowCommand {
                 path,
