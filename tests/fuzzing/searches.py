@@ -48,6 +48,15 @@ def in_order(schedule):
     return [(letter[0] == "C", letter[1:]) for letter in schedule.split() if letter != "."]
 
 
+def faults_of_shortest(dice, folder, settings, outcome, way):
+    """What is wrong with the shortest schedule that leads to an outcome, to which this way leads as well."""
+    answer = run(folder, ["find", "case.reg", outcome, *how_checked(dice, settings), "--shortest"])
+    yield from faults_of(answer)
+    told = re.match(rb"case\.reg: a schedule of (\d+) letters? leads to ([^\n]*)\nNo shorter one leads there\.\n", answer[1])
+    if not told or told[2].decode() != outcome or int(told[1]) > len(in_order(way)):
+        yield f"the shortest schedule to {outcome} is answered {answer}, and {way} leads there"
+
+
 def faults_of_searches(dice, folder, settings, report):
     """What is wrong with the searches for outcomes that a report tells, and for one that it does not."""
     outcomes = [line[8:].decode() for line in report.splitlines() if line.startswith(b"outcome ")]
@@ -60,6 +69,7 @@ def faults_of_searches(dice, folder, settings, report):
         replayed = run(folder, ["replay", "case.reg", ways[outcome] or "?"])[1]
         if not replayed.startswith(f"outcome {outcome}\n".encode()):
             yield f"the outcome {outcome} is found by {ways[outcome]}, which is replayed to {replayed[:80]!r}"
+        yield from faults_of_shortest(dice, folder, settings, outcome, ways[outcome] or "")
     if least and ways[least[2]] != least[1]:
         yield f"the least failing schedule is {least[1]}, and its outcome is found by {ways[least[2]]}"
     together, faults = search(dice, folder, settings, chosen)

@@ -3,3 +3,7 @@ mod VerdictsFound
 mod Steps
 mod CountedFiles
 mod CutOffsFound
+mod CutVerdicts
+mod LengthsTried
+mod ShortestFound
+mod SearchesFound

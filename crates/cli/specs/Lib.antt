@@ -5,6 +5,7 @@ pub mod Examples
 pub mod FileCounts
 pub mod Findings
 pub mod Leasts
+pub mod Lengths
 pub mod Merges
 pub mod Parts
 pub mod Performing

@@ -6,11 +6,11 @@ ghost use Rattle.regmodel.specs.Judging.{is_running};
 ghost use Rattle.reglang.specs.Sources.{source_programs};
 ghost use Rattle.explorer.specs.Running.{AreListsOf};
 ghost use Rattle.cli.specs.CutOffs.{IsCutOffFound};
-ghost use Rattle.cli.specs.Runs.{IsCheckRefused};
+ghost use Rattle.cli.specs.Runs.{IsQuestRefused};
+ghost use Rattle.cli.specs.declared.aims.Quest.{Quest};
 ghost use Rattle.cli.specs.Understanding.{resumed_of_all};
 
 use crate::faults::AnswerFault;
-use crate::machines::Made;
 use crate::runs::Run;
 use explorer::{Effort, Gate, Job, least_failing};
 use findings::Finding;
@@ -48,23 +48,28 @@ fn some_running(outcome: &Outcome) -> bool
 pub fn cut_off<H: Threads + Wait + Sync, G: Gate>(
     run: &Run<'_, H, G>,
     effort: Effort,
-    native: bool,
     lists: Vec<Vec<Box<dyn Machine + Send>>>,
 ) -> Result<Option<Finding>, AnswerFault>
     requires machines { AreListsOf program (source_programs run.now.spelling.source.now)
         effort.settings.workers lists.items }
     requires understood { All
-        (λ list. map resumed list.items ≡ resumed_of_all run.now.spelling.source.now native)
-        lists.items }
+        (λ list. map resumed list.items
+        ≡ resumed_of_all run.now.spelling.source.now run.now.native) lists.items }
     ensures found { IfOk result (IsCutOffFound effort run.now.spelling.text.now) }
-    ensures refused { IfErr result (λ fault. (allows_faults : Bool)
-        → IsCheckRefused allows_faults run.now.spelling.text.now fault) }
+    ensures refused { IfErr result (λ fault. (quest : Quest)
+        → IsQuestRefused quest run.now.spelling.text.now fault) }
 {
     run.spelling.spells();
-    let source = run.spelling.source;
     let judge = Ending;
-    let made = Made { source, native };
-    let job = Job::whole(run.alloc, source, effort, &judge, run.gate, &made);
+    let made = run.made();
+    let job = Job::whole(
+        run.alloc,
+        run.spelling.source,
+        effort,
+        &judge,
+        run.gate,
+        &made,
+    );
     let least = match least_failing(run.rt, &job, lists) {
         Ok(least) => least,
         Err(fault) => return Err(AnswerFault::Run(fault)),

@@ -1,6 +1,6 @@
 //! The explorations of a source, and of one part of it, which several runs share.
 
-ghost use Rattle.std.specs.Prelude.{◌≡◌, All, IfOk, map, option_map};
+ghost use Rattle.std.specs.Prelude.{◌≡◌, All, Bool, IfOk, map, option_map};
 ghost use Rattle.reglang.specs.Sources.{source_programs};
 ghost use Rattle.orders.specs.declared.tasks.Task.TheVariants as asked;
 ghost use Rattle.explorer.specs.Running.{AreListsOf};
@@ -9,7 +9,6 @@ ghost use Rattle.cli.specs.Refusals.{Finds};
 ghost use Rattle.cli.specs.Understanding.{resumed_of_all};
 
 use crate::faults::AnswerFault;
-use crate::machines::Made;
 use crate::runs::Run;
 use explorer::{Effort, Gate, Job, Part, exploration_of, least_failing};
 use findings::Finding;
@@ -48,7 +47,6 @@ fn head_for<H, G>(
 pub fn explored<H: Threads + Wait + Sync, G: Gate>(
     run: &Run<'_, H, G>,
     effort: Effort,
-    native: bool,
     part: Option<Part>,
     least_alone: bool,
     lists: Vec<Vec<Box<dyn Machine + Send>>>,
@@ -56,15 +54,15 @@ pub fn explored<H: Threads + Wait + Sync, G: Gate>(
     requires machines { AreListsOf program (source_programs run.now.spelling.source.now)
         effort.settings.workers lists.items }
     requires understood { All
-        (λ list. map resumed list.items ≡ resumed_of_all run.now.spelling.source.now native)
-        lists.items }
-    ensures { Finds (asked.Explore effort native part least_alone) run.now.spelling.text.now
-        result }
+        (λ list. map resumed list.items
+        ≡ resumed_of_all run.now.spelling.source.now run.now.native) lists.items }
+    ensures { (native : Bool)
+        → Finds (asked.Explore effort native part least_alone) run.now.spelling.text.now result }
 {
     run.spelling.spells();
     let head = head_for(run, effort.settings, part)?;
     let (rt, alloc, source, gate) = (run.rt, run.alloc, run.spelling.source, run.gate);
-    let made = Made { source, native };
+    let made = run.made();
     let job = Job {
         alloc,
         source,

@@ -3,6 +3,7 @@
 
 mod aims;
 mod answers;
+mod conclusions;
 mod cut_offs;
 mod explorations;
 mod faults;

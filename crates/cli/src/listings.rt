@@ -40,7 +40,7 @@ pub fn listed<H: Threads + Wait + Sync, G: Gate>(
     let Finding::Verdict(verdict, is_shortest) = finding else {
         unreachable!()
     };
-    let explored = exploration_beside(run, &verdict, effort, native)?;
+    let explored = exploration_beside(run, &verdict, effort)?;
     Ok(Finding::Listing(verdict, is_shortest, explored))
 }
 
@@ -49,7 +49,6 @@ fn exploration_beside<H: Threads + Wait + Sync, G: Gate>(
     run: &Run<'_, H, G>,
     verdict: &Verdict,
     effort: &Effort,
-    native: bool,
 ) -> Result<Option<Exploration>, AnswerFault>
     ensures found { IfOk result
         (AreListed effort.now.settings run.now.spelling.text.now verdict.now) }
@@ -58,7 +57,7 @@ fn exploration_beside<H: Threads + Wait + Sync, G: Gate>(
 {
     match verdict {
         Verdict::Holds(_) => Ok(None),
-        Verdict::Fails(_) => Ok(Some(explored_once_more(run, effort, native)?)),
+        Verdict::Fails(_, _) => Ok(Some(explored_once_more(run, effort)?)),
     }
 }
 
@@ -66,7 +65,6 @@ fn exploration_beside<H: Threads + Wait + Sync, G: Gate>(
 fn explored_once_more<H: Threads + Wait + Sync, G: Gate>(
     run: &Run<'_, H, G>,
     effort: &Effort,
-    native: bool,
 ) -> Result<Exploration, AnswerFault>
     ensures found { IfOk result (IsReportOf effort.now.settings run.now.spelling.text.now) }
     ensures refused { IfErr result (λ fault. (allows_faults : Bool)
@@ -74,7 +72,7 @@ fn explored_once_more<H: Threads + Wait + Sync, G: Gate>(
 {
     let explore = Task::Explore {
         effort: *effort,
-        native,
+        native: run.native,
         part: None,
         least_alone: false,
     };

@@ -32,8 +32,8 @@ explore_words = needed (codes "FILE") ∷ needed_number (codes "length")
     ∷ flag (codes "progress") ∷ []
 
 abbrev pub find_words : List Rule
-find_words = needed (codes "FILE") ∷ several (codes "PATTERN") ∷ bounds ++ flag (codes "text")
-    ∷ flag (codes "progress") ∷ []
+find_words = needed (codes "FILE") ∷ several (codes "PATTERN") ∷ bounds ++ flag (codes "shortest")
+    ∷ flag (codes "text") ∷ flag (codes "progress") ∷ []
 
 abbrev pub merge_words : List Rule
 merge_words = needed (codes "FILE") ∷ []
@@ -42,7 +42,8 @@ abbrev pub replay_words : List Rule
 replay_words = needed (codes "FILE") ∷ needed (codes "SCHEDULE") ∷ []
 
 abbrev pub show_words : List Rule
-show_words = needed (codes "FILE") ∷ needed (codes "SCHEDULE") ∷ flag (codes "all") ∷ []
+show_words = needed (codes "FILE") ∷ needed (codes "SCHEDULE") ∷ flag (codes "all")
+    ∷ any_text (codes "width") ∷ []
 
 -- the subcommands, by their names
 abbrev pub subcommands : List Shape

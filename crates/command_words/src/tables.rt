@@ -162,6 +162,11 @@ const FIND: &[Word] = &[
     CRASHES,
     WORKERS,
     CACHE,
+    Word {
+        name: "shortest",
+        kind: Kind::Flag,
+        help: "Tell the least of the shortest schedules that lead there, in place of the least of all: lengths are tried from 0 on, up to --length",
+    },
     TEXT,
     PROGRESS,
 ];
@@ -184,6 +189,11 @@ const SHOW: &[Word] = &[
         name: "all",
         kind: Kind::Flag,
         help: "Draw all registers, however long the lines become",
+    },
+    Word {
+        name: "width",
+        kind: Kind::Text("N"),
+        help: "How long a line may become, as far as leaving out registers helps: 1 to 65536 [default: 80 for up to two processes, else 132]",
     },
 ];
 

@@ -1,9 +1,10 @@
 -- Texts joined one after another, as a loop puts them.
-use Rattle.std.proofs.Common.{◌≡◌, ℕ, zero, suc, ◌+◌, ◌-◌, ◌<◌, Bool, List, ◌++◌, Option, Some, None, add-one, add-suc, ap, sym, ◌∙◌, subst, append_assoc, arith}
+use Rattle.std.proofs.Common.{◌≡◌, ℕ, zero, suc, ◌+◌, ◌-◌, ◌<◌, List, ◌++◌, Option, Some, None, add-one, add-suc, ap, sym, ◌∙◌, subst, append_assoc, arith}
 use Rattle.std.proofs.lemmas.List.{append-nil}
 use Rattle.texts.specs.Appending.{Puts}
 use Rattle.texts.proofs.Appending.{after_text, fault_before}
 use Rattle.drawing.specs.Cells.{joined}
+use Rattle.drawing.specs.declared.breadths.Breadth.{Breadth}
 use Rattle.drawing.specs.DrawingText.{drawing_text, gap_before, gap_past, table_text}
 use Rattle.drawing.specs.Layout.{columns_shown, widths}
 use Rattle.drawing.specs.Pictures.{Picture}
@@ -36,5 +37,5 @@ fault-in f n count {old = old} {new = new} {kept = kept} {left = left} {code = c
     subst (λ (text : List ℕ). Puts old kept new left text (Some code)) (sym parts) (fault_before (after_text before here) (joined (λ i. f (n + 1 + i)) rest))
 
 -- the table of its own widths is the drawing
-pub table-drawn : (all : Bool) (picture : Picture) (wide columns : List ℕ) → wide ≡ widths picture → columns ≡ columns_shown picture wide all → table_text picture wide columns ≡ drawing_text all picture
-table-drawn all picture wide columns made shown = ap (table_text picture wide) shown ∙ ap (λ ws. table_text picture ws (columns_shown picture ws all)) made
+pub table-drawn : (breadth : Breadth) (picture : Picture) (wide columns : List ℕ) → wide ≡ widths picture → columns ≡ columns_shown picture wide breadth → table_text picture wide columns ≡ drawing_text breadth picture
+table-drawn breadth picture wide columns made shown = ap (table_text picture wide) shown ∙ ap (λ ws. table_text picture ws (columns_shown picture ws breadth)) made

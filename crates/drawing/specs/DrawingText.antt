@@ -1,5 +1,6 @@
 -- The text of a drawing.
-use Rattle.std.specs.Prelude.{ℕ, zero, suc, ◌+◌, ◌-◌, ◌==◌, Bool, List, [], ◌++◌, length, codes, decimal, if◌then◌else◌, get_or}
+use Rattle.std.specs.Prelude.{ℕ, zero, suc, ◌+◌, ◌-◌, ◌==◌, List, [], ◌++◌, length, codes, decimal, if◌then◌else◌, get_or}
+use Rattle.drawing.specs.declared.breadths.Breadth.{Breadth}
 use Rattle.drawing.specs.declared.layout.TheConstants.{PARTING}
 use Rattle.drawing.specs.Cells.{cell_text, joined}
 use Rattle.drawing.specs.Layout.{columns_shown, line_count, widths}
@@ -51,6 +52,6 @@ table_lines picture wide columns = joined (table_line picture wide columns) (lin
 abbrev pub table_text : Picture → List ℕ → List ℕ → List ℕ
 table_text picture wide columns = table_lines picture wide columns ++ left_out_text (length wide - length columns) (length picture.start)
 
--- the text of a drawing, with all registers or with those that fit
-abbrev pub drawing_text : Bool → Picture → List ℕ
-drawing_text all picture = table_text picture (widths picture) (columns_shown picture (widths picture) all)
+-- the text of a drawing that may be so broad
+abbrev pub drawing_text : Breadth → Picture → List ℕ
+drawing_text breadth picture = table_text picture (widths picture) (columns_shown picture (widths picture) breadth)

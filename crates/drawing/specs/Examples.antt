@@ -10,6 +10,7 @@ use Rattle.drawing.specs.declared.drawings.Deed.TheVariants as deed
 use Rattle.drawing.specs.declared.drawings.Held.{Held}
 use Rattle.drawing.specs.declared.drawings.Row.{Row}
 use Rattle.drawing.specs.Cells.{row_text}
+use Rattle.drawing.specs.declared.breadths.Breadth.TheVariants.{Places, Usual, Whole}
 use Rattle.drawing.specs.DrawingText.{drawing_text, left_out_text}
 use Rattle.drawing.specs.Layout.{columns_shown}
 use Rattle.drawing.specs.Pictures.{IsPictureOf, Picture, deed_by}
@@ -58,7 +59,7 @@ picture_of_both = record {
   ends = refl;
 }
 
-pub text_of_both : drawing_text false both ≡
+pub text_of_both : drawing_text Usual both ≡
     codes "step  process 0        process 1           r0\n"
     ++ codes "0                                          0\n"
     ++ codes "1     write 0 5, done                      5*\n"
@@ -91,10 +92,13 @@ last_of_three = record {
 }
 
 -- in columns of width 30 two fit beside the letter's number: that of the process, and that of the register which changes
-pub the_one_that_changes_is_kept : columns_shown last_of_three (30 ∷ 30 ∷ 10 ∷ 30 ∷ 10 ∷ []) false ≡ 0 ∷ 1 ∷ 4 ∷ []
+pub the_one_that_changes_is_kept : columns_shown last_of_three (30 ∷ 30 ∷ 10 ∷ 30 ∷ 10 ∷ []) Usual ≡ 0 ∷ 1 ∷ 4 ∷ []
 the_one_that_changes_is_kept = refl
 
-pub all_are_shown : columns_shown last_of_three (30 ∷ 30 ∷ 10 ∷ 30 ∷ 10 ∷ []) true ≡ 0 ∷ 1 ∷ 2 ∷ 3 ∷ 4 ∷ []
+pub more_are_shown : columns_shown last_of_three (30 ∷ 30 ∷ 10 ∷ 30 ∷ 10 ∷ []) (Places 86) ≡ 0 ∷ 1 ∷ 2 ∷ 4 ∷ []
+more_are_shown = refl
+
+pub all_are_shown : columns_shown last_of_three (30 ∷ 30 ∷ 10 ∷ 30 ∷ 10 ∷ []) Whole ≡ 0 ∷ 1 ∷ 2 ∷ 3 ∷ 4 ∷ []
 all_are_shown = refl
 
 pub text_of_two_left_out : left_out_text 2 3 ≡ codes "left out: 2 of 3 registers; regtry show --all draws all\n"

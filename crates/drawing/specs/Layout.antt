@@ -1,6 +1,8 @@
 -- How wide the columns of a drawing are, and how many are shown.
-use Rattle.std.specs.Prelude.{ℕ, zero, suc, ◌+◌, ◌-◌, Bool, true, false, ◌||◌, not, List, filter, length, map, max, nat_le, nat_lt, Some, None, if◌then◌else◌, get_or, slice_get}
+use Rattle.std.specs.Prelude.{ℕ, zero, suc, ◌+◌, ◌-◌, Bool, true, false, ◌||◌, not, List, filter, length, map, max, nat_le, nat_lt, Option, Some, None, if◌then◌else◌, get_or, slice_get}
 use Rattle.std.specs.List.{list_any, range_with_len}
+use Rattle.drawing.specs.declared.breadths.Breadth.{Breadth}
+use Rattle.drawing.specs.declared.breadths.Breadth.TheVariants.{Places, Usual, Whole}
 use Rattle.drawing.specs.declared.layout.TheConstants.{NARROW, PARTING, WIDE}
 use Rattle.drawing.specs.Cells.{cell_text}
 use Rattle.drawing.specs.declared.drawings.Row.{Row}
@@ -58,16 +60,22 @@ end_with picture wide column =
     if is_kept_first picture column then room_of picture wide true (column + 1)
     else room_of picture wide true (length wide) + room_of picture wide false (column + 1)
 
--- how long a line may be
-abbrev pub places_for : ℕ → ℕ
-places_for processes = if nat_le processes 2 then NARROW else WIDE
+-- how long a line may be where there are so many processes; where it may be whole, of any length
+abbrev pub places_for : Breadth → ℕ → Option ℕ
+places_for Usual processes = Some (if nat_le processes 2 then NARROW else WIDE)
+places_for (Places places) processes = Some places
+places_for Whole processes = None
 
--- whether a column is shown: all are, or it stands in any case, or the line has room for it and those that are kept before it
-abbrev pub is_shown : Picture → List ℕ → Bool → ℕ → Bool
-is_shown picture wide all column =
-    all || nat_lt column (fixed_columns picture)
-    || nat_le (end_with picture wide column) (places_for (length picture.ends) + PARTING)
+-- whether a line has room for a column and those that are kept before it
+abbrev pub has_room : Picture → List ℕ → ℕ → Option ℕ → Bool
+has_room picture wide column (Some places) = nat_le (end_with picture wide column) (places + PARTING)
+has_room picture wide column None = true
+
+-- whether a column is shown: it stands in any case, or there is room for it
+abbrev pub is_shown : Picture → List ℕ → Breadth → ℕ → Bool
+is_shown picture wide breadth column =
+    nat_lt column (fixed_columns picture) || has_room picture wide column (places_for breadth (length picture.ends))
 
 -- the columns that are shown
-abbrev pub columns_shown : Picture → List ℕ → Bool → List ℕ
-columns_shown picture wide all = filter (is_shown picture wide all) (range_with_len 0 (length wide))
+abbrev pub columns_shown : Picture → List ℕ → Breadth → List ℕ
+columns_shown picture wide breadth = filter (is_shown picture wide breadth) (range_with_len 0 (length wide))

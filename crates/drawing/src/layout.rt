@@ -1,8 +1,9 @@
 //! How wide the columns of a drawing are, and how many are shown.
 
-ghost use Rattle.std.specs.Prelude.{◌≡◌, ◌≤◌, ◌<◌, ◌*◌, All, length};
+ghost use Rattle.std.specs.Prelude.{◌≡◌, ◌≤◌, ◌<◌, ◌*◌, ◌^◌, All, IfSome, length};
 ghost use Rattle.drawing.specs.Layout as layout;
 
+use crate::breadths::Breadth;
 use crate::cells::MOST_COLUMNS;
 use crate::drawings::Drawing;
 use arrayvec::ArrayVec;
@@ -94,28 +95,45 @@ fn end_with(drawing: &Drawing, widths: &Widths, column: usize) -> usize
 }
 
 /// Whether a column is shown.
-fn is_shown(drawing: &Drawing, widths: &Widths, all: bool, column: usize) -> bool
+fn is_shown(drawing: &Drawing, widths: &Widths, breadth: Breadth, column: usize) -> bool
     requires { column < length widths.now.items }
-    ensures { result ≡ layout.is_shown drawing.now widths.now.items all column }
+    ensures { result ≡ layout.is_shown drawing.now widths.now.items breadth column }
 {
-    let processes = drawing.outcome().ends().len();
-    let places = if processes <= 2 { NARROW } else { WIDE };
-    all || column < fixed_columns(drawing) || end_with(drawing, widths, column) <= places + PARTING
+    if column < fixed_columns(drawing) {
+        return true;
+    }
+    match places_for(breadth, drawing.outcome().ends().len()) {
+        Some(places) => end_with(drawing, widths, column) <= places + PARTING,
+        None => true,
+    }
 }
 
-/// The columns that are shown, rising: all of them, or without registers that do not fit, of which those that change are kept first.
+/// How long a line may be where there are so many processes; None where it may be of any length.
+fn places_for(breadth: Breadth, processes: usize) -> Option<usize>
+    ensures value { result ≡ layout.places_for breadth processes }
+    ensures few { IfSome result (λ places. places < 2 ^ 32) }
+{
+    match breadth {
+        Breadth::Usual => Some(if processes <= 2 { NARROW } else { WIDE }),
+        Breadth::Places(places) => Some(places as usize),
+        Breadth::Whole => None,
+    }
+}
+
+/// The columns that are shown, rising: all of them, or without registers that do not fit, of which
+/// those that change are kept first.
 pub(crate) fn columns_shown(
     drawing: &Drawing,
     widths: &Widths,
-    all: bool,
+    breadth: Breadth,
 ) -> ArrayVec<u8, MOST_COLUMNS>
     requires { length widths.now.items ≡ layout.column_count drawing.now }
-    ensures value { result.items ≡ layout.columns_shown drawing.now widths.now.items all }
+    ensures value { result.items ≡ layout.columns_shown drawing.now widths.now.items breadth }
     ensures there { All (λ column. column < length widths.now.items) result.items }
 {
     let mut shown = ArrayVec::new();
     for column in 0..widths.len() {
-        if is_shown(drawing, widths, all, column) {
+        if is_shown(drawing, widths, breadth, column) {
             shown.push(column as u8);
         }
     }

@@ -1,6 +1,7 @@
 //! Draws a schedule: what each of its letters did, and what the registers held after it.
 #![tactic(auto)]
 
+mod breadths;
 mod cells;
 mod deeds;
 mod drawings;
@@ -10,6 +11,7 @@ mod registers;
 mod tables;
 mod writing;
 
+pub use breadths::Breadth;
 pub use deeds::draw;
 pub use drawings::{Deed, Drawing, Held, Row};
 pub use writing::Drawn;

@@ -2,6 +2,7 @@
 
 ghost use Rattle.drawing.specs.DrawingText.{drawing_text};
 
+use crate::breadths::Breadth;
 use crate::drawings::Drawing;
 use crate::layout::{columns_shown, widths_of};
 use crate::tables::Table;
@@ -9,22 +10,23 @@ use std::io::Write;
 use texts::{Block, Text, WriteFault};
 
 /// The text of a drawing: a header, a line with what each register holds at the start, a line a letter, and a line with how each
-/// process stands at the end. A line is at most 80 places long where there are at most two processes, else 132, as far as leaving out
-/// registers can bring that about, first of those that no letter changes, and each time the last one; a last line says how many are left out.
+/// process stands at the end. A line is as long as it may be at most, as far as leaving out registers can
+/// bring that about, first of those that no letter changes, and each time the last one; a last line
+/// says how many are left out.
 #[derive(Clone, Copy)]
 pub struct Drawn<'a> {
     /// The drawing.
     pub drawing: &'a Drawing,
-    /// Whether all registers are drawn.
-    pub all: bool,
+    /// How broad it may be.
+    pub breadth: Breadth,
 }
 
 impl Text for Drawn<'_> {
-    ghost text = { λ d. drawing_text d.all d.drawing.now };
+    ghost text = { λ d. drawing_text d.breadth d.drawing.now };
 
     fn put<W: Write>(&self, out: &mut W, block: &mut Block) -> Result<(), WriteFault> {
         let widths = widths_of(self.drawing);
-        let columns = columns_shown(self.drawing, &widths, self.all);
+        let columns = columns_shown(self.drawing, &widths, self.breadth);
         let table = Table {
             drawing: self.drawing,
             widths: widths.as_slice(),

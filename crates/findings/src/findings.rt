@@ -5,7 +5,7 @@ ghost use Rattle.texts.specs.Appending.{Wrote};
 ghost use Rattle.findings.specs.FindingText.{finding_text, has_failing};
 
 use crate::standings::Standing;
-use drawing::{Drawing, Drawn};
+use drawing::{Breadth, Drawing, Drawn};
 use part_texts::{PartHead, write_explored_part, write_least_part};
 use report::{Exploration, Least, write_exploration, write_least, write_standing};
 use std::io::Write;
@@ -31,12 +31,13 @@ pub enum Finding {
     Part(PartHead, Exploration),
     /// The least failing schedule of a part alone, and which part it is.
     LeastPart(PartHead, Least),
-    /// The least schedule that leads to an outcome that was looked for.
-    Discovery(Box<Discovery>),
+    /// The least schedule that leads to an outcome that was looked for; and whether that is the
+    /// least of the shortest.
+    Discovery(Box<Discovery>, bool),
     /// Where a schedule leads.
     Standing(Standing),
-    /// What a schedule does, and whether all registers are wanted.
-    Drawing(Box<Drawing>, bool),
+    /// What a schedule does, and how broad its drawing may be.
+    Drawing(Box<Drawing>, Breadth),
 }
 
 impl Finding {
@@ -52,7 +53,7 @@ impl Finding {
             Finding::Least(least) => least.least().is_some(),
             Finding::Part(_, _) => false,
             Finding::LeastPart(_, _) => false,
-            Finding::Discovery(discovery) => discovery.least.least().is_some(),
+            Finding::Discovery(discovery, _) => discovery.least.least().is_some(),
             Finding::Standing(_) => false,
             Finding::Drawing(_, _) => false,
         }
@@ -75,12 +76,15 @@ impl Finding {
             Finding::Least(least) => write_least(least, out),
             Finding::Part(head, found) => write_explored_part(head, found, out),
             Finding::LeastPart(head, least) => write_least_part(head, least, out),
-            Finding::Discovery(discovery) => write_discovery(path.as_bytes(), discovery, out),
+            Finding::Discovery(discovery, is_shortest) => {
+                write_discovery(path.as_bytes(), discovery, *is_shortest, out)
+            }
             Finding::Standing(standing) => {
                 write_standing(&standing.outcome, standing.registers.as_slice(), out)
             }
-            Finding::Drawing(drawing, all) => {
-                let drawn = Drawn { drawing, all: *all };
+            Finding::Drawing(drawing, breadth) => {
+                let breadth = *breadth;
+                let drawn = Drawn { drawing, breadth };
                 write(&(drawn, FaultLine(first_fault(drawing.outcome()))), out)
             }
         }

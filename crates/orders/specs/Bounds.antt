@@ -1,11 +1,14 @@
 -- The bounds of a check and of a search.
-use Rattle.std.specs.Prelude.{◌≡◌, ◌≤◌, ℕ, Bool, List, Option, Some, None, codes, if◌then◌else◌}
+use Rattle.std.specs.Prelude.{◌≡◌, ◌≤◌, ℕ, Bool, true, false, List, Option, Some, None, codes, if◌then◌else◌}
 use Rattle.std.specs.Str.Parse.{digits_value, without_leading_plus}
 use Rattle.regmodel.specs.declared.limits.TheConstants.{MOST_CRASHES, MOST_LETTERS, MOST_WORKERS}
+use Rattle.drawing.specs.declared.breadths.Breadth.{Breadth}
+use Rattle.drawing.specs.declared.breadths.Breadth.TheVariants.{Places, Usual, Whole}
+use Rattle.orders.specs.Flags.{IsFlagTold}
 use Rattle.orders.specs.NumberTexts.{IsNumberText}
-use Rattle.orders.specs.declared.bounds.TheConstants.{CACHE, MOST_CACHE}
+use Rattle.orders.specs.declared.bounds.TheConstants.{CACHE, MOST_CACHE, MOST_WIDTH}
 use Rattle.orders.specs.declared.bounds.Bound.{Bound}
-use Rattle.orders.specs.declared.bounds.Bound.TheVariants.{Length, Crashes, Workers, Cache}
+use Rattle.orders.specs.declared.bounds.Bound.TheVariants.{Length, Crashes, Workers, Cache, Width}
 use Rattle.orders.specs.declared.refusals.Refusal.{Refusal}
 use Rattle.orders.specs.declared.refusals.Refusal.TheVariants as refusal
 
@@ -15,10 +18,12 @@ name_of Length = codes "length"
 name_of Crashes = codes "crashes"
 name_of Workers = codes "workers"
 name_of Cache = codes "cache"
+name_of Width = codes "width"
 
 -- the least number of a bound
 abbrev pub least_of : Bound → ℕ
 least_of Workers = 1
+least_of Width = 1
 least_of other = 0
 
 -- the greatest number of a bound
@@ -27,6 +32,7 @@ most_of Length = MOST_LETTERS
 most_of Crashes = MOST_CRASHES
 most_of Workers = MOST_WORKERS
 most_of Cache = MOST_CACHE
+most_of Width = MOST_WIDTH
 
 -- the number that the text of an option writes, which writes one; or another one where there is no such option
 abbrev pub IsBoundTold : Option (List ℕ) → ℕ → ℕ → Type 0
@@ -43,9 +49,20 @@ default_of workers Length = MOST_LETTERS
 default_of workers Crashes = 0
 default_of workers Workers = workers
 default_of workers Cache = CACHE
+default_of workers Width = MOST_WIDTH
 
 -- the refusal of a bound, of which the words tell no number that it takes
 pub record IsBoundRefused (told : List ℕ → Option (List ℕ)) (workers : ℕ) (r : Refusal) : Type 0 where
   pub bound : Bound
   pub told_is : r ≡ refusal.Bound bound
   pub none : IsNoBound (told (name_of bound)) bound (default_of workers bound)
+
+-- the bound of a line of a drawing
+abbrev pub width : Bound
+width = Width
+
+-- how broad the words allow a drawing to be: whole, or as usual where they tell no width, or so many places
+abbrev pub IsBreadthTold : (List ℕ → Option (List ℕ)) → Breadth → Type 0
+IsBreadthTold told Whole = IsFlagTold (told (codes "all")) true
+IsBreadthTold told Usual = IsFlagTold (told (codes "all")) false × (told (codes "width") ≡ None)
+IsBreadthTold told (Places places) = IsFlagTold (told (codes "all")) false × IsBoundTold (told (codes "width")) 0 places × (1 ≤ places)

@@ -1,4 +1,5 @@
 pub mod Bounds
+pub mod Flags
 pub mod Inputs
 pub mod NumberTexts
 pub mod Orders

@@ -13,8 +13,10 @@ use Rattle.report.specs.declared.effort.Effort.{Effort}
 use Rattle.report.specs.declared.parts.Part.{Part}
 use Rattle.orders.specs.Bounds.{IsBoundRefused, IsBoundTold}
 use Rattle.orders.specs.Inputs.{is_standard}
+use Rattle.orders.specs.Flags.{IsFlagTold}
 use Rattle.orders.specs.NumberTexts.{IsNumberText}
 use Rattle.orders.specs.PatternTexts.{AreNoTexts, AreTextsOf, are_standard}
+use Rattle.drawing.specs.declared.breadths.Breadth.{Breadth}
 use Rattle.orders.specs.declared.tasks.Task.{Task}
 use Rattle.orders.specs.declared.bounds.TheConstants.{CACHE, MOST_CACHE, ROOM, SHARED_CUT}
 use Rattle.orders.specs.declared.orders.TheConstants.{CACHE_SETTING}
@@ -23,11 +25,15 @@ use Rattle.orders.specs.declared.refusals.Refusal.{Refusal}
 use Rattle.orders.specs.declared.refusals.Refusal.TheVariants as refusal
 use Rattle.orders.specs.declared.tasks.Task.TheVariants.{Check, Explore, Find, Replay, Show}
 
--- to draw the schedule of this text, with all registers or with those that fit, or else to replay it
-abbrev pub IsWalk : List ℕ → Bool → Bool → Task → Type 0
-IsWalk text draws all (Replay schedule) = (schedule_text schedule ≡ text) × (draws ≡ false)
-IsWalk text draws all (Show schedule with_all) = (schedule_text schedule ≡ text) × (draws ≡ true) × (with_all ≡ all)
-IsWalk text draws all _ = ⊥
+-- to replay the schedule of this text
+abbrev pub IsReplay : List ℕ → Task → Type 0
+IsReplay text (Replay schedule) = schedule_text schedule ≡ text
+IsReplay text _ = ⊥
+
+-- to draw the schedule of this text, so broad as this is so
+abbrev pub IsShowOf : (Breadth → Type 0) → List ℕ → Task → Type 0
+IsShowOf is_broad text (Show schedule breadth) = (schedule_text schedule ≡ text) × is_broad breadth
+IsShowOf is_broad text _ = ⊥
 
 -- the number that a text writes, where it writes one; else another one
 pub record IsNumberIn (text : List ℕ) (other n : ℕ) : Type 0 where
@@ -38,12 +44,6 @@ pub record IsNumberIn (text : List ℕ) (other n : ℕ) : Type 0 where
 abbrev pub IsNumberTold : Option (List ℕ) → ℕ → ℕ → Type 0
 IsNumberTold None other n = n ≡ other
 IsNumberTold (Some text) other n = IsNumberIn text other n
-
--- whether a flag is given, as clap says it in text
-pub record IsFlagTold (text : Option (List ℕ)) (given : Bool) : Type 0 where
-  pub none : text ≡ None → given ≡ false
-  pub yes : text ≡ Some (codes "true") → given ≡ true
-  pub no : text ≡ Some (codes "false") → given ≡ false
 
 -- the settings of an exploration are those of its words; `told` gives the text of each
 pub record AreSettingsTold (told : List ℕ → Option (List ℕ)) (settings : Bounds) : Type 0 where
@@ -117,25 +117,25 @@ IsExploration told text (Check effort native allows_faults shortest lists) = ⊥
 IsExploration told text (Explore effort native part least_alone) =
     AreSettingsTold told effort.settings × IsCacheTold told 0 effort.cache × IsNativeTold told native × IsFlagTold (told (codes "least")) least_alone
     × IsPartTold text part
-IsExploration told text (Find effort native patterns) = ⊥
+IsExploration told text (Find effort native patterns shortest) = ⊥
 IsExploration told text (Replay schedule) = ⊥
-IsExploration told text (Show schedule all) = ⊥
+IsExploration told text (Show schedule breadth) = ⊥
 
 -- whether use lines run as native machines
 abbrev pub is_native : Task → Bool
 is_native (Check effort native allows_faults shortest lists) = native
 is_native (Explore effort native part least_alone) = native
-is_native (Find effort native patterns) = native
+is_native (Find effort native patterns shortest) = native
 is_native (Replay schedule) = false
-is_native (Show schedule all) = false
+is_native (Show schedule breadth) = false
 
 -- whether its refusals are told in words
 abbrev pub is_in_words : Task → Bool
 is_in_words (Check effort native allows_faults shortest lists) = true
 is_in_words (Explore effort native part least_alone) = false
-is_in_words (Find effort native patterns) = true
+is_in_words (Find effort native patterns shortest) = true
 is_in_words (Replay schedule) = false
-is_in_words (Show schedule all) = true
+is_in_words (Show schedule breadth) = true
 
 -- to check as the words tell, and say in words what fails first, or what fails with the fewest letters; and to list the outcomes
 abbrev pub IsCheck : (List ℕ → Option (List ℕ)) → ℕ → Task → Type 0
@@ -143,9 +143,9 @@ IsCheck told processors (Check effort native allows_faults shortest lists) =
     IsEffortTold told processors effort × IsNativeTold told native × IsFlagTold (told (codes "allow-faults")) allows_faults × IsFlagTold (told (codes "shortest")) shortest
     × IsFlagTold (told (codes "outcomes")) lists
 IsCheck told processors (Explore effort native part least_alone) = ⊥
-IsCheck told processors (Find effort native patterns) = ⊥
+IsCheck told processors (Find effort native patterns shortest) = ⊥
 IsCheck told processors (Replay schedule) = ⊥
-IsCheck told processors (Show schedule all) = ⊥
+IsCheck told processors (Show schedule breadth) = ⊥
 
 -- the texts that stand where this name does, by what clap found
 abbrev pub texts_at : List ℕ → Found → List (List ℕ)
@@ -159,14 +159,15 @@ word_at name found = elim (first_value found name) [ Some text ↦ text | None �
 abbrev pub texts_told : Found → List (List ℕ)
 texts_told found = texts_at (codes "PATTERN") found
 
--- to look as far as the words tell for outcomes that match one of the patterns of these texts
+-- to look as far as the words tell for outcomes that match one of the patterns of these texts, with the fewest letters where they say so
 abbrev pub IsFind : (List ℕ → Option (List ℕ)) → ℕ → List (List ℕ) → Task → Type 0
 IsFind told processors texts (Check effort native allows_faults shortest lists) = ⊥
 IsFind told processors texts (Explore effort native part least_alone) = ⊥
-IsFind told processors texts (Find effort native patterns) =
+IsFind told processors texts (Find effort native patterns shortest) =
     IsEffortTold told processors effort × IsNativeTold told native × (map pattern_text patterns.items ≡ texts)
+    × IsFlagTold (told (codes "shortest")) shortest
 IsFind told processors texts (Replay schedule) = ⊥
-IsFind told processors texts (Show schedule all) = ⊥
+IsFind told processors texts (Show schedule breadth) = ⊥
 
 -- so it is with the patterns that the words tell, by what is read of standard input and what clap found
 pub record IsFindTold (reads : List ℕ → Type 0) (found : Found) (processors : ℕ) (task : Task) : Type 0 where
@@ -189,6 +190,6 @@ IsFindRefused reads unread found processors r =
 abbrev pub lists_of : Task → ℕ
 lists_of (Check effort native allows_faults shortest lists) = effort.settings.workers + 1
 lists_of (Explore effort native part least_alone) = effort.settings.workers
-lists_of (Find effort native patterns) = effort.settings.workers + 1
+lists_of (Find effort native patterns shortest) = effort.settings.workers + 1
 lists_of (Replay schedule) = 1
-lists_of (Show schedule all) = 1
+lists_of (Show schedule breadth) = 1

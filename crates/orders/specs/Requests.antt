@@ -1,27 +1,29 @@
 -- What the words of the command line ask for, by what clap makes of them.
-use Rattle.std.specs.Prelude.{◌≡◌, ◌≤◌, ⊤, ℕ, Bool, true, false, List, map, Some, codes}
+use Rattle.std.specs.Prelude.{◌≡◌, ◌≤◌, ⊤, ℕ, List, map, Some, codes}
 use Rattle.std.specs.Option.{option_map}
 use Rattle.clap.specs.Words.{Text, first_value, one_text, rows_of, subcommand_name_of, subcommand_rows_of}
 use Rattle.clap.specs.declared.parser.matches.ArgMatches.{ArgMatches}
 use Rattle.clap.specs.declared.parser.matches.Found.{Found}
 use Rattle.command_words.specs.CommandLine.{IsParseOf, command_line, word_at_name}
 use Rattle.regmodel.specs.declared.limits.TheConstants.{MOST_WORKERS}
-use Rattle.orders.specs.Orders.{IsCheck, IsExploration, IsFindTold, IsFlagTold, IsWalk, texts_at, word_at, word_told}
+use Rattle.orders.specs.Bounds.{IsBreadthTold}
+use Rattle.orders.specs.Flags.{IsFlagTold}
+use Rattle.orders.specs.Orders.{IsCheck, IsExploration, IsFindTold, IsReplay, IsShowOf, texts_at, word_at, word_told}
 use Rattle.orders.specs.declared.orders.Order as orders
 use Rattle.orders.specs.declared.orders.Request.{Request}
 use Rattle.orders.specs.declared.orders.Request.TheVariants.{Merge, Order, Version}
 use Rattle.orders.specs.declared.tasks.Task.{Task}
 
--- to draw the schedule that the words tell, with all registers where they say so
+-- to draw the schedule that the words tell, as broad as they say
 abbrev pub IsShow : Found → Task → Type 0
-IsShow found task = (all : Bool) × IsFlagTold (one_text found (codes "all")) all × IsWalk (word_at (codes "SCHEDULE") found) true all task
+IsShow found task = IsShowOf (IsBreadthTold (one_text found)) (word_at (codes "SCHEDULE") found) task
 
 -- what the words behind the name of a subcommand ask to do; `reads` tells what is read of standard input
 pub record IsTaskTold (reads : List ℕ → Type 0) (processors : ℕ) (name : Text) (found : Found) (task : Task) : Type 0 where
   pub check : name ≡ codes "check" → IsCheck (one_text found) processors task
   pub explore : name ≡ codes "explore" → IsExploration (one_text found) (word_told found) task
   pub find : name ≡ codes "find" → IsFindTold reads found processors task
-  pub replay : name ≡ codes "replay" → IsWalk (word_at (codes "SCHEDULE") found) false false task
+  pub replay : name ≡ codes "replay" → IsReplay (word_at (codes "SCHEDULE") found) task
   pub show : name ≡ codes "show" → IsShow found task
 
 -- so it is, with these files in their order, and whether it is to be told meanwhile how far it has come

@@ -7,8 +7,10 @@ ghost use Rattle.orders.specs.Bounds as spec;
 ghost use Rattle.orders.specs.Bounds.{IsBoundTold, IsNoBound};
 ghost use Rattle.orders.specs.Orders.{AreBoundsTold};
 
+use crate::options::has_flag;
 use crate::refusals::Refusal;
 use clap::ArgMatches;
+use drawing::Breadth;
 use regmodel::Settings;
 use regmodel::limits::{MOST_CRASHES, MOST_LETTERS, MOST_WORKERS};
 use std::thread;
@@ -27,10 +29,13 @@ pub const CACHE: u32 = 128;
 /// The most megabytes in which states are remembered.
 pub const MOST_CACHE: u32 = 65536;
 
+/// The most places that a line of a drawing may be asked to have.
+pub const MOST_WIDTH: u32 = 65536;
+
 /// How many processors there are taken to be where the system does not tell.
 const PROCESSORS: u32 = 4;
 
-/// What an option of a check or a search bounds.
+/// What an option of a check, a search or a drawing bounds.
 #[derive(Clone, Copy, PartialEq, Eq, Debug)]
 pub enum Bound {
     /// The letters of a schedule.
@@ -41,6 +46,8 @@ pub enum Bound {
     Workers,
     /// The megabytes in which states are remembered.
     Cache,
+    /// The places of a line of a drawing.
+    Width,
 }
 
 impl Bound {
@@ -56,6 +63,7 @@ impl Bound {
             Bound::Crashes => "crashes",
             Bound::Workers => "workers",
             Bound::Cache => "cache",
+            Bound::Width => "width",
         }
     }
 
@@ -65,7 +73,7 @@ impl Bound {
     {
         match self {
             Bound::Length | Bound::Crashes | Bound::Cache => 0,
-            Bound::Workers => 1,
+            Bound::Workers | Bound::Width => 1,
         }
     }
 
@@ -78,6 +86,7 @@ impl Bound {
             Bound::Crashes => MOST_CRASHES,
             Bound::Workers => MOST_WORKERS,
             Bound::Cache => MOST_CACHE,
+            Bound::Width => MOST_WIDTH,
         }
     }
 }
@@ -116,6 +125,23 @@ pub(crate) fn bounds_of(
     match Settings::new(length, crashes, workers, cut, ROOM) {
         Ok(settings) => Ok(settings),
         Err(_) => unreachable!(),
+    }
+}
+
+/// How broad the words allow a drawing to be: whole, or so many places, or as usual.
+pub(crate) fn breadth_of(words: &ArgMatches<'_>) -> Result<Breadth, Refusal>
+    ensures ok { IfOk result (spec.IsBreadthTold (one_text (found_of words.now))) }
+    ensures err { IfErr result (λ refusal. refusal ≡ Refusal.Bound spec.width) }
+    ensures refused { IfErr result (λ refusal.
+        IsNoBound (one_text (found_of words.now) (spec.name_of spec.width)) spec.width MOST_WIDTH) }
+{
+    if has_flag(words, "all") {
+        return Ok(Breadth::Whole);
+    }
+    match words.try_get_one::<u32>("width") {
+        Ok(Some(places)) if 1 <= places && places <= MOST_WIDTH => Ok(Breadth::Places(places)),
+        Ok(None) => Ok(Breadth::Usual),
+        _ => Err(Refusal::Bound(Bound::Width)),
     }
 }
 

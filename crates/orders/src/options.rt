@@ -2,7 +2,8 @@
 
 ghost use Rattle.std.specs.Prelude.{◌≡◌};
 ghost use Rattle.clap.specs.Words.{found_of, one_text};
-ghost use Rattle.orders.specs.Orders.{IsFlagTold, IsNativeTold, IsNumberTold, word_at};
+ghost use Rattle.orders.specs.Flags.{IsFlagTold};
+ghost use Rattle.orders.specs.Orders.{IsNativeTold, IsNumberTold, word_at};
 
 use clap::ArgMatches;
 

@@ -3,14 +3,16 @@
 ghost use Rattle.std.specs.Prelude.{◌≡◌, ◌≤◌, ◌⊎◌, Err, IfErr, IfOk, map, ℕ};
 ghost use Rattle.clap.specs.Words.{found_of, one_text};
 ghost use Rattle.orders.specs.Bounds.{IsBoundRefused};
-ghost use Rattle.orders.specs.Orders.{IsCheck, IsEffortTold, IsExploration, IsFindRefused, IsFindTold, IsSettingRefused, IsWalk, texts_told, word_told};
-ghost use Rattle.orders.specs.Requests.{IsOrderTold, IsRequestBy, IsRequestOf, IsTaskTold};
+ghost use Rattle.orders.specs.Orders.{IsCheck, IsEffortTold, IsExploration, IsFindRefused, IsFindTold, IsReplay, IsSettingRefused, texts_told, word_told};
+ghost use Rattle.orders.specs.Requests.{IsOrderTold, IsRequestBy, IsRequestOf, IsShow, IsTaskTold};
 ghost use Rattle.regmodel.specs.declared.limits.TheConstants.{MOST_WORKERS};
 ghost use Rattle.orders.specs.Inputs.{IsStandardText};
 ghost use Rattle.orders.specs.PatternTexts.{IsStandardUnread};
 ghost use Rattle.orders.specs.Statuses.{IsNoSchedule, status_of};
 
-use crate::bounds::{Bound, CACHE, MOST_CACHE, ProcessorCount, bound_of, bounds_of, processors};
+use crate::bounds::{
+    Bound, CACHE, MOST_CACHE, ProcessorCount, bound_of, bounds_of, breadth_of, processors,
+};
 use crate::inputs::{Opener, STANDARD_INPUT, is_standard};
 use crate::options::{has_flag, is_native, number_of, word_at};
 use crate::parts_told::part_told;
@@ -163,8 +165,8 @@ fn task_of<O: Opener>(
     match name {
         "check" => check_of(words, processors),
         "find" => find_of(alloc, words, processors, opener),
-        "replay" => walk_of(word_at(words, "SCHEDULE"), false, false),
-        "show" => walk_of(word_at(words, "SCHEDULE"), true, has_flag(words, "all")),
+        "replay" => replay_of(word_at(words, "SCHEDULE")),
+        "show" => show_of(words),
         _ => exploration_of(words),
     }
 }
@@ -216,7 +218,8 @@ fn effort_of(words: &ArgMatches<'_>, processors: ProcessorCount) -> Result<Effor
     Ok(Effort { settings, cache })
 }
 
-/// How far the words of `find` ask to look, and for which outcomes. Standard input cannot be both the source and the patterns.
+/// How far the words of `find` ask to look, for which outcomes, and whether for the shortest
+/// schedule. Standard input cannot be both the source and the patterns.
 fn find_of<O: Opener>(
     alloc: Global,
     words: &ArgMatches<'_>,
@@ -238,10 +241,12 @@ fn find_of<O: Opener>(
         return Err(Refusal::TwiceStandard);
     }
     let patterns = patterns_told(alloc, texts, opener)?;
+    let shortest = has_flag(words, "shortest");
     Ok(Task::Find {
         effort,
         native,
         patterns,
+        shortest,
     })
 }
 
@@ -287,16 +292,24 @@ fn exploration_of(words: &ArgMatches<'_>) -> Result<Task, Refusal>
     })
 }
 
-/// To draw the schedule of this text, with all registers or with those that fit, or else to replay it.
-fn walk_of(text: &str, draws: bool, all: bool) -> Result<Task, Refusal>
-    ensures ok { IfOk result (IsWalk text.now draws all) }
+/// To replay the schedule of this text.
+fn replay_of(text: &str) -> Result<Task, Refusal>
+    ensures ok { IfOk result (IsReplay text.now) }
     ensures refused { IfErr result (IsNoSchedule text.now) }
 {
-    let Some(schedule) = read_schedule(text.as_bytes()) else {
-        return Err(Refusal::Schedule);
-    };
-    if draws {
-        return Ok(Task::Show { schedule, all });
+    match read_schedule(text.as_bytes()) {
+        Some(schedule) => Ok(Task::Replay { schedule }),
+        None => Err(Refusal::Schedule),
     }
-    Ok(Task::Replay { schedule })
+}
+
+/// To draw the schedule that the words tell, as broad as they say.
+fn show_of(words: &ArgMatches<'_>) -> Result<Task, Refusal>
+    ensures { IfOk result (IsShow (found_of words.now)) }
+{
+    let breadth = breadth_of(words)?;
+    match read_schedule(word_at(words, "SCHEDULE").as_bytes()) {
+        Some(schedule) => Ok(Task::Show { schedule, breadth }),
+        None => Err(Refusal::Schedule),
+    }
 }

@@ -2,6 +2,7 @@
 
 ghost use Rattle.std.specs.Prelude.{◌≡◌, None, Some, if◌then◌else◌, option_map};
 
+use drawing::Breadth;
 use patterns::Pattern;
 use regmodel::Prefix;
 use report::{Effort, Part};
@@ -27,20 +28,22 @@ pub enum Task {
         part: Option<Part>,
         least_alone: bool,
     },
-    /// Look this far for the least schedule whose outcome matches one of these patterns.
+    /// Look this far for the least schedule whose outcome matches one of these patterns, or for the
+    /// least of the shortest.
     Find {
         effort: Effort,
         native: bool,
         patterns: Vec<Pattern>,
+        shortest: bool,
     },
     /// Replay this schedule.
     Replay {
         schedule: Prefix,
     },
-    /// Draw this schedule, with all registers or with those that fit into a line.
+    /// Draw this schedule, so broad.
     Show {
         schedule: Prefix,
-        all: bool,
+        breadth: Breadth,
     },
 }
 

@@ -6,13 +6,14 @@ use Rattle.regmodel.specs.declared.clauses.Subject.TheVariants as subject
 use Rattle.regmodel.specs.declared.outcomes.End.{End}
 use Rattle.regmodel.specs.declared.outcomes.End.TheVariants as end
 use Rattle.regmodel.specs.declared.outcomes.ProcEnd.{ProcEnd}
-use Rattle.patterns.specs.declared.standings.Standing.TheVariants.{Any, Done}
+use Rattle.patterns.specs.declared.standings.Standing.TheVariants.{Any, Done, Just}
 use Rattle.verdict.specs.Demands.{clauses_asked, meets_demands}
 use Rattle.verdict.specs.FaultText.{reason_text}
+use Rattle.verdict.specs.Excesses.{first_excess}
 use Rattle.verdict.specs.Faults.{first_fault}
 use Rattle.verdict.specs.Gaps.{want_of}
 use Rattle.verdict.specs.ShellWords.{operand_text}
-use Rattle.verdict.specs.WayText.{match_text, nowhere_text}
+use Rattle.verdict.specs.WayText.{excess_text, match_text, nowhere_text}
 
 -- a process that took no step
 abbrev idle : End → ProcEnd
@@ -65,6 +66,13 @@ the_only_one = refl
 pub none_of_two : nowhere_text (codes "a.reg") 2 8 1 ≡ codes "a.reg: no schedule leads to any of 2 patterns, up to 8 letters and 1 crash\n"
 unfolding digits
 none_of_two = refl
+
+pub no_more_crashes : first_excess 1 ((Any ∷ Just (idle end.Crashed) ∷ []) ∷ (Just (idle end.Crashed) ∷ Just (idle end.Crashed) ∷ []) ∷ []) ≡ Some 1
+no_more_crashes = refl
+
+pub second_asks : excess_text 2 (Some 2) ≡ codes "Pattern 2 asks for more crashes than there may be: give a greater --crashes.\n"
+unfolding digits
+second_asks = refl
 
 pub path_as_it_stands : operand_text (codes "examples/in_order.reg") ≡ codes "examples/in_order.reg"
 path_as_it_stands = refl

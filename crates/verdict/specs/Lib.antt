@@ -2,6 +2,7 @@ pub mod Breaches
 pub mod Demands
 pub mod Drawn
 pub mod Examples
+pub mod Excesses
 pub mod FaultText
 pub mod Faults
 pub mod Gaps

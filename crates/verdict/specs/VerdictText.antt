@@ -10,6 +10,7 @@ use Rattle.report.specs.PlainReport.{Findings}
 use Rattle.regmodel.specs.ScheduleText.{schedule_text}
 use Rattle.reglang.specs.Lines.{without_indent}
 use Rattle.reglang.specs.Checks.{line_at}
+use Rattle.drawing.specs.declared.breadths.Breadth.TheVariants.{Usual}
 use Rattle.drawing.specs.DrawingText.{drawing_text}
 use Rattle.explanations.specs.Origins.{line_told, path_told}
 use Rattle.explanations.specs.Shown.{shown}
@@ -18,6 +19,7 @@ use Rattle.verdict.specs.ShellWords.{operand_text}
 use Rattle.verdict.specs.declared.breaches.Breach.{Breach}
 use Rattle.verdict.specs.declared.breaches.Cause.{Cause}
 use Rattle.verdict.specs.declared.breaches.Cause.TheVariants.{Check, Fault}
+use Rattle.verdict.specs.declared.breaches.Cut.{Cut}
 use Rattle.verdict.specs.declared.breaches.Verdict.{Verdict}
 use Rattle.verdict.specs.declared.breaches.Verdict.TheVariants.{Fails, Holds}
 use Rattle.verdict.specs.declared.demands.Asked.{Asked}
@@ -63,9 +65,13 @@ fails_text is_shortest = if is_shortest then codes " fails, and no shorter one: 
 abbrev pub from_step_text : ℕ → List ℕ
 from_step_text letter = if letter == 0 then [] else codes "It fails from step " ++ decimal letter ++ codes " on.\n"
 
--- from which letter on each beginning fails, where that comes about by a letter
+-- that a schedule is cut off, and none fails otherwise
+abbrev pub cut_alone_text : List ℕ
+cut_alone_text = codes "It is cut off with a process still running" ++ codes "; up to this length none fails otherwise.\n"
+
+-- from which letter on each beginning fails, where that comes about by a letter; where the schedule fails for being cut off, that it does
 abbrev pub onset_text : Option ℕ → List ℕ
-onset_text onset = elim onset [ Some letter ↦ from_step_text letter | None ↦ [] ]
+onset_text onset = elim onset [ Some letter ↦ from_step_text letter | None ↦ cut_alone_text ]
 
 -- that a schedule of so many letters fails, why, and from which letter on
 abbrev pub failing_text : List ℕ → List ℕ → Bool → ℕ → Cause → Option ℕ → List ℕ
@@ -79,7 +85,17 @@ show_text path w = codes "\nregtry show " ++ operand_text path ++ codes " '" ++ 
 -- that a schedule fails and why, the schedule as a drawing, and the command that draws it again
 abbrev pub breach_text : List ℕ → List ℕ → Bool → Breach → List ℕ
 breach_text path text is_shortest breach =
-    failing_text path text is_shortest (length breach.schedule) breach.cause breach.onset ++ drawing_text false breach.drawing ++ show_text path breach.schedule
+    failing_text path text is_shortest (length breach.schedule) breach.cause breach.onset ++ drawing_text Usual breach.drawing ++ show_text path breach.schedule
+
+-- that a schedule is cut off, what it breaks, and the command that draws it
+abbrev pub cut_text : List ℕ → List ℕ → Cut → List ℕ
+cut_text path text cut =
+    codes "\nA schedule of " ++ letters_text (length cut.schedule) ++ codes " is cut off, with a process still running: " ++ cause_text text cut.cause
+    ++ show_text path cut.schedule
+
+-- the same, where one is told beside another schedule that fails
+abbrev pub beside_text : List ℕ → List ℕ → Option Cut → List ℕ
+beside_text path text cut = elim cut [ Some c ↦ cut_text path text c | None ↦ [] ]
 
 -- whether schedules were cut off: some process still wants an access after as many letters as there may be
 abbrev pub is_cut_off : Findings → Bool
@@ -147,5 +163,5 @@ held_text path text reach asked gaps =
 
 -- what is told of a source in the file of this path, where the least failing schedule was asked for, or the shortest one
 abbrev pub verdict_text : List ℕ → List ℕ → Bool → Verdict → List ℕ
-verdict_text path text is_shortest (Fails breach) = breach_text path text is_shortest breach
+verdict_text path text is_shortest (Fails breach cut) = breach_text path text is_shortest breach ++ beside_text path text cut
 verdict_text path text is_shortest (Holds held) = held_text path text (reach_of held.exploration) held.asked held.gaps.items

@@ -1,7 +1,8 @@
 -- Which schedule leads to an outcome that was looked for, in words.
-use Rattle.std.specs.Prelude.{ℕ, ◌==◌, false, if◌then◌else◌, List, [], ◌++◌, length, Some, None, codes, decimal}
+use Rattle.std.specs.Prelude.{ℕ, ◌==◌, Bool, false, if◌then◌else◌, List, [], ◌++◌, length, Option, Some, None, codes, decimal}
 use Rattle.regmodel.specs.declared.outcomes.ProcEnd.{ProcEnd}
 use Rattle.texts.specs.OutcomeText.{outcome_text}
+use Rattle.drawing.specs.declared.breadths.Breadth.TheVariants.{Usual}
 use Rattle.drawing.specs.DrawingText.{drawing_text}
 use Rattle.patterns.specs.PatternText.{pattern_text}
 use Rattle.patterns.specs.declared.matching.Match.{Match}
@@ -22,24 +23,39 @@ match_line sought found =
 abbrev pub match_text : ℕ → Match → List ℕ
 match_text sought found = if sought == 1 then [] else match_line sought found
 
--- what is told of a way, with the drawing of the schedule, and the command that draws it again
-abbrev pub way_text : List ℕ → ℕ → Way → List ℕ
-way_text path sought way =
-    leading_text path (length way.schedule) way.outcome ++ match_text sought way.matched ++ codes "\n"
-    ++ drawing_text false way.drawing ++ show_text path way.schedule
-
 -- where no schedule leads, of so many patterns
 abbrev pub nowhere : ℕ → List ℕ
 nowhere sought = if sought == 1 then codes "there" else codes "to any of " ++ decimal sought ++ codes " patterns"
+
+-- that no shorter schedule leads there, where the shortest one was asked for
+abbrev pub no_shorter_text : Bool → ℕ → List ℕ
+no_shorter_text is_shortest sought = if is_shortest then codes "No shorter one leads " ++ nowhere sought ++ codes ".\n" else []
+
+-- what is told of a way, with the drawing of the schedule, and the command that draws it again
+abbrev pub way_text : List ℕ → ℕ → Bool → Way → List ℕ
+way_text path sought is_shortest way =
+    leading_text path (length way.schedule) way.outcome ++ (match_text sought way.matched ++ no_shorter_text is_shortest sought) ++ codes "\n"
+    ++ drawing_text Usual way.drawing ++ show_text path way.schedule
 
 -- that no schedule leads there, and how far was looked
 abbrev pub nowhere_text : List ℕ → ℕ → ℕ → ℕ → List ℕ
 nowhere_text path sought limit crashes = path ++ codes ": no schedule leads " ++ nowhere sought ++ bounds_text limit crashes
 
+-- a pattern, by its number; the only one without
+abbrev pub pattern_told : ℕ → ℕ → List ℕ
+pattern_told sought number = if sought == 1 then codes "The pattern" else codes "Pattern " ++ decimal number
+
+-- which pattern asks for more crashes than there may be, where one does
+abbrev pub excess_text : ℕ → Option ℕ → List ℕ
+excess_text sought excess = elim excess [
+  | Some number ↦ pattern_told sought number ++ codes " asks for more crashes than there may be: give a greater --crashes.\n"
+  | None ↦ []
+]
+
 -- what is told of a source in the file of this path
-abbrev pub discovery_text : List ℕ → Discovery → List ℕ
-discovery_text path discovery =
+abbrev pub discovery_text : List ℕ → Discovery → Bool → List ℕ
+discovery_text path discovery is_shortest =
     elim discovery.way [
-      | Some way ↦ way_text path discovery.sought way
-      | None ↦ nowhere_text path discovery.sought discovery.least.length discovery.least.crashes
+      | Some way ↦ way_text path discovery.sought is_shortest way
+      | None ↦ nowhere_text path discovery.sought discovery.least.length discovery.least.crashes ++ excess_text discovery.sought discovery.excess
     ]

@@ -53,6 +53,15 @@ pub struct Breach {
     pub drawing: Drawing,
 }
 
+/// A schedule that is cut off with a process still running, and fails for that alone.
+#[derive(Debug, Drop)]
+pub struct Cut {
+    /// The schedule.
+    pub schedule: Prefix,
+    /// Why it fails: the line of `ended`.
+    pub cause: Cause,
+}
+
 /// What is known where no schedule fails.
 #[derive(Drop)]
 pub struct Held {
@@ -67,21 +76,44 @@ pub struct Held {
 /// Whether a source holds.
 #[derive(Drop)]
 pub enum Verdict {
-    /// A schedule fails: what the least one breaks.
-    Fails(Breach),
+    /// A schedule fails: what the least one breaks; or what the least one breaks of those that fail
+    /// otherwise than for being cut off, and beside it the least of all, which is cut off.
+    Fails(Breach, Option<Cut>),
     /// None fails: what was found and looked for.
     Holds(Held),
 }
 
 impl Verdict {
     ghost use Rattle.std.specs.Prelude.{◌≡◌};
-    ghost use Rattle.verdict.specs.Verdicts.{is_failing};
+    ghost use Rattle.verdict.specs.Verdicts.{cut_of, is_failing, with_cut};
 
     /// Whether a schedule fails.
     pub fn fails(&self) -> bool
         ensures { result ≡ is_failing self.now }
     {
-        matches!(self, Verdict::Fails(_))
+        matches!(self, Verdict::Fails(_, _))
+    }
+
+    /// The schedule that fails, where it breaks `ended` alone: it is cut off.
+    pub fn cut(&self) -> Option<Cut>
+        ensures { result ≡ cut_of self.now }
+    {
+        match self {
+            Verdict::Fails(breach, _) if breach.onset.is_none() => Some(Cut {
+                schedule: breach.schedule.copy(),
+                cause: breach.cause,
+            }),
+            _ => None,
+        }
+    }
+
+    /// Tells of this cut as well, where a schedule fails.
+    pub fn add_cut(&mut self, cut: Cut)
+        ensures { self.new ≡ with_cut cut self.old }
+    {
+        if let Verdict::Fails(_, told) = self {
+            *told = Some(cut);
+        }
     }
 }
 
@@ -107,7 +139,8 @@ pub fn verdict_on(
                 asks_ended: true,
                 allows_faults,
             };
-            Verdict::Fails(breach_for(spelling, machines, settings, strictness, &least))
+            let breach = breach_for(spelling, machines, settings, strictness, &least);
+            Verdict::Fails(breach, None)
         }
         Checked::Holds(exploration) => {
             let clauses = spelling.source.clauses().list();

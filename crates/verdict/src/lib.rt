@@ -4,6 +4,7 @@
 mod breaches;
 mod counts;
 mod demands;
+mod excesses;
 mod faults;
 mod gaps;
 mod listings;
@@ -16,7 +17,7 @@ mod verdict_text;
 mod way_text;
 mod ways;
 
-pub use breaches::{Breach, Cause, Held, Verdict, breach_for, verdict_on};
+pub use breaches::{Breach, Cause, Cut, Held, Verdict, breach_for, verdict_on};
 pub use demands::{Asked, Demands, Strictness, without_ended};
 pub use faults::{FaultLine, ProcessFault, first_fault};
 pub use gaps::Gap;

@@ -46,7 +46,7 @@ pub fn write_listing<W: Write>(
     };
     match verdict {
         Verdict::Holds(held) => write(&(told, OutcomeList(&held.exploration)), out),
-        Verdict::Fails(_) => match explored {
+        Verdict::Fails(_, _) => match explored {
             Some(explored) => write(&(told, OutcomeList(explored)), out),
             None => write(&told, out),
         },

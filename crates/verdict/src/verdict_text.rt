@@ -4,14 +4,14 @@ ghost use Rattle.texts.specs.Appending.{Wrote};
 ghost use Rattle.verdict.specs.VerdictText as spec;
 ghost use Rattle.verdict.specs.VerdictText.{verdict_text};
 
-use crate::breaches::{Breach, Cause, Verdict};
+use crate::breaches::{Breach, Cause, Cut, Verdict};
 use crate::counts::{Bounds, Counted, Letters};
 use crate::demands::Asked;
 use crate::faults::FaultLine;
 use crate::gaps::Gap;
 use crate::reach::{Reach, reach_of};
 use crate::show_commands::ShowCommand;
-use drawing::Drawn;
+use drawing::{Breadth, Drawn};
 use explanations::{origin_of, shown_line};
 use reglang::without_indent;
 use regmodel::Subject;
@@ -58,14 +58,14 @@ impl Text for Told<'_> {
     fn put<W: Write>(&self, out: &mut W, block: &mut Block) -> Result<(), WriteFault> {
         let Told { path, text, .. } = *self;
         match self.verdict {
-            Verdict::Fails(breach) => {
+            Verdict::Fails(breach, cut) => {
                 let failing = Failing {
                     path,
                     text,
                     breach,
                     is_shortest: self.is_shortest,
                 };
-                failing.put(out, block)
+                (failing, Beside { path, text, cut }).put(out, block)
             }
             Verdict::Holds(held) => {
                 let reach = reach_of(&held.exploration);
@@ -100,7 +100,7 @@ impl Text for Failing<'_> {
         };
         let drawing = Drawn {
             drawing: &breach.drawing,
-            all: false,
+            breadth: Breadth::Usual,
         };
         let fails = Fails(self.is_shortest);
         let failing = (self.path, ": a schedule of ", letters, fails);
@@ -185,7 +185,8 @@ impl Text for OfFile<'_> {
     }
 }
 
-/// From which letter on each beginning of a schedule fails, where that comes about by a letter.
+/// From which letter on each beginning of a schedule fails, where that comes about by a letter; or
+/// that it is cut off, and none fails otherwise.
 #[derive(Clone, Copy)]
 struct Onset(Option<u64>);
 
@@ -194,11 +195,43 @@ impl Text for Onset {
 
     fn put<W: Write>(&self, out: &mut W, block: &mut Block) -> Result<(), WriteFault> {
         match self.0 {
-            Some(letter) if letter != 0 => ("It fails from step ", letter, " on.\n").put(
-                out, block,
-            ),
-            _ => Ok(()),
+            Some(0) => Ok(()),
+            Some(letter) => ("It fails from step ", letter, " on.\n").put(out, block),
+            None => {
+                let otherwise = "; up to this length none fails otherwise.\n";
+                ("It is cut off with a process still running", otherwise).put(out, block)
+            }
         }
+    }
+}
+
+/// A schedule that is cut off, where one is told beside another schedule that fails: what it breaks,
+/// and the command that draws it.
+#[derive(Clone, Copy)]
+struct Beside<'a> {
+    path: &'a [u8],
+    text: &'a [u8],
+    cut: &'a Option<Cut>,
+}
+
+impl Text for Beside<'_> {
+    ghost text = { λ b. spec.beside_text b.path.now b.text.now b.cut.now };
+
+    fn put<W: Write>(&self, out: &mut W, block: &mut Block) -> Result<(), WriteFault> {
+        let Some(cut) = self.cut else {
+            return Ok(());
+        };
+        let letters = Letters(cut.schedule.letters().len() as u64);
+        let cause = Caused {
+            text: self.text,
+            cause: &cut.cause,
+        };
+        let show = ShowCommand {
+            path: self.path,
+            schedule: &cut.schedule,
+        };
+        let running = " is cut off, with a process still running: ";
+        ("\nA schedule of ", letters, running, cause, show).put(out, block)
     }
 }
 

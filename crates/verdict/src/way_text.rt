@@ -8,7 +8,7 @@ ghost use Rattle.verdict.specs.WayText.{discovery_text};
 use crate::counts::{Bounds, Letters};
 use crate::show_commands::ShowCommand;
 use crate::ways::{Discovery, Way};
-use drawing::Drawn;
+use drawing::{Breadth, Drawn};
 use patterns::Match;
 use std::io::Write;
 use texts::{Block, Text, WriteFault, write};
@@ -71,16 +71,53 @@ impl Text for Nowhere {
     }
 }
 
+/// That no shorter schedule leads to any of so many patterns, where the shortest one was asked for.
+#[derive(Clone, Copy)]
+struct NoShorter(bool, u64);
+
+impl Text for NoShorter {
+    ghost text = { λ n. spec.no_shorter_text n.0 n.1 };
+
+    fn put<W: Write>(&self, out: &mut W, block: &mut Block) -> Result<(), WriteFault> {
+        if self.0 {
+            return ("No shorter one leads ", Nowhere(self.1), ".\n").put(out, block);
+        }
+        Ok(())
+    }
+}
+
+/// Which of so many patterns, by its number, asks for more crashes than there may be, where one does.
+#[derive(Clone, Copy)]
+struct Excess(u64, Option<u64>);
+
+impl Text for Excess {
+    ghost text = { λ e. spec.excess_text e.0 e.1 };
+
+    fn put<W: Write>(&self, out: &mut W, block: &mut Block) -> Result<(), WriteFault> {
+        let Some(number) = self.1 else {
+            return Ok(());
+        };
+        let asks = " asks for more crashes than there may be: give a greater --crashes.\n";
+        if self.0 == 1 {
+            return ("The pattern", asks).put(out, block);
+        }
+        ("Pattern ", number, asks).put(out, block)
+    }
+}
+
 /// Writes what was found of the source in the file of this path: the least schedule that leads to
 /// an outcome that was looked for, which of several patterns it matches, its drawing and the
-/// command that draws it again; or that none does, and how far was looked. After a fault the
-/// writer has taken a beginning of it.
+/// command that draws it again; or that none does, how far was looked, and whether a pattern asks
+/// for more crashes than there may be. Where the shortest one
+/// was asked for, that no shorter one does. After a fault the writer has taken a beginning of it.
 pub fn write_discovery<W: Write>(
     path: &[u8],
     discovery: &Discovery,
+    is_shortest: bool,
     out: &mut W,
 ) -> Result<(), WriteFault>
-    ensures { Wrote W.contents out.old out.new (discovery_text path.now discovery.now) result }
+    ensures { Wrote W.contents out.old out.new
+        (discovery_text path.now discovery.now is_shortest) result }
 {
     let sought = discovery.sought;
     match &discovery.way {
@@ -90,9 +127,10 @@ pub fn write_discovery<W: Write>(
                 sought,
                 found: &way.matched,
             };
+            let matched = (matched, NoShorter(is_shortest, sought));
             let drawing = Drawn {
                 drawing: &way.drawing,
-                all: false,
+                breadth: Breadth::Usual,
             };
             let show = ShowCommand {
                 path,
@@ -105,10 +143,8 @@ pub fn write_discovery<W: Write>(
                 length: u64::from(discovery.least.length()),
                 crashes: u64::from(discovery.least.crashes()),
             };
-            write(
-                &(path, ": no schedule leads ", Nowhere(sought), bounds),
-                out,
-            )
+            let nowhere = (path, ": no schedule leads ", Nowhere(sought), bounds);
+            write(&(nowhere, Excess(sought, discovery.excess)), out)
         }
     }
 }

@@ -1,12 +1,14 @@
 //! A schedule that leads to outcomes that were looked for.
 
-ghost use Rattle.std.specs.Prelude.{◌≡◌, false, length, map};
+ghost use Rattle.std.specs.Prelude.{◌≡◌, ◌+◌, false, length, map, option_map};
 ghost use Rattle.report.specs.PlainReport.{IsPlainLeast};
 ghost use Rattle.patterns.specs.Matching.{IsFirstMatch, matches_none};
 ghost use Rattle.reglang.specs.Sources.{contents_of, source_programs};
+ghost use Rattle.verdict.specs.Excesses.{first_excess};
 ghost use Rattle.verdict.specs.Ways.{IsWayFor};
 
 use crate::breaches::drawing_of;
+use crate::excesses::first_excess;
 use drawing::Drawing;
 use machine::Machine;
 use patterns::{Match, Pattern, first_match};
@@ -36,6 +38,9 @@ pub struct Discovery {
     pub least: Least,
     /// How many patterns were looked for.
     pub sought: u64,
+    /// The number of the first pattern in which more processes have crashed than may crash, counted
+    /// from 1: no outcome matches it.
+    pub excess: Option<u64>,
     /// That schedule, drawn.
     pub way: Option<Way>,
 }
@@ -55,6 +60,8 @@ pub fn discovery_on(
         (matches_none patterns.now) least }
     ensures least { result.least ≡ least }
     ensures sought { result.sought ≡ length patterns.now }
+    ensures excess { result.excess
+        ≡ option_map (λ place. place + 1) (first_excess settings.crashes patterns.now) }
     ensures way { IsWayFor (contents_of source.now) patterns.now least.least result.way }
 {
     the_first_refused_is_a_schedule();
@@ -70,9 +77,14 @@ pub fn discovery_on(
         }
         None => None,
     };
+    let excess = match first_excess(patterns, settings.crashes()) {
+        Some(place) => Some(place as u64 + 1),
+        None => None,
+    };
     Discovery {
         least,
         sought: patterns.len() as u64,
+        excess,
         way,
     }
 }

@@ -5,7 +5,6 @@ use Rattle.regmodel.specs.Reply.{Replies}
 use denote.Param.Object.{read_made}
 use Rattle.reglang.specs.Sources.{source_programs}
 use Rattle.regmodel.proofs.Members.{map-take_push}
-use Rattle.cli.specs.Runs.{has_natives}
 use Rattle.cli.specs.Understanding.{resumed_of_all}
 use Rattle.cli.proofs.aims.reached.OwnLists.{own-1}
 use Rattle.cli.proofs.aims.reached.Goals as goal
@@ -25,5 +24,14 @@ loop-p-preserved g c =
     ∙ ap resumed c.in_ok-new.ensures.ok in
     record {
       machines = map-take_push (λ b. (own-1.entry b.vtable).1.program b.value) c.loop-p.machines.items c.push.new.self.items boxed (source_programs source) c.loop-p.p (program machine) c.in_ok-push.ensures.items c.loop-p.invariant.machines runs c.in_ok-machine.ensures.program;
-      understood = map-take_push (λ b. (own-1.entry b.vtable).1.resumed b.value) c.loop-p.machines.items c.push.new.self.items boxed (resumed_of_all source (has_natives c.args.aim.now)) c.loop-p.p (resumed machine) c.in_ok-push.ensures.items c.loop-p.invariant.understood understands (rw c.is_native.ensures at c.in_ok-machine.ensures.understood);
+      understood = map-take_push (λ b. (own-1.entry b.vtable).1.resumed b.value) c.loop-p.machines.items c.push.new.self.items boxed (resumed_of_all source c.args.run.now.native) c.loop-p.p (resumed machine) c.in_ok-push.ensures.items c.loop-p.invariant.understood understands c.in_ok-machine.ensures.understood;
     }
+
+pub returns-in-Failing-clause-found : goal.returns-in-Failing-clause-found
+returns-in-Failing-clause-found g c = rw (c.in-Sought.is, c.in-Failing.is) c.failing.ensures.found
+
+pub returns-in-Failing-clause-refused : goal.returns-in-Failing-clause-refused
+returns-in-Failing-clause-refused g c = rw (c.in-Sought.is, c.in-Failing.is) c.failing.ensures.refused
+
+pub returns-in-Matching-clause-refused : goal.returns-in-Matching-clause-refused
+returns-in-Matching-clause-refused g c = rw (c.in-Sought.is, c.in-Matching.is) c.matching.ensures.refused

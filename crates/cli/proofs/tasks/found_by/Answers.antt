@@ -1,24 +1,27 @@
 use Rattle.std.proofs.Common.{◌≡◌, false, map}
+use Rattle.std.proofs.lemmas.Result.{IfErr-weaker, IfOk-weaker, err_from_is_err_and}
 use Rattle.reglang.specs.Sources.{source_programs}
 use Rattle.explorer.proofs.GrownLists.{last_has}
 use Rattle.cli.proofs.tasks.found_by.Goals as goal
 
-pub checked-requires-clause-understood : goal.checked-requires-clause-understood
-checked-requires-clause-understood g c κs within = rw c.in-Check.is at c.requires.understood
+pub returns-in-Check-clause-found : goal.returns-in-Check-clause-found
+returns-in-Check-clause-found g c =
+    rw c.in-Check.is (IfOk-weaker c.checked.result _ _ (λ finding first. first c.in-Check.native c.in-Check.lists) c.checked.ensures.found)
 
-pub explored-requires-clause-understood : goal.explored-requires-clause-understood
-explored-requires-clause-understood g c κs within = rw c.in-Explore.is at c.requires.understood
+pub returns-in-Check-clause-refused : goal.returns-in-Check-clause-refused
+returns-in-Check-clause-refused g c =
+    rw c.in-Check.is (IfErr-weaker c.checked.result _ _ (λ fault refused. refused c.in-Check.effort c.in-Check.native c.in-Check.shortest c.in-Check.lists) c.checked.ensures.refused)
 
-pub returns-in-Check : goal.returns-in-Check
-returns-in-Check g c =
-    let alone : c.in-Check.lists ≡ false = rw c.in-Check.is at c.requires.alone in
-    rw (c.in-Check.is, alone) c.checked.ensures
+pub returns-in-Explore-clause-found : goal.returns-in-Explore-clause-found
+returns-in-Explore-clause-found g c = rw c.in-Explore.is (c.explored.ensures c.in-Explore.native).found
 
-pub returns-in-Explore : goal.returns-in-Explore
-returns-in-Explore g c = rw c.in-Explore.is c.explored.ensures
+pub returns-in-Explore-clause-refused : goal.returns-in-Explore-clause-refused
+returns-in-Explore-clause-refused g c = rw c.in-Explore.is (c.explored.ensures c.in-Explore.native).refused
 
-pub returns-in-Find : goal.returns-in-Find
-returns-in-Find g c = rw c.in-Find.is c.searched.ensures
+pub returns-in_err-discovery-in-Find-clause-refused : goal.returns-in_err-discovery-in-Find-clause-refused
+returns-in_err-discovery-in-Find-clause-refused g c =
+    let p = err_from_is_err_and c.from_residual.result c.from_residual.ensures.1 in
+    rw (p.1, p.2, c.in-Find.is) (c.in_err-discovery-in-Find.ensures.refused c.in-Find.effort c.in-Find.native c.in-Find.shortest false)
 
 pub standing_after-requires : goal.standing_after-requires
 standing_after-requires g c =

@@ -9,8 +9,8 @@ invariant_of-table-clause-there g c = rw (c.as_slice-2.ensures.value, c.as_slice
 pub returns : goal.returns
 returns g c =
     let drawing = c.args.self.now.drawing.now in
-    let all = c.args.self.now.all in
+    let breadth = c.args.self.now.breadth in
     let wide = c.as_slice.ensures.value ∙ c.widths_of-widths.ensures.widths in
-    let same = ap (λ wide. columns_shown drawing wide all) (sym c.as_slice.ensures.value) in
+    let same = ap (λ wide. columns_shown drawing wide breadth) (sym c.as_slice.ensures.value) in
     let shown = c.as_slice-2.ensures.value ∙ (c.columns_shown-columns.ensures.value ∙ same) in
-    rw (← table-drawn all drawing _ _ wide shown) c.put.ensures
+    rw (← table-drawn breadth drawing _ _ wide shown) c.put.ensures

@@ -6,3 +6,6 @@ pub returns-in-Some : goal.returns-in-Some
 returns-in-Some g c =
     let some : (c.in-Some.letter == 0) ≡ false = grind (arith, nat_tests) in
     rw (c.in-Some.is, some) c.put.ensures
+
+pub returns-in-None : goal.returns-in-None
+returns-in-None g c = rw c.in-None.is c.put-in-None.ensures
