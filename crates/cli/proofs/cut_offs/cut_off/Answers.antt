@@ -3,7 +3,7 @@ use Rattle.cli.proofs.CutOffsFound.{least_cut_off, none_cut_off, same_some}
 use Rattle.cli.proofs.cut_offs.cut_off.Goals as goal
 
 pub least_failing-requires-clause-understood : goal.least_failing-requires-clause-understood
-least_failing-requires-clause-understood g c κs within = rw (c.whole-job.ensures, c.made.ensures) (λ some. c.requires.understood)
+least_failing-requires-clause-understood g c κs within = rw (c.whole-job.ensures, c.made-made.ensures) (λ some. c.requires.understood)
 
 pub returns-then-is_some-clause-found : goal.returns-then-is_some-clause-found
 returns-then-is_some-clause-found g c =

@@ -6,7 +6,7 @@ use Rattle.cli.proofs.tasks.checked.Goals as goal
 
 pub run_check-requires-clause-understood : goal.run_check-requires-clause-understood
 run_check-requires-clause-understood g c κs within =
-    rw (c.whole-job.ensures, c.made.ensures) (λ some. All-before (λ list. map (λ b. (goal.Machine-dyn g (b.vtable, b.value)).resumed b.value) list.items ≡ resumed_of_all c.args.run.now.spelling.source.now c.args.run.now.native) c.last_of-own.result c.last_of-own.new.lists.items c.args.lists.items c.last_of-own.ensures c.requires.understood)
+    rw (c.whole-job.ensures, c.made-made.ensures) (λ some. All-before (λ list. map (λ b. (goal.Machine-dyn g (b.vtable, b.value)).resumed b.value) list.items ≡ resumed_of_all c.args.run.now.spelling.source.now c.args.run.now.native) c.last_of-own.result c.last_of-own.new.lists.items c.args.lists.items c.last_of-own.ensures c.requires.understood)
 
 pub verdict_on-verdict-requires-clause-checked : goal.verdict_on-verdict-requires-clause-checked
 verdict_on-verdict-requires-clause-checked g c =
