@@ -33,7 +33,8 @@ pub record HasAtMost (counts : FileCounts) (most : ℕ) : Type 0 where
 abbrev pub mark_text : Bool → List ℕ
 mark_text is_first = if is_first then codes ": " else codes ", "
 
--- how many files were answered in one way, with what is said of one file or of several; nothing of none
+-- how many files were answered in one way, with what is said of one file or of
+-- several; nothing of none
 abbrev pub share_text : Bool → ℕ → List ℕ → List ℕ → List ℕ
 share_text is_first n one several = if n == 0 then [] else mark_text is_first ++ decimal n ++ (if n == 1 then one else several)
 

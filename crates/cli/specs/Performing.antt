@@ -18,7 +18,8 @@ use Rattle.orders.specs.declared.tasks.Task.{Task}
 abbrev pub version_text : List ℕ
 version_text = codes "regtry " ++ VERSION.now ++ codes "\n"
 
--- a file is answered, or refused for a reason, with this status; one that could not be opened is refused
+-- a file is answered, or refused for a reason, with this status; one that could not
+-- be opened is refused
 pub record IsAnsweredOrRefused {W R : Type 0} (contents : W → Option (List ℕ)) (remaining : R → Option (List ℕ)) (fails : R → Refusal → Type 0)
     (path : List ℕ) (asked : Task) (file : Option R) (old new : W) (status : ℕ) : Type 0 where
   pub no_file : IsNone file → status ≡ 2
@@ -26,7 +27,8 @@ pub record IsAnsweredOrRefused {W R : Type 0} (contents : W → Option (List ℕ
   pub refused : 2 ≤ status → IsRefusedWith contents remaining fails (λ why. ⊤) path asked file old new status
   pub status_is : status ≤ 3
 
--- the file of one more path, which is opened so, is answered or refused, and counted; what is counted stands beside what the writer holds
+-- the file of one more path, which is opened so, is answered or refused, and counted; what is
+-- counted stands beside what the writer holds
 pub record IsNext {W R : Type 0} (contents : W → Option (List ℕ)) (remaining : R → Option (List ℕ)) (fails : R → Refusal → Type 0)
     (opens : List ℕ → Option R → Type 0) (asked : Task) (before : W × FileCounts) (path : List ℕ) (after : W × FileCounts) : Type 0 where
   pub file : Option R
@@ -35,13 +37,15 @@ pub record IsNext {W R : Type 0} (contents : W → Option (List ℕ)) (remaining
   pub done : IsAnsweredOrRefused contents remaining fails path asked file before.0 after.0 status
   pub counted : after.1 ≡ with_one_more before.1 status
 
--- of several files it is written how they were answered, and the status is the highest, or 3 where that is not written whole; of one file nothing
+-- of several files it is written how they were answered, and the status is the highest, or 3 where
+-- that is not written whole; of one file nothing
 pub record AreSummed {W : Type 0} (contents : W → Option (List ℕ)) (old new : W) (counts : FileCounts) (status : ℕ) : Type 0 where
   pub alone : counts.files ≤ 1 → (new ≡ old) × (status ≡ counts.worst)
   pub several : 1 < counts.files → (Writes (contents old) (contents new) (counts_text counts) None × (status ≡ counts.worst))
       ⊎ (HasBeginning (contents old) (contents new) (counts_text counts) × (status ≡ 3))
 
--- the files of an order are answered or refused one after another, and it is told of several how many were answered in which way
+-- the files of an order are answered or refused one after another, and it is told of several how
+-- many were answered in which way
 pub record AreAnswered {W R : Type 0} (contents : W → Option (List ℕ)) (remaining : R → Option (List ℕ)) (fails : R → Refusal → Type 0)
     (opens : List ℕ → Option R → Type 0) (order : orders.Order) (old new : W) (status : ℕ) : Type 0 where
   pub between : W
@@ -54,15 +58,16 @@ pub record IsVersionTold {W : Type 0} (contents : W → Option (List ℕ)) (old 
   pub told : status ≡ 0 → Writes (contents old) (contents new) version_text None
   pub cut_short : status ≢ 0 → (status ≡ 3) × HasBeginning (contents old) (contents new) version_text
 
--- the parts in the file of a path, which is opened so, are merged, or not for a reason, with this status
+-- the parts in the file of a path, which is opened so, are merged, or not for a
+-- reason, with this status
 pub record IsMergePerformed {W R : Type 0} (contents : W → Option (List ℕ)) (remaining : R → Option (List ℕ)) (opens : List ℕ → Option R → Type 0)
     (path : List ℕ) (old new : W) (status : ℕ) : Type 0 where
   pub file : Option R
   pub opened : opens path file
   pub done : AreMergedIn contents remaining file old new status
 
--- words that were refused have the status of their refusal, and nothing is done; else the version is written, their files are answered, or the parts
--- in their file are merged
+-- words that were refused have the status of their refusal, and nothing is done; else the version
+-- is written, their files are answered, or the parts in their file are merged
 abbrev pub IsPerformed : {W R : Type 0} → (W → Option (List ℕ)) → (R → Option (List ℕ)) → (R → Refusal → Type 0)
     → (List ℕ → Option R → Type 0) → Result Request ℕ → W → W → ℕ → Type 0
 IsPerformed contents remaining fails opens (Err refused) old new status = (new ≡ old) × (status ≡ refused)

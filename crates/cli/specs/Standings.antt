@@ -24,15 +24,16 @@ pub record IsHindranceAt (ends : List ProcEnd) (w : List Letter) (refused : Refu
   pub process : IfSome (slice_get w refused.place) (λ a. refused.process ≡ process_of a)
   pub fate : refused.fate ≡ fate_of ends refused.process
 
--- the place is that of the first letter that is not possible after those before it; its process, and how that stands there
+-- the place is that of the first letter that is not possible after those before it; its process,
+-- and how that stands there
 pub record IsLetterRefused (programs : List Program) (crashes : ℕ) (w : List Letter) (refused : RefusedLetter) : Type 0 where
   pub there : refused.place < length w
   pub before : IsSchedule programs crashes (take refused.place w)
   pub impossible : IfSome (slice_get w refused.place) (λ a. is_possible programs crashes (take refused.place w) a ≡ false)
   pub hindrance : IsHindranceAt (outcome_of programs (take refused.place w)) w refused
 
--- the schedule is one of these programs, of which any number of processes may crash, and this is told of it; or its first letter is refused
--- that is not possible
+-- the schedule is one of these programs, of which any number of processes may crash, and this is
+-- told of it; or its first letter is refused that is not possible
 pub record IsFollowed {T : Type 0} (programs : List Program) (w : List Letter) (P : T → Type 0) (result : Result T RefusedLetter) : Type 0 where
   pub schedule : IfOk result (λ _. IsSchedule programs MOST_CRASHES w)
   pub told : IfOk result P

@@ -13,7 +13,8 @@ abbrev pub line_status : Cause → ℕ
 line_status cause.NoMemory = 3
 line_status _ = 2
 
--- where parts could not be merged: 3 for want of memory, and where there are more schedules than can be counted
+-- where parts could not be merged: 3 for want of memory, and where there are more schedules
+-- than can be counted
 abbrev pub merge_status : MergeFault → ℕ
 merge_status (merging.Text bad) = line_status bad.cause
 merge_status merging.TooMany = 3

@@ -8,8 +8,8 @@ use Rattle.reglang.specs.Contents.{Body, Contents, Kind, Text, program_over}
 use Rattle.reglang.specs.Sources.{contents_of}
 use Rattle.reglang.specs.declared.source.Source.{Source}
 
--- what the machine of a process does on further replies, where it stands as a list of numbers tells:
--- that of its use line where natives are asked for, else an interpreter of its program
+-- what the machine of a process does on further replies, where it stands as a list of numbers
+-- tells: that of its use line where natives are asked for, else an interpreter of its program
 abbrev pub resumed_over : ℕ → Bool → Body → List ℕ → Replies → Pending
 resumed_over registers native (Text block) = resumed_by (program_over registers (Text block))
 resumed_over registers true (Kind kind) = native_resumed kind registers

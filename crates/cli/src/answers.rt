@@ -29,8 +29,8 @@ use std::thread::Threads;
 /// that is done, but 1 where it tells of a schedule that fails or was looked for, unless it is of a
 /// part; 2 where the file, the source or a letter is refused; 3 where it could not be done. At 2
 /// and 3 `err` is told why, and `out` is as before, unless it did not take the whole text: then it
-/// took a beginning of it, and the status is 3. `file` tells why it could not be opened, where it was not. Where
-/// progress is asked for, `err` is told of it before.
+/// took a beginning of it, and the status is 3. `file` tells why it could not be opened, where it
+/// was not. Where progress is asked for, `err` is told of it before.
 pub fn answer<H: Threads + Wait + Sync, R: Readable, W: Write, E: Write + Send>(
     rt: &H,
     alloc: Global,
@@ -84,8 +84,8 @@ fn told<E: Write>(question: &Question<'_>, fault: &AnswerFault, err: &mut E) -> 
     refuse(fault, subject, err)
 }
 
-/// Writes what is found of the source in the file. Whether a schedule fails. A source that is refused is explained on `err` where refusals
-/// are told in words.
+/// Writes what is found of the source in the file. Whether a schedule fails. A source that is
+/// refused is explained on `err` where refusals are told in words.
 fn written<H: Threads + Wait + Sync, R: Readable, W: Write, E: Write + Send>(
     rt: &H,
     alloc: Global,
@@ -133,8 +133,8 @@ fn found_in<H: Threads + Wait + Sync, E: Write + Send>(
     found(rt, alloc, question.task, text, &silent)
 }
 
-/// Why nothing is found of a text. Where refusals are told in words, it is written what is wrong with the text of a refused source, as far as that
-/// can be written.
+/// Why nothing is found of a text. Where refusals are told in words, it is written what is wrong
+/// with the text of a refused source, as far as that can be written.
 fn explained<E: Write>(
     question: &Question<'_>,
     text: &[u8],

@@ -43,8 +43,9 @@ fn some_running(outcome: &Outcome) -> bool
         .any(|end| matches!(end.fate, End::Running))
 }
 
-/// The least schedule of a source that is cut off within these settings, with a process still running, by a list of its machines for each
-/// worker; None where none is. The gate is told of the pieces.
+/// The least schedule of a source that is cut off within these settings, with a process
+/// still running, by a list of its machines for each worker; None where none is. The gate is
+/// told of the pieces.
 pub fn cut_off<H: Threads + Wait + Sync, G: Gate>(
     run: &Run<'_, H, G>,
     effort: Effort,

@@ -19,8 +19,8 @@ use regmodel::{OutOfMemory, Settings};
 use std::sync::Wait;
 use std::thread::Threads;
 
-/// The head of a part of the exploration of a source; None for the whole. A source whose text is too long for one, which none within the
-/// limits is, is refused as one that memory does not hold.
+/// The head of a part of the exploration of a source; None for the whole. A source whose text is
+/// too long for one, which none within the limits is, is refused as one that memory does not hold.
 fn head_for<H, G>(
     run: &Run<'_, H, G>,
     settings: Settings,
@@ -40,8 +40,8 @@ fn head_for<H, G>(
     }
 }
 
-/// What an exploration, or a part of it, finds, or its least failing schedule where that alone is sought, by a list of the machines of its
-/// source for each worker.
+/// What an exploration, or a part of it, finds, or its least failing schedule where that alone is
+/// sought, by a list of the machines of its source for each worker.
 // In a frame of its own, which other orders do not touch.
 #[inline(never)]
 pub fn explored<H: Threads + Wait + Sync, G: Gate>(

@@ -25,7 +25,8 @@ pub enum AnswerFault {
     /// The file cannot be read or is too long, or a request for memory was refused.
     #[error("{0}")]
     Refused(Refusal),
-    /// A pattern that has not as many standings as the source has processes, by its place among the patterns from 0.
+    /// A pattern that has not as many standings as the source has processes, by its place among
+    /// the patterns from 0.
     #[error("pattern {0}")]
     Misfit(usize),
     /// A text that is no source.
@@ -117,7 +118,8 @@ impl<T: Drop> From<AllocFailed<T>> for AnswerFault {
     }
 }
 
-/// The status where parts could not be merged: 3 where there is no memory for it or more schedules than can be counted, else 2.
+/// The status where parts could not be merged: 3 where there is no memory for it or more schedules
+/// than can be counted, else 2.
 fn merge_status(fault: &MergeFault) -> u8
     ensures { IsStatusOf merge_status fault.now result }
 {

@@ -70,7 +70,8 @@ impl Text for FileCounts {
     }
 }
 
-/// How many files were answered in one way: whether it is told first, how many, and what is said of one file and of several.
+/// How many files were answered in one way: whether it is told first, how many, and what is said of
+/// one file and of several.
 #[derive(Clone, Copy)]
 struct Share(bool, u64, &'static str, &'static str);
 

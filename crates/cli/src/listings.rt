@@ -18,7 +18,8 @@ use std::sync::Wait;
 use std::thread::Threads;
 use verdict::Verdict;
 
-/// What a check finds of a source, and all outcomes: where a schedule fails, it is explored once more for them.
+/// What a check finds of a source, and all outcomes: where a schedule fails, it is explored
+/// once more for them.
 pub fn listed<H: Threads + Wait + Sync, G: Gate>(
     run: &Run<'_, H, G>,
     effort: &Effort,
@@ -44,7 +45,8 @@ pub fn listed<H: Threads + Wait + Sync, G: Gate>(
     Ok(Finding::Listing(verdict, is_shortest, explored))
 }
 
-/// The exploration whose outcomes are listed beside a verdict: none where no schedule fails, since the verdict has its own.
+/// The exploration whose outcomes are listed beside a verdict: none where no schedule fails, since
+/// the verdict has its own.
 fn exploration_beside<H: Threads + Wait + Sync, G: Gate>(
     run: &Run<'_, H, G>,
     verdict: &Verdict,

@@ -100,7 +100,8 @@ impl Machine for ProcessMachine {
     }
 }
 
-/// How the machines of a source are understood: native ones of its use lines where these are asked for, and else interpreters.
+/// How the machines of a source are understood: native ones of its use lines where these are asked
+/// for, and else interpreters.
 #[derive(Drop)]
 pub(crate) struct Made<'a> {
     pub(crate) source: &'a Source,
@@ -113,8 +114,8 @@ impl Understanding for Made<'_> {
     ghost understood = { λ made. resumed_of_all made.source.now made.native };
 }
 
-/// The machine of process p of a source, counted from 0: a native one for a use line where natives are asked for, else an
-/// interpreter. An error where a request for memory was refused.
+/// The machine of process p of a source, counted from 0: a native one for a use line where natives
+/// are asked for, else an interpreter. An error where a request for memory was refused.
 pub fn machine_of(
     alloc: Global,
     source: &Source,

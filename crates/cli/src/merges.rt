@@ -13,9 +13,11 @@ use orders::{FileFault, Refusal, refuse};
 use std::alloc::Global;
 use std::io::{BufReader, Read, Write};
 
-/// Merges the parts in the file, and writes what they tell together. The status is 0 where that is done, but 1 where a schedule fails; 2
-/// where the file or its parts are refused; 3 where it could not be done. At 2 and 3 a line on `err` says why, and `out` is as before, unless it
-/// did not take the whole text: then it took a beginning of it, and the status is 3. `file` tells why it could not be opened, where it was not.
+/// Merges the parts in the file, and writes what they tell together. The status is 0 where that is
+/// done, but 1 where a schedule fails; 2 where the file or its parts are refused; 3 where it could
+/// not be done. At 2 and 3 a line on `err` says why, and `out` is as before, unless it did not take
+/// the whole text: then it took a beginning of it, and the status is 3. `file` tells why it could
+/// not be opened, where it was not.
 pub fn merge_file<R: Read + Drop, W: Write, E: Write>(
     alloc: Global,
     path: &str,

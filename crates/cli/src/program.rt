@@ -17,11 +17,13 @@ use std::sync::Wait;
 use std::thread::Threads;
 use texts::write;
 
-/// Does what was asked for, and gives the status: that of the words where they were refused, and nothing is done then; 0 where the version was
-/// written, else the highest of those with which the files are answered, one after another, each as `opener` opens it by its path: 0 or 1 where
-/// the answer was written to `out`; 2 where the file, the source or a letter is refused; 3 where it could not be done. At 2 and 3 `err` is told
-/// why, and `out` is as before, unless it did not take the whole answer: then it took a beginning of it. Of several files `out` is told last
-/// how many have which status.
+/// Does what was asked for, and gives the status: that of the words where they were refused, and
+/// nothing is done then; 0 where the version was written, else the highest of those with which
+/// the files are answered, one after another, each as `opener` opens it by its path: 0 or 1 where
+/// the answer was written to `out`; 2 where the file, the source or a letter is refused; 3 where
+/// it could not be done. At 2 and 3 `err` is told why, and `out` is as before, unless it did not
+/// take the whole answer: then it took a beginning of it. Of several files `out` is told last how
+/// many have which status.
 pub fn perform<H: Threads + Wait + Sync, O: Opener, W: Write, E: Write + Send>(
     rt: &H,
     alloc: Global,
@@ -54,7 +56,8 @@ fn tell_version<W: Write, E: Write>(out: &mut W, err: &mut E) -> u8
     0
 }
 
-/// Answers each file of an order in turn, tells of several how many were answered in which way, and gives the highest status.
+/// Answers each file of an order in turn, tells of several how many were answered in which way, and
+/// gives the highest status.
 fn answer_each<H: Threads + Wait + Sync, O: Opener, W: Write, E: Write + Send>(
     rt: &H,
     alloc: Global,
@@ -96,7 +99,8 @@ fn answers_of<H: Threads + Wait + Sync, O: Opener, W: Write, E: Write + Send>(
     counts
 }
 
-/// Writes how several files were answered, and gives the highest status, or 3 where that was not written whole. Of one file nothing is written.
+/// Writes how several files were answered, and gives the highest status, or 3 where that was not
+/// written whole. Of one file nothing is written.
 fn tell_counts<W: Write, E: Write>(counts: &FileCounts, out: &mut W, err: &mut E) -> u8
     ensures { AreSummed W.contents out.old out.new counts.now result }
 {

@@ -49,8 +49,9 @@ impl<E: Write> Telling<'_, E> {
     }
 }
 
-/// A gate that tells on a writer how many pieces were taken and how many are known so far, where that is asked for: a line each time that
-/// the number of taken pieces is a power of two. Else it does nothing.
+/// A gate that tells on a writer how many pieces were taken and how many are known so far,
+/// where that is asked for: a line each time that the number of taken pieces is a power of two.
+/// Else it does nothing.
 #[derive(Drop)]
 pub struct Progress<'a, H, E> {
     rt: &'a H,

@@ -25,8 +25,9 @@ pub struct RefusedLetter {
     pub fate: Option<End>,
 }
 
-/// Where a schedule leads the machines of a source, one a process; any number of processes may crash. The first letter that
-/// is not possible is refused. Each machine is ended and dropped once, also then. Takes no memory.
+/// Where a schedule leads the machines of a source, one a process; any number of processes may
+/// crash. The first letter that is not possible is refused. Each machine is ended and dropped once,
+/// also then. Takes no memory.
 // In a frame of its own, which other orders do not touch.
 #[inline(never)]
 pub fn standing_after(
@@ -49,8 +50,9 @@ pub fn standing_after(
     }
 }
 
-/// What a schedule makes the machines of a source do, one a process, letter by letter; any number of processes may crash. The first letter that
-/// is not possible is refused. Each machine is ended and dropped once, also then. Takes no memory.
+/// What a schedule makes the machines of a source do, one a process, letter by letter; any number
+/// of processes may crash. The first letter that is not possible is refused. Each machine is ended
+/// and dropped once, also then. Takes no memory.
 // In a frame of its own, which other orders do not touch.
 #[inline(never)]
 pub fn drawing_of(

@@ -34,12 +34,14 @@ most_of Workers = MOST_WORKERS
 most_of Cache = MOST_CACHE
 most_of Width = MOST_WIDTH
 
--- the number that the text of an option writes, which writes one; or another one where there is no such option
+-- the number that the text of an option writes, which writes one; or another one where
+-- there is no such option
 abbrev pub IsBoundTold : Option (List ℕ) → ℕ → ℕ → Type 0
 IsBoundTold None other n = n ≡ other
 IsBoundTold (Some text) other n = IsNumberText text × (n ≡ digits_value 10 (without_leading_plus text))
 
--- no number that the text tells, or the other one where there is no such option, is one that the bound takes
+-- no number that the text tells, or the other one where there is no such option, is one
+-- that the bound takes
 abbrev pub IsNoBound : Option (List ℕ) → Bound → ℕ → Type 0
 IsNoBound told bound other = (number : ℕ) → IsBoundTold told other number → least_of bound ≤ number → number ≤ most_of bound → ⊥
 
@@ -61,7 +63,8 @@ pub record IsBoundRefused (told : List ℕ → Option (List ℕ)) (workers : ℕ
 abbrev pub width : Bound
 width = Width
 
--- how broad the words allow a drawing to be: whole, or as usual where they tell no width, or so many places
+-- how broad the words allow a drawing to be: whole, or as usual where they tell no
+-- width, or so many places
 abbrev pub IsBreadthTold : (List ℕ → Option (List ℕ)) → Breadth → Type 0
 IsBreadthTold told Whole = IsFlagTold (told (codes "all")) true
 IsBreadthTold told Usual = IsFlagTold (told (codes "all")) false × (told (codes "width") ≡ None)

@@ -57,7 +57,8 @@ pub record AreSettingsTold (told : List ℕ → Option (List ℕ)) (settings : B
 abbrev pub cut_for : ℕ → ℕ
 cut_for workers = if nat_lt 1 workers then SHARED_CUT else 0
 
--- the bounds of a check or a search are those of its words: without them the greatest length, no crash, and so many workers
+-- the bounds of a check or a search are those of its words: without them the greatest length, no
+-- crash, and so many workers
 pub record AreBoundsTold (told : List ℕ → Option (List ℕ)) (otherwise : ℕ) (settings : Bounds) : Type 0 where
   pub length : IsBoundTold (told (codes "length")) MOST_LETTERS settings.length
   pub crashes : IsBoundTold (told (codes "crashes")) 0 settings.crashes
@@ -65,12 +66,14 @@ pub record AreBoundsTold (told : List ℕ → Option (List ℕ)) (otherwise : �
   pub cut : settings.cut ≡ cut_for settings.workers
   pub room : settings.room ≡ ROOM
 
--- so it is with a check or a search; the megabytes in which states are remembered are those of the words, or else CACHE
+-- so it is with a check or a search; the megabytes in which states are remembered are those of the
+-- words, or else CACHE
 abbrev pub IsEffortTold : (List ℕ → Option (List ℕ)) → ℕ → Effort → Type 0
 IsEffortTold told processors effort =
     AreBoundsTold told processors effort.settings × IsBoundTold (told (codes "cache")) CACHE effort.cache
 
--- the megabytes in which states are remembered are those of the words, or else so many; there is a limit
+-- the megabytes in which states are remembered are those of the words, or else so
+-- many; there is a limit
 abbrev pub IsCacheTold : (List ℕ → Option (List ℕ)) → ℕ → ℕ → Type 0
 IsCacheTold told other cache = IsNumberTold (told (codes "cache")) other cache × (cache ≤ MOST_CACHE)
 
@@ -111,7 +114,8 @@ pub record IsSettingRefused (told : List ℕ → Option (List ℕ)) (text : Opti
   pub told_is : refused ≡ refusal.Setting number
   pub why : IsSettingPast told number ⊎ IsPartRefused text number ⊎ IsCacheRefused told number
 
--- to explore as the words tell, the whole or the part of this text, for all that comes out or for the least failing schedule alone
+-- to explore as the words tell, the whole or the part of this text, for all that comes out or for
+-- the least failing schedule alone
 abbrev pub IsExploration : (List ℕ → Option (List ℕ)) → Option (List ℕ) → Task → Type 0
 IsExploration told text (Check effort native allows_faults shortest lists) = ⊥
 IsExploration told text (Explore effort native part least_alone) =
@@ -137,7 +141,8 @@ is_in_words (Find effort native patterns shortest) = true
 is_in_words (Replay schedule) = false
 is_in_words (Show schedule breadth) = true
 
--- to check as the words tell, and say in words what fails first, or what fails with the fewest letters; and to list the outcomes
+-- to check as the words tell, and say in words what fails first, or what fails with the fewest
+-- letters; and to list the outcomes
 abbrev pub IsCheck : (List ℕ → Option (List ℕ)) → ℕ → Task → Type 0
 IsCheck told processors (Check effort native allows_faults shortest lists) =
     IsEffortTold told processors effort × IsNativeTold told native × IsFlagTold (told (codes "allow-faults")) allows_faults × IsFlagTold (told (codes "shortest")) shortest
@@ -159,7 +164,8 @@ word_at name found = elim (first_value found name) [ Some text ↦ text | None �
 abbrev pub texts_told : Found → List (List ℕ)
 texts_told found = texts_at (codes "PATTERN") found
 
--- to look as far as the words tell for outcomes that match one of the patterns of these texts, with the fewest letters where they say so
+-- to look as far as the words tell for outcomes that match one of the patterns of these texts, with
+-- the fewest letters where they say so
 abbrev pub IsFind : (List ℕ → Option (List ℕ)) → ℕ → List (List ℕ) → Task → Type 0
 IsFind told processors texts (Check effort native allows_faults shortest lists) = ⊥
 IsFind told processors texts (Explore effort native part least_alone) = ⊥
@@ -169,7 +175,8 @@ IsFind told processors texts (Find effort native patterns shortest) =
 IsFind told processors texts (Replay schedule) = ⊥
 IsFind told processors texts (Show schedule breadth) = ⊥
 
--- so it is with the patterns that the words tell, by what is read of standard input and what clap found
+-- so it is with the patterns that the words tell, by what is read of standard input
+-- and what clap found
 pub record IsFindTold (reads : List ℕ → Type 0) (found : Found) (processors : ℕ) (task : Task) : Type 0 where
   pub texts : List (List ℕ)
   pub read : AreTextsOf reads (texts_told found) texts
@@ -186,7 +193,8 @@ abbrev pub IsFindRefused : (List ℕ → Type 0) → (Refusal → Type 0) → Fo
 IsFindRefused reads unread found processors r =
     IsBoundRefused (one_text found) processors r ⊎ IsTwiceStandard found r ⊎ AreNoTexts reads unread (texts_told found) r
 
--- how many lists of machines it takes: one for each worker, and one more where a schedule that is found is to be drawn
+-- how many lists of machines it takes: one for each worker, and one more where a schedule that is
+-- found is to be drawn
 abbrev pub lists_of : Task → ℕ
 lists_of (Check effort native allows_faults shortest lists) = effort.settings.workers + 1
 lists_of (Explore effort native part least_alone) = effort.settings.workers

@@ -22,7 +22,8 @@ past_label line = if starts_with nat_eq line (codes "outcome ") then drop 8 line
 abbrev pub texts_in : List ℕ → List (List ℕ)
 texts_in text = map past_label (lines text)
 
--- the texts of patterns are the words that stand where they do; or where these name standard input, the lines of what is read of it
+-- the texts of patterns are the words that stand where they do; or where these name standard input,
+-- the lines of what is read of it
 pub record AreTextsOf (reads : List ℕ → Type 0) (words texts : List (List ℕ)) : Type 0 where
   pub told : are_standard words ≡ false → texts ≡ words
   pub lined : are_standard words ≡ true → (text : List ℕ) × reads text × (texts ≡ texts_in text)
@@ -48,7 +49,8 @@ pub record IsFirstBad (texts : List (List ℕ)) (place standing : ℕ) : Type 0 
   pub none : (standings : List Standing) → FitsPattern standings → pattern_text standings ≢ text
   pub standing_is : IsBadAt text standing
 
--- the refusal of words of which one is the text of no pattern; or of memory, which may be refused at any time
+-- the refusal of words of which one is the text of no pattern; or of memory, which may be
+-- refused at any time
 abbrev pub AreNoPatterns : List (List ℕ) → Refusal → Type 0
 AreNoPatterns words (Pattern place standing) = IsFirstBad words place standing
 AreNoPatterns words Memory = ⊤
@@ -60,7 +62,8 @@ HasNoPatterns text (PatternLine place standing) = IsFirstBad (texts_in text) pla
 HasNoPatterns text Memory = ⊤
 HasNoPatterns text _ = ⊥
 
--- why the words that stand where patterns do tell none; where these name standard input, why it gives no text, or what is wrong with that
+-- why the words that stand where patterns do tell none; where these name standard input, why it
+-- gives no text, or what is wrong with that
 pub record AreNoTexts (reads : List ℕ → Type 0) (unread : Refusal → Type 0) (words : List (List ℕ)) (r : Refusal) : Type 0 where
   pub told : are_standard words ≡ false → AreNoPatterns words r
   pub lined : are_standard words ≡ true → unread r ⊎ ((text : List ℕ) × reads text × HasNoPatterns text r)

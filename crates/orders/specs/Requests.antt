@@ -18,7 +18,8 @@ use Rattle.orders.specs.declared.tasks.Task.{Task}
 abbrev pub IsShow : Found → Task → Type 0
 IsShow found task = IsShowOf (IsBreadthTold (one_text found)) (word_at (codes "SCHEDULE") found) task
 
--- what the words behind the name of a subcommand ask to do; `reads` tells what is read of standard input
+-- what the words behind the name of a subcommand ask to do; `reads` tells what is
+-- read of standard input
 pub record IsTaskTold (reads : List ℕ → Type 0) (processors : ℕ) (name : Text) (found : Found) (task : Task) : Type 0 where
   pub check : name ≡ codes "check" → IsCheck (one_text found) processors task
   pub explore : name ≡ codes "explore" → IsExploration (one_text found) (word_told found) task
@@ -26,7 +27,8 @@ pub record IsTaskTold (reads : List ℕ → Type 0) (processors : ℕ) (name : T
   pub replay : name ≡ codes "replay" → IsReplay (word_at (codes "SCHEDULE") found) task
   pub show : name ≡ codes "show" → IsShow found task
 
--- so it is, with these files in their order, and whether it is to be told meanwhile how far it has come
+-- so it is, with these files in their order, and whether it is to be told meanwhile
+-- how far it has come
 pub record IsOrderTold (reads : List ℕ → Type 0) (processors : ℕ) (name : Text) (found : Found) (order : orders.Order) : Type 0 where
   pub task : IsTaskTold reads processors name found order.task
   pub paths : map (λ path. path.now) order.paths.items ≡ texts_at (codes "FILE") found

@@ -1,4 +1,5 @@
--- The statuses with which the program tells that the words of the command line, or what they name, are refused.
+-- The statuses with which the program tells that the words of the command line, or what
+-- they name, are refused.
 use Rattle.std.specs.Prelude.{◌≡◌, ◌≢◌, ℕ, List}
 use Rattle.regmodel.specs.declared.letters.Letter.{Letter}
 use Rattle.regmodel.specs.Prefixes.{FitsPrefix}

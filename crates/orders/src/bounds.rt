@@ -16,8 +16,8 @@ use regmodel::limits::{MOST_CRASHES, MOST_LETTERS, MOST_WORKERS};
 use std::thread;
 use std::thread::Threads;
 
-/// Up to which length a check or a search splits beginnings of schedules into pieces where several workers share them: few enough to be
-/// put up in no time, and many more than workers.
+/// Up to which length a check or a search splits beginnings of schedules into pieces where several
+/// workers share them: few enough to be put up in no time, and many more than workers.
 const SHARED_CUT: u32 = 3;
 
 /// How many pieces each worker of a check may put up for the others.
@@ -108,8 +108,9 @@ pub(crate) fn processors<H: Threads>(rt: &H) -> ProcessorCount {
     ProcessorCount { number }
 }
 
-/// How far the words of a check or a search ask to go, with as many workers as processors where they do not say.
-/// The error tells the first bound whose text is no number, or not one that it takes.
+/// How far the words of a check or a search ask to go, with as many workers as
+/// processors where they do not say. The error tells the first bound whose text is no
+/// number, or not one that it takes.
 pub(crate) fn bounds_of(
     words: &ArgMatches<'_>,
     processors: ProcessorCount,

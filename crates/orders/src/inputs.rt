@@ -39,7 +39,8 @@ pub trait Opener {
     /// Which file a path opens, or that it opens none.
     ghost opens: { Self → List ℕ → Option Self.Reader → Type 0 };
 
-    /// The file of a path, which may be that of standard input (`input_of`); the error tells why it cannot be opened.
+    /// The file of a path, which may be that of standard input (`input_of`); the error tells why
+    /// it cannot be opened.
     fn open(&self, path: &str) -> Result<Self::Reader, FileFault>
         ensures { opens self.now path.now (result_ok result) };
 }
@@ -80,7 +81,8 @@ impl Readable for &[u8] {
     }
 }
 
-/// What a path names: standard input where it is a dash, else the file that `opener` gives for it, or why that cannot be opened.
+/// What a path names: standard input where it is a dash, else the file that `opener` gives for it,
+/// or why that cannot be opened.
 pub fn input_of<S: Drop, F, O: FnOnce(&str) -> Result<F, FileFault> + Drop>(
     path: &str,
     standard: S,

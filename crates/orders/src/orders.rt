@@ -32,13 +32,15 @@ use std::convert::AsStr;
 use std::io::Write;
 use std::thread::Threads;
 
-/// The number of the setting that says in how many megabytes states are remembered. Those of `Settings` are 1 to 5.
+/// The number of the setting that says in how many megabytes states are remembered. Those of
+/// `Settings` are 1 to 5.
 const CACHE_SETTING: u8 = 7;
 
 /// What is asked for.
 #[derive(Debug, Drop)]
 pub struct Order<'a> {
-    /// The files that hold sources, in the order in which they are named: one, but for a check any number of them.
+    /// The files that hold sources, in the order in which they are named: one, but for a check
+    /// any number of them.
     pub paths: Vec<&'a str>,
     /// What to do with each of them.
     pub task: Task,
@@ -60,8 +62,8 @@ pub enum Request<'a> {
 /// Reads the words of the command line, the program's name first. Where they are refused, also
 /// where they ask for help, a setting is past its limit, or a schedule or a pattern is no text of
 /// one, it prints why, and the error is the status. A check or a search whose words do not say how
-/// many workers it has has as many as there are processors, 1 to 16: `rt` tells that. `opener` opens
-/// standard input by its path where the words say that patterns are read from it.
+/// many workers it has has as many as there are processors, 1 to 16: `rt` tells that. `opener`
+/// opens standard input by its path where the words say that patterns are read from it.
 pub fn command<'a, H: Threads + AllocGlobal, S: AsStr, O: Opener, E: Write>(
     rt: &H,
     words: &'a Result<Vec<S>, Refusal>,
@@ -186,8 +188,8 @@ fn subject_of<'a>(words: &ArgMatches<'a>, refusal: &Refusal) -> &'a str {
     }
 }
 
-/// How far the words of `check` ask to check, whether they allow faults, and whether they ask for the shortest failing schedule and
-/// for the outcomes.
+/// How far the words of `check` ask to check, whether they allow faults, and whether they ask for
+/// the shortest failing schedule and for the outcomes.
 fn check_of(words: &ArgMatches<'_>, processors: ProcessorCount) -> Result<Task, Refusal>
     ensures ok { IfOk result (IsCheck (one_text (found_of words.now)) processors.number) }
     ensures err { IfErr result
@@ -207,7 +209,8 @@ fn check_of(words: &ArgMatches<'_>, processors: ProcessorCount) -> Result<Task, 
     })
 }
 
-/// How far the words of a check or a search ask to go, and in how many megabytes states are remembered.
+/// How far the words of a check or a search ask to go, and in how many megabytes
+/// states are remembered.
 fn effort_of(words: &ArgMatches<'_>, processors: ProcessorCount) -> Result<Effort, Refusal>
     ensures ok { IfOk result (IsEffortTold (one_text (found_of words.now)) processors.number) }
     ensures err { IfErr result
@@ -257,8 +260,8 @@ fn pattern_words<'a>(words: &'a ArgMatches<'_>) -> &'a [&'a str]
     words.get_strs("PATTERN").unwrap_or(&[])
 }
 
-/// How far the words of `explore` ask to explore. The error tells the lowest setting that they give past its limit, by its number: 1 to 5
-/// are those of `Settings`, 6 is the part, 7 the megabytes.
+/// How far the words of `explore` ask to explore. The error tells the lowest setting that they give
+/// past its limit, by its number: 1 to 5 are those of `Settings`, 6 is the part, 7 the megabytes.
 fn exploration_of(words: &ArgMatches<'_>) -> Result<Task, Refusal>
     ensures ok { IfOk result
         (IsExploration (one_text (found_of words.now)) (word_told (found_of words.now))) }

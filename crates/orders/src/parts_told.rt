@@ -31,7 +31,8 @@ pub(crate) fn part_told(words: &ArgMatches<'_>) -> Result<Option<Part>, Refusal>
     }
 }
 
-/// The part that a word writes as `3/16`: its number, from 1 on, and how many there are, at most 65536. None for any other word.
+/// The part that a word writes as `3/16`: its number, from 1 on, and how many there are, at most
+/// 65536. None for any other word.
 fn part_of(word: &str) -> Option<Part>
     ensures some { IfSome result (λ part. part_word part ≡ word.now) }
     ensures none { IfNone result ((part : Part) → part_word part ≢ word.now) }
@@ -40,7 +41,8 @@ fn part_of(word: &str) -> Option<Part>
     Part::new(number, count)
 }
 
-/// The two numbers, 0 to 1000000000, that a word writes with a slash between them. None for any other word.
+/// The two numbers, 0 to 1000000000, that a word writes with a slash between them. None
+/// for any other word.
 fn numbers_of(word: &[u8]) -> Option<(u32, u32)>
     ensures some { IfSome result (λ (n, m). decimal n ++ codes "/" ++ decimal m ≡ word.now) }
     ensures is { (n m : ℕ) → n ≤ GREATEST_VALUE → m ≤ GREATEST_VALUE

@@ -15,8 +15,8 @@ use std::alloc::Global;
 /// What stands before an outcome in a report.
 const LABEL: &[u8] = b"outcome ";
 
-/// The patterns of the words that stand where patterns do; or where that is one dash, of the lines of standard input, which `opener` opens by it.
-/// The first text that no pattern has is refused.
+/// The patterns of the words that stand where patterns do; or where that is one dash, of the lines
+/// of standard input, which `opener` opens by it. The first text that no pattern has is refused.
 pub fn patterns_told<O: Opener>(
     alloc: Global,
     words: &[&str],

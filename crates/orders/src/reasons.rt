@@ -21,8 +21,8 @@ pub trait Reason: Display {
     fn write_words<E: Write>(&self, subject: &str, err: &mut E) -> io::Result<()>;
 }
 
-/// Tells why there is no answer, in words where there is a subject of which they tell, else in one line, and gives the status, also where that
-/// could not be written.
+/// Tells why there is no answer, in words where there is a subject of which they tell, else in one
+/// line, and gives the status, also where that could not be written.
 pub fn refuse<R: Reason, E: Write>(reason: &R, subject: Option<&str>, err: &mut E) -> u8
     ensures { IsStatusOf R.status_of reason.now result }
 {

@@ -35,10 +35,12 @@ pub enum Refusal {
     /// A word that is the text of no schedule.
     #[error("schedule")]
     Schedule,
-    /// A word that is the text of no pattern: its place among the patterns, and that of its first standing at fault, both from 0.
+    /// A word that is the text of no pattern: its place among the patterns, and that of its first
+    /// standing at fault, both from 0.
     #[error("pattern {0} standing {1}")]
     Pattern(usize, usize),
-    /// A line of standard input that is the text of no pattern: its place from 0, and that of its first standing at fault.
+    /// A line of standard input that is the text of no pattern: its place from 0, and that of its
+    /// first standing at fault.
     #[error("pattern {0} standing {1}")]
     PatternLine(usize, usize),
     /// Standard input named for the source and for the patterns.

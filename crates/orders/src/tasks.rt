@@ -20,8 +20,8 @@ pub enum Task {
         shortest: bool,
         lists: bool,
     },
-    /// Explore it this far, or one part of it, with native machines for use lines or with interpreters alone; or look for
-    /// the least failing schedule of these alone.
+    /// Explore it this far, or one part of it, with native machines for use lines or with
+    /// interpreters alone; or look for the least failing schedule of these alone.
     Explore {
         effort: Effort,
         native: bool,
@@ -50,7 +50,8 @@ pub enum Task {
 impl Task {
     ghost use Rattle.orders.specs.Orders.{is_in_words, is_native, lists_of};
 
-    /// How many lists of machines it takes: one for each worker; a check and a search take one more, to draw what is found.
+    /// How many lists of machines it takes: one for each worker; a check and a search take one
+    /// more, to draw what is found.
     pub fn lists(&self) -> u32
         ensures { result ≡ lists_of self.now }
     {
@@ -99,7 +100,8 @@ pub struct Question<'a> {
 impl<'a> Question<'a> {
     ghost use Rattle.orders.specs.Orders.{is_in_words};
 
-    /// Of what it is told in words why there is no answer: of the path; None where that is told in one line.
+    /// Of what it is told in words why there is no answer: of the path; None where that
+    /// is told in one line.
     pub fn subject(&self) -> Option<&'a str>
         ensures { option_map (λ path. path.now) result
             ≡ (if is_in_words self.now.task.now then Some self.now.path.now else None) }
