@@ -1,12 +1,15 @@
 -- How the machines of a source understand numbers that tell where they stand.
-use Rattle.std.specs.Prelude.{ℕ, Bool, true, false, List, map}
+use Rattle.std.specs.Prelude.{◌≡◌, ℕ, Bool, true, false, All, List, Vec, map}
+use Rattle.std.specs.declared.alloc.Global.{Global}
 use Rattle.regmodel.specs.declared.accesses.Pending.{Pending}
+use Rattle.regmodel.specs.Program.{Program}
 use Rattle.regmodel.specs.Reply.{Replies}
 use Rattle.machine.specs.Standings.{resumed_by}
 use Rattle.natives.specs.Resuming.{native_resumed}
 use Rattle.reglang.specs.Contents.{Body, Contents, Kind, Text, program_over}
-use Rattle.reglang.specs.Sources.{contents_of}
+use Rattle.reglang.specs.Sources.{contents_of, source_programs}
 use Rattle.reglang.specs.declared.source.Source.{Source}
+use Rattle.explorer.specs.Running.{AreListsOf}
 
 -- what the machine of a process does on further replies, where it stands as a list of numbers
 -- tells: that of its use line where natives are asked for, else an interpreter of its program
@@ -22,3 +25,9 @@ resumed_in source native = map (resumed_over source.registers native) source.pro
 -- the same of a source, however it lies in memory
 abbrev pub resumed_of_all : Source → Bool → List (List ℕ → Replies → Pending)
 resumed_of_all source native = resumed_in (contents_of source) native
+
+-- so many lists, each of machines of the processes of a source, which are understood so
+pub record AreMade {B : Type 0} (program : B → Program) (resumed : B → List ℕ → Replies → Pending)
+    (source : Source) (native : Bool) (n : ℕ) (lists : List (Vec B Global)) : Type 0 where
+  pub machines : AreListsOf program (source_programs source) n lists
+  pub understood : All (λ list. map resumed list.items ≡ resumed_of_all source native) lists

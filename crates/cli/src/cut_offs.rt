@@ -1,14 +1,12 @@
 //! Whether schedules of a source are cut off.
 
-ghost use Rattle.std.specs.Prelude.{◌≡◌, All, Bool, IfErr, IfOk, map, not};
+ghost use Rattle.std.specs.Prelude.{◌≡◌, IfErr, IfOk};
 ghost use Rattle.std.specs.List.{list_any};
 ghost use Rattle.regmodel.specs.Judging.{is_running};
-ghost use Rattle.reglang.specs.Sources.{source_programs};
-ghost use Rattle.explorer.specs.Running.{AreListsOf};
 ghost use Rattle.cli.specs.CutOffs.{IsCutOffFound};
 ghost use Rattle.cli.specs.Runs.{IsQuestRefused};
 ghost use Rattle.cli.specs.declared.aims.Quest.{Quest};
-ghost use Rattle.cli.specs.Understanding.{resumed_of_all};
+ghost use Rattle.cli.specs.Understanding.{AreMade};
 
 use crate::faults::AnswerFault;
 use crate::runs::Run;
@@ -51,11 +49,8 @@ pub fn cut_off<H: Threads + Wait + Sync, G: Gate>(
     effort: Effort,
     lists: Vec<Vec<Box<dyn Machine + Send>>>,
 ) -> Result<Option<Finding>, AnswerFault>
-    requires machines { AreListsOf program (source_programs run.now.spelling.source.now)
+    requires { AreMade program resumed run.now.spelling.source.now run.now.native
         effort.settings.workers lists.items }
-    requires understood { All
-        (λ list. map resumed list.items
-        ≡ resumed_of_all run.now.spelling.source.now run.now.native) lists.items }
     ensures found { IfOk result (IsCutOffFound effort run.now.spelling.text.now) }
     ensures refused { IfErr result (λ fault. (quest : Quest)
         → IsQuestRefused quest run.now.spelling.text.now fault) }

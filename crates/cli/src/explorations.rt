@@ -1,12 +1,10 @@
 //! The explorations of a source, and of one part of it, which several runs share.
 
-ghost use Rattle.std.specs.Prelude.{◌≡◌, All, Bool, IfOk, map, option_map};
-ghost use Rattle.reglang.specs.Sources.{source_programs};
+ghost use Rattle.std.specs.Prelude.{◌≡◌, Bool, IfOk, option_map};
 ghost use Rattle.orders.specs.declared.tasks.Task.TheVariants as asked;
-ghost use Rattle.explorer.specs.Running.{AreListsOf};
 ghost use Rattle.cli.specs.Parts.{part_head};
 ghost use Rattle.cli.specs.Refusals.{Finds};
-ghost use Rattle.cli.specs.Understanding.{resumed_of_all};
+ghost use Rattle.cli.specs.Understanding.{AreMade};
 
 use crate::faults::AnswerFault;
 use crate::runs::Run;
@@ -51,11 +49,8 @@ pub fn explored<H: Threads + Wait + Sync, G: Gate>(
     least_alone: bool,
     lists: Vec<Vec<Box<dyn Machine + Send>>>,
 ) -> Result<Finding, AnswerFault>
-    requires machines { AreListsOf program (source_programs run.now.spelling.source.now)
+    requires { AreMade program resumed run.now.spelling.source.now run.now.native
         effort.settings.workers lists.items }
-    requires understood { All
-        (λ list. map resumed list.items
-        ≡ resumed_of_all run.now.spelling.source.now run.now.native) lists.items }
     ensures { (native : Bool)
         → Finds (asked.Explore effort native part least_alone) run.now.spelling.text.now result }
 {
