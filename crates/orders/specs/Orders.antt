@@ -145,7 +145,10 @@ is_in_words (Show schedule breadth) = true
 -- letters; and to list the outcomes
 abbrev pub IsCheck : (List ℕ → Option (List ℕ)) → ℕ → Task → Type 0
 IsCheck told processors (Check effort native allows_faults shortest lists) =
-    IsEffortTold told processors effort × IsNativeTold told native × IsFlagTold (told (codes "allow-faults")) allows_faults × IsFlagTold (told (codes "shortest")) shortest
+    IsEffortTold told processors effort
+    × IsNativeTold told native
+    × IsFlagTold (told (codes "allow-faults")) allows_faults
+    × IsFlagTold (told (codes "shortest")) shortest
     × IsFlagTold (told (codes "outcomes")) lists
 IsCheck told processors (Explore effort native part least_alone) = ⊥
 IsCheck told processors (Find effort native patterns shortest) = ⊥

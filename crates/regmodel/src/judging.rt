@@ -84,7 +84,8 @@ fn has_if_done(fate: &End, m: u32) -> bool
     }
 }
 
-/// Whether each process that took a step and is done has its number and 1 among its numbers; the first of these is process p.
+/// Whether each process that took a step and is done has its number and 1 among its numbers; the
+/// first of these is process p.
 fn see_themselves(p: usize, ends: &[ProcEnd]) -> bool
     requires { p + length ends.now ≤ MOST_PROCESSES }
     ensures { result ≡ see_themselves p ends.now }
@@ -98,7 +99,8 @@ fn see_themselves(p: usize, ends: &[ProcEnd]) -> bool
     see_themselves(p + 1, more)
 }
 
-/// Whether each name m is at least 1, and m + 1 at most twice the number of processes that took a step.
+/// Whether each name m is at least 1, and m + 1 at most twice the number of processes that took a
+/// step.
 fn are_adaptive(outcome: &Outcome) -> bool
     ensures { result
         ≡ list_all (λ m. nat_le 1 m && nat_le (m + 1) (2 * count_started outcome.now))
@@ -200,7 +202,8 @@ impl Clauses {
     ghost use Rattle.std.specs.List.{position};
     ghost use Rattle.regmodel.specs.Judging.{meets, meets_all};
 
-    /// The place of the first clause that an outcome does not meet, counted from 0. None where it meets all of them. Takes no memory.
+    /// The place of the first clause that an outcome does not meet, counted from 0. None where it
+    /// meets all of them. Takes no memory.
     pub fn first_broken(&self, outcome: &Outcome) -> Option<usize>
         ensures first { result ≡ position (λ clause. not (meets clause outcome.now)) self.now }
         ensures none { IsNone result → IsTrue (meets_all self.now outcome.now) }

@@ -70,7 +70,8 @@ impl Target {
 impl Operand {
     ghost use Rattle.regmodel.specs.Limits.{operand_fits};
 
-    /// Whether the number is at most 1000000000, the variable's number below 16, or the cell's below 32.
+    /// Whether the number is at most 1000000000, the variable's number below 16, or the cell's
+    /// below 32.
     pub fn fits(&self) -> bool
         ensures { result ≡ operand_fits self.now }
     {
@@ -110,7 +111,8 @@ pub enum Stmt {
     If(Expr, Vec<Stmt>, Vec<Stmt>),
     /// Runs the block as often as the value says, which is taken once.
     Repeat(Expr, Vec<Stmt>),
-    /// Reads at once the registers from the second number on, as many as the third says, into the cells from the first on.
+    /// Reads at once the registers from the second number on, as many as the third says, into the
+    /// cells from the first on.
     Scan(u32, u32, u32),
     /// Appends the value to the numbers of the process.
     Emit(Expr),
@@ -134,9 +136,9 @@ pub struct Prog {
 impl Prog {
     ghost use Rattle.regmodel.specs.OfProg.{program_of};
 
-    /// The program of these statements over so many registers. None where a limit is passed: 1 to 64 registers, numbers
-    /// up to 1000000000, variables 0 to 15, cells 0 to 31, scans of registers that are there into cells that are there,
-    /// 200 statements, 3 nested repeats, 16 open blocks.
+    /// The program of these statements over so many registers. None where a limit is passed: 1 to
+    /// 64 registers, numbers up to 1000000000, variables 0 to 15, cells 0 to 31, scans of registers
+    /// that are there into cells that are there, 200 statements, 3 nested repeats, 16 open blocks.
     pub fn new(registers: u32, body: Vec<Stmt>) -> Option<Prog>
         ensures value { IfSome result
             (λ p. program_of p ≡ record { registers = registers; body = block_of body.items }) }
