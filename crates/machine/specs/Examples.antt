@@ -2,9 +2,9 @@
 use Rattle.std.specs.Prelude.{◌≡◌, List, [], ◌∷◌, Ok, refl, replicate}
 use Rattle.regmodel.specs.declared.accesses.Access.TheVariants as access
 use Rattle.regmodel.specs.declared.accesses.Pending.TheVariants as pending
-use Rattle.regmodel.specs.declared.programs.Expr.TheVariants.{One}
-use Rattle.regmodel.specs.declared.programs.Operand.TheVariants as operand
-use Rattle.regmodel.specs.declared.programs.Target.TheVariants as target
+use Rattle.regmodel.specs.declared.statements.Expr.TheVariants.{One}
+use Rattle.regmodel.specs.declared.statements.Operand.TheVariants as operand
+use Rattle.regmodel.specs.declared.statements.Target.TheVariants as target
 use Rattle.regmodel.specs.Program.{Program, Stop, Read, Write, Repeat, Emit}
 use Rattle.regmodel.specs.Reply.{one}
 use Rattle.regmodel.specs.Values.{start_env}

@@ -1,7 +1,7 @@
 //! Runs statements up to the next access or the end, and keeps the place where they stop.
 
 ghost use Rattle.std.specs.Prelude.{◌≡◌, ℕ, ◌+◌, ◌≤◌, IsTrue, List, Ok, drop};
-ghost use Rattle.regmodel.specs.declared.programs.Expr.{Expr};
+ghost use Rattle.regmodel.specs.declared.statements.Expr.{Expr};
 ghost use Rattle.regmodel.specs.Program.{Block, Stop, Assign, Read, Write, Scan, Repeat, Emit};
 ghost use Rattle.regmodel.specs.Blocks.{with_stmt, block_of};
 ghost use Rattle.regmodel.specs.Act.{exec};

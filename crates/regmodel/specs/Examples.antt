@@ -7,10 +7,10 @@ use Rattle.regmodel.specs.declared.accesses.Pending.TheVariants as pending
 use Rattle.regmodel.specs.declared.outcomes.End.{End}
 use Rattle.regmodel.specs.declared.outcomes.End.TheVariants as end
 use Rattle.regmodel.specs.declared.outcomes.ProcEnd.{ProcEnd}
-use Rattle.regmodel.specs.declared.programs.Expr.TheVariants.{One, Two}
-use Rattle.regmodel.specs.declared.programs.Op.TheVariants.{Add, Sub, Less}
-use Rattle.regmodel.specs.declared.programs.Operand.TheVariants as operand
-use Rattle.regmodel.specs.declared.programs.Target.TheVariants as target
+use Rattle.regmodel.specs.declared.statements.Expr.TheVariants.{One, Two}
+use Rattle.regmodel.specs.declared.statements.Op.TheVariants.{Add, Sub, Less}
+use Rattle.regmodel.specs.declared.statements.Operand.TheVariants as operand
+use Rattle.regmodel.specs.declared.statements.Target.TheVariants as target
 use Rattle.regmodel.specs.Program.{Block, Program, Stop, Assign, Read, Write, Scan, If, Repeat, Emit}
 use Rattle.regmodel.specs.Act.{act_of}
 use Rattle.regmodel.specs.Reply.{one}

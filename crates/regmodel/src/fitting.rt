@@ -6,7 +6,7 @@ ghost use Rattle.regmodel.specs.Blocks.{block_of, with_stmt};
 ghost use Rattle.regmodel.specs.Limits as spec;
 
 use crate::limits::CELLS;
-use crate::programs::Stmt;
+use crate::statements::Stmt;
 
 /// Whether each target, operand and scan of a block is within its limit, where there are so many
 /// registers.
