@@ -1,0 +1,21 @@
+use Rattle.std.proofs.Common.{map, ◌≡◌, refl}
+use Rattle.explorer.proofs.GrownLists.{All-before}
+use Rattle.cli.specs.Understanding.{resumed_of_all}
+use Rattle.cli.proofs.VerdictsFound.{plain_check, verdict_is}
+use Rattle.cli.proofs.checks.checked.Goals as goal
+
+pub run_check-requires-clause-understood : goal.run_check-requires-clause-understood
+run_check-requires-clause-understood g c κs within =
+    rw (c.whole-job.ensures, c.made-made.ensures) (λ some. All-before (λ list. map (λ b. (goal.Machine-dyn g (b.vtable, b.value)).resumed b.value) list.items ≡ resumed_of_all c.args.run.now.spelling.source.now c.args.run.now.native) c.last_of-own.result c.last_of-own.new.lists.items c.args.lists.items c.last_of-own.ensures c.requires.understood)
+
+pub verdict_on-verdict-requires-clause-checked : goal.verdict_on-verdict-requires-clause-checked
+verdict_on-verdict-requires-clause-checked g c =
+    let checked = rw (c.whole-job.ensures, c.clauses.ensures.value) at c.in-Ok.ensures.checked in
+    plain_check c.args.effort.settings c.args.run.now.spelling.source.now c.args.allows_faults c.in-Ok.found checked
+
+pub returns-in_ok-new-in-Ok-clause-found : goal.returns-in_ok-new-in-Ok-clause-found
+returns-in_ok-new-in-Ok-clause-found g c =
+    λ native lists.
+    let checked = rw (c.whole-job.ensures, c.clauses.ensures.value) at c.in-Ok.ensures.checked in
+    let verdict = verdict_is c.args.effort.settings c.args.run.now.spelling.source.now c.args.allows_faults c.args.run.now.spelling.text.now c.in-Ok.found c.verdict_on-verdict.result c.spells.ensures checked c.verdict_on-verdict.ensures in
+    (rw c.in_ok-new-in-Ok.ensures.ok verdict, refl)
