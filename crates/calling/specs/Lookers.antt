@@ -2,9 +2,9 @@
 use Rattle.std.specs.Prelude.{◌≢◌, ◌<◌, ℕ, [], ◌∷◌}
 use Rattle.regmodel.specs.declared.accesses.Pending.{Pending}
 use Rattle.regmodel.specs.declared.accesses.Pending.TheVariants.{Done}
-use Rattle.regmodel.specs.declared.programs.Expr.TheVariants.{One}
-use Rattle.regmodel.specs.declared.programs.Operand.TheVariants as operand
-use Rattle.regmodel.specs.declared.programs.Target.TheVariants as target
+use Rattle.regmodel.specs.declared.statements.Expr.TheVariants.{One}
+use Rattle.regmodel.specs.declared.statements.Operand.TheVariants as operand
+use Rattle.regmodel.specs.declared.statements.Target.TheVariants as target
 use Rattle.regmodel.specs.Program.{Program, Read, Emit, Stop}
 use Rattle.regmodel.specs.Act.{act_of}
 use Rattle.regmodel.specs.Reply.{Replies}

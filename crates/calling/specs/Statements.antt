@@ -1,10 +1,10 @@
 -- Inside the crate: the statements of a looker's program.
 use Rattle.std.specs.Prelude.{ℕ, ◌==◌, Bool, false, if◌then◌else◌, Option, Some, None}
-use Rattle.regmodel.specs.declared.programs.Expr.TheVariants.{One}
-use Rattle.regmodel.specs.declared.programs.Operand.TheVariants as operand
-use Rattle.regmodel.specs.declared.programs.Stmt.{Stmt}
-use Rattle.regmodel.specs.declared.programs.Stmt.TheVariants as stmt
-use Rattle.regmodel.specs.declared.programs.Target.TheVariants as target
+use Rattle.regmodel.specs.declared.statements.Expr.TheVariants.{One}
+use Rattle.regmodel.specs.declared.statements.Operand.TheVariants as operand
+use Rattle.regmodel.specs.declared.statements.Stmt.{Stmt}
+use Rattle.regmodel.specs.declared.statements.Stmt.TheVariants as stmt
+use Rattle.regmodel.specs.declared.statements.Target.TheVariants as target
 
 -- the register that a statement reads into the first variable
 abbrev pub register_read : Stmt → Option ℕ

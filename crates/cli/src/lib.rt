@@ -3,11 +3,14 @@
 
 mod aims;
 mod answers;
+mod attempts;
+mod checks;
 mod conclusions;
 mod cut_offs;
 mod explorations;
 mod faults;
 mod file_counts;
+mod first_findings;
 mod listings;
 mod machines;
 mod merges;

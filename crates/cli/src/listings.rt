@@ -7,10 +7,11 @@ ghost use Rattle.cli.specs.Refusals.{Finds};
 ghost use Rattle.cli.specs.Reports.{IsReportOf};
 ghost use Rattle.cli.specs.Runs.{IsCheckRefused};
 
-use crate::aims::{Aim, reached};
+use crate::aims::Aim;
+use crate::attempts::reached;
+use crate::conclusions::found_alone;
 use crate::faults::AnswerFault;
 use crate::runs::Run;
-use crate::tasks::found_alone;
 use explorer::{Effort, Exploration, Gate};
 use findings::Finding;
 use orders::Task;

@@ -1,4 +1,7 @@
 //! How many pieces were taken and how many are known, told on a writer while workers run.
+//!
+//! It tells by its own counts and by no clock. A piece may be taken before the gate is told that it
+//! is known, so a line tells at least as many known as taken.
 
 ghost use Rattle.std.specs.Prelude.{◌≡◌, ◌+◌, ◌-◌, ◌^◌, min};
 ghost use Rattle.cli.specs.Progress.{progress_text};

@@ -20,9 +20,10 @@ use texts::STATUSES;
 /// The program's version, and the logic that it is proved with, which several kits of Rattle share.
 pub const VERSION: &str = "0.1.0, proved with the logic dac8208d650f15bf of Rattle";
 
-/// What clap makes of the words of the command line, the program's name first. Where it is Ok, it is clap's parse by a
-/// command of just the words of `command_line`, and names one of its subcommands, or `help`. Clap is told of one subcommand alone where
-/// the first word names it. Which words clap refuses is not promised.
+/// What clap makes of the words of the command line, the program's name first. Where it is Ok, it
+/// is clap's parse by a command of just the words of `command_line`, and names one of its
+/// subcommands, or `help`. Clap is told of one subcommand alone where the first word names it.
+/// Which words clap refuses is not promised.
 pub fn matches_of<'a, S: AsStr>(alloc: Global, words: &'a [S]) -> Result<ArgMatches<'a>, Error>
     ensures parse { IfOk result
         (IsParseOf (command_line (word_at_name (map S.text words.entry.now)))) }
@@ -33,7 +34,8 @@ pub fn matches_of<'a, S: AsStr>(alloc: Global, words: &'a [S]) -> Result<ArgMatc
     command.try_get_matches_from(words)
 }
 
-/// The word that stands where a subcommand is named, the first behind the program's name; none is an empty one.
+/// The word that stands where a subcommand is named, the first behind the program's name; none is
+/// an empty one.
 fn word_at_name<'a, S: AsStr>(words: &'a [S]) -> &'a str
     ensures { result.now ≡ word_at_name (map S.text words.entry.now) }
 {

@@ -14,7 +14,8 @@ pub(crate) enum Kind {
     NeededNumber(&'static str),
     /// An option that takes a number of 32 bits.
     Number(&'static str),
-    /// An option of which any text is handed on, so that what is wrong with it is told by the program.
+    /// An option of which any text is handed on, so that what is wrong with it is told by the
+    /// program.
     Text(&'static str),
 }
 

@@ -1,6 +1,7 @@
 //! What the help says below the words of a command.
 
-/// What the help of a subcommand ends with. The table of subcommands names it, since the prover goes through each letter of what stands there.
+/// What the help of a subcommand ends with. The table of subcommands names it, since the prover
+/// goes through each letter of what stands there.
 #[derive(Clone, Copy)]
 pub(crate) enum Closing {
     /// On a check.

@@ -50,7 +50,9 @@ abbrev pub AreRowsOf : List Program → ℕ → Schedule → Schedule → List R
 AreRowsOf programs registers before [] [] = Unit {0}
 AreRowsOf programs registers before [] (row ∷ rows) = ⊥
 AreRowsOf programs registers before (letter ∷ later) [] = ⊥
-AreRowsOf programs registers before (letter ∷ later) (row ∷ rows) = IsRowOf programs registers before letter row × AreRowsOf programs registers (before ++ letter ∷ []) later rows
+AreRowsOf programs registers before (letter ∷ later) (row ∷ rows) =
+    IsRowOf programs registers before letter row
+    × AreRowsOf programs registers (before ++ letter ∷ []) later rows
 
 -- what is drawn of a schedule over so many registers
 pub record IsPictureOf (programs : List Program) (registers : ℕ) (w : Schedule) (picture : Picture) : Type 0 where
@@ -59,7 +61,10 @@ pub record IsPictureOf (programs : List Program) (registers : ℕ) (w : Schedule
   pub ends : picture.ends ≡ outcome_of programs w
 
 -- the same world was led along a schedule, which was drawn; or it stands before the first letter that is not possible
-pub record Draws {I : Type 0} {V : I → Type 0} (program : ((i : I) × V i) → Program) (rest : ((i : I) × V i) → Replies → Pending) (resumed : ((i : I) × V i) → List ℕ → Replies → Pending) (old new : World I V) (w : Schedule) (result : Result Picture BadLetter) : Type 0 where
+pub record Draws {I : Type 0} {V : I → Type 0}
+    (program : ((i : I) × V i) → Program) (rest : ((i : I) × V i) → Replies → Pending)
+    (resumed : ((i : I) × V i) → List ℕ → Replies → Pending) (old new : World I V) (w : Schedule)
+    (result : Result Picture BadLetter) : Type 0 where
   pub same : IsSameWorld program rest resumed old new
   pub schedule : IfOk result (λ drawing. IsSchedule (world_programs program old) (budget_of old) w)
   pub drawn : IfOk result (IsPictureOf (world_programs program old) (register_count_of old) w)

@@ -56,8 +56,8 @@ impl Row {
     }
 }
 
-/// What is drawn of a schedule: what each register holds before its first letter, a row a letter, and how each process stands
-/// after the last one.
+/// What is drawn of a schedule: what each register holds before its first letter, a row a letter,
+/// and how each process stands after the last one.
 #[derive(Debug, Drop)]
 pub struct Drawing {
     start: ArrayVec<Held, 64>,

@@ -43,7 +43,8 @@ impl Text for Spaces {
     }
 }
 
-/// How many spaces are due before a further text, where so many were due before this cell of a column of this width.
+/// How many spaces are due before a further text, where so many were due before this cell of a
+/// column of this width.
 pub(crate) fn gap_past(gap: usize, width: u16, cell: &Cell) -> usize
     requires { gap ≤ 65537 * MOST_COLUMNS }
     ensures { result ≡ texts.gap_past gap width cell.now }

@@ -44,8 +44,8 @@ pub(crate) fn widths_of(drawing: &Drawing) -> Widths
     widths
 }
 
-/// Whether a column is one of those that are kept first where not all fit: those of the letters' numbers and of the processes, and those of
-/// registers that a letter changes.
+/// Whether a column is one of those that are kept first where not all fit: those of the letters'
+/// numbers and of the processes, and those of registers that a letter changes.
 fn is_kept_first(drawing: &Drawing, column: usize) -> bool
     ensures { result ≡ layout.is_kept_first drawing.now column }
 {
@@ -67,7 +67,8 @@ fn fixed_columns(drawing: &Drawing) -> usize
     1 + drawing.outcome().ends().len()
 }
 
-/// How much of a line the first so many columns take, of those that are kept first or of the others, each with what parts it from the next.
+/// How much of a line the first so many columns take, of those that are kept first or of the
+/// others, each with what parts it from the next.
 fn room_of(drawing: &Drawing, widths: &Widths, first: bool, columns: usize) -> usize
     requires { columns ≤ length widths.now.items }
     ensures value { result ≡ layout.room_of drawing.now widths.now.items first columns }

@@ -9,10 +9,10 @@ use crate::tables::Table;
 use std::io::Write;
 use texts::{Block, Text, WriteFault};
 
-/// The text of a drawing: a header, a line with what each register holds at the start, a line a letter, and a line with how each
-/// process stands at the end. A line is as long as it may be at most, as far as leaving out registers can
-/// bring that about, first of those that no letter changes, and each time the last one; a last line
-/// says how many are left out.
+/// The text of a drawing: a header, a line with what each register holds at the start, a line a
+/// letter, and a line with how each process stands at the end. A line is as long as it may be at
+/// most, as far as leaving out registers can bring that about, first of those that no letter
+/// changes, and each time the last one; a last line says how many are left out.
 #[derive(Clone, Copy)]
 pub struct Drawn<'a> {
     /// The drawing.

@@ -7,8 +7,8 @@ use Rattle.regmodel.specs.Program.{Block}
 use Rattle.regmodel.specs.Blocks.{block_of, with_stmt}
 use Rattle.regmodel.specs.Reply.{Reply, Replies}
 use Rattle.regmodel.specs.Values.{Env}
-use Rattle.regmodel.specs.declared.programs.Expr.{Expr}
-use Rattle.regmodel.specs.declared.programs.Stmt.{Stmt, If}
+use Rattle.regmodel.specs.declared.statements.Expr.{Expr}
+use Rattle.regmodel.specs.declared.statements.Stmt.{Stmt, If}
 use Rattle.machine.specs.Exits.{BlockAsks, StmtAsks, block_flow, exit_through, stmt_flow}
 use Rattle.machine.specs.Paths.{access_flow, of_arm, part_flow, resume}
 use Rattle.machine.specs.Runs.{StmtRunsTo}

@@ -1,7 +1,7 @@
 -- Statements with parts, and how deep the statements of a block are nested.
 use Rattle.std.proofs.Common.{◌≡◌, ℕ, suc, ◌+◌, ◌<◌, ◌≤◌, max, List, Vec, Global, length, get_or, refl, ap, sym, ◌∙◌, arith}
-use Rattle.regmodel.specs.declared.programs.Expr.{Expr}
-use Rattle.regmodel.specs.declared.programs.Stmt.{Stmt, If, Repeat}
+use Rattle.regmodel.specs.declared.statements.Expr.{Expr}
+use Rattle.regmodel.specs.declared.statements.Stmt.{Stmt, If, Repeat}
 use Rattle.regmodel.specs.Program as program
 use Rattle.regmodel.specs.Program.{Block, Stop}
 use Rattle.regmodel.specs.Blocks.{with_stmt, block_of}

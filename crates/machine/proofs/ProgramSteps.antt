@@ -4,9 +4,9 @@ use Rattle.std.specs.Prelude.{nat_lt, slice_set}
 use Rattle.std.proofs.lemmas.List.{drop-set}
 use Rattle.std.proofs.lemmas.Bool.Decides.{nat_tests}
 use Rattle.regmodel.specs.Reply.{Replies}
-use Rattle.regmodel.specs.declared.programs.Expr.{Expr}
-use Rattle.regmodel.specs.declared.programs.Stmt.{Stmt}
-use Rattle.regmodel.specs.declared.programs.Stmt.TheVariants as stmt
+use Rattle.regmodel.specs.declared.statements.Expr.{Expr}
+use Rattle.regmodel.specs.declared.statements.Stmt.{Stmt}
+use Rattle.regmodel.specs.declared.statements.Stmt.TheVariants as stmt
 use Rattle.regmodel.specs.Values.{Env, expr_value}
 use Rattle.regmodel.specs.Act.{Flow, Faults, exec, then_do, times, times_or_fault, with_value, choose}
 use Rattle.regmodel.specs.Limits.{open_blocks}

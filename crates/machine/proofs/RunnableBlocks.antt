@@ -1,8 +1,8 @@
 -- Where a block can be run, so can its statements and the blocks in them.
 use Rattle.std.proofs.Common.{◌≡◌, ℕ, ◌+◌, ◌<◌, Bool, true, ◌&&◌, List, Vec, Global, IsTrue, length, get_or, ap, sym, subst, arith}
 use Rattle.std.proofs.lemmas.Bool.{and_parts}
-use Rattle.regmodel.specs.declared.programs.Expr.{Expr}
-use Rattle.regmodel.specs.declared.programs.Stmt.{Stmt, If, Repeat}
+use Rattle.regmodel.specs.declared.statements.Expr.{Expr}
+use Rattle.regmodel.specs.declared.statements.Stmt.{Stmt, If, Repeat}
 use Rattle.regmodel.specs.Limits.{expr_fits, open_blocks, operands_fit}
 use Rattle.regmodel.specs.Program.{Block, Stop}
 use Rattle.regmodel.specs.Blocks.{with_stmt, block_of}

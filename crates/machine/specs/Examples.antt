@@ -2,9 +2,9 @@
 use Rattle.std.specs.Prelude.{◌≡◌, List, [], ◌∷◌, Ok, refl, replicate}
 use Rattle.regmodel.specs.declared.accesses.Access.TheVariants as access
 use Rattle.regmodel.specs.declared.accesses.Pending.TheVariants as pending
-use Rattle.regmodel.specs.declared.programs.Expr.TheVariants.{One}
-use Rattle.regmodel.specs.declared.programs.Operand.TheVariants as operand
-use Rattle.regmodel.specs.declared.programs.Target.TheVariants as target
+use Rattle.regmodel.specs.declared.statements.Expr.TheVariants.{One}
+use Rattle.regmodel.specs.declared.statements.Operand.TheVariants as operand
+use Rattle.regmodel.specs.declared.statements.Target.TheVariants as target
 use Rattle.regmodel.specs.Program.{Program, Stop, Read, Write, Repeat, Emit}
 use Rattle.regmodel.specs.Reply.{one}
 use Rattle.regmodel.specs.Values.{start_env}
@@ -21,7 +21,13 @@ use Rattle.machine.specs.Standings.{access_numbers, resumed_by}
 
 -- ---- register 0 is written, read into variable 0, and that is emitted
 abbrev pub write_and_read : Program
-write_and_read = record { registers = 1; body = Write (operand.Number 0) (One (operand.Number 5)) (Read (target.Var 0) (operand.Number 0) (Emit (One (operand.Var 0)) Stop)) }
+write_and_read = record {
+  registers = 1;
+  body = Write (operand.Number 0) (One (operand.Number 5))
+      (Read (target.Var 0) (operand.Number 0)
+      (Emit (One (operand.Var 0))
+      Stop));
+}
 
 -- one frame leads to the read, which is statement 1
 abbrev pub at_the_read : List Frame
@@ -53,15 +59,25 @@ a_fault_stays = refl
 
 -- ---- what is kept of the first program after the reply to its write: the write, and the read to which that reply leads
 abbrev pub empty_store : Store
-empty_store = record { vars = record { places = replicate 16 0; count = 0 }; cells = record { places = replicate 32 0; count = 0 }; emitted = record { places = []; count = 0 } }
+empty_store = record {
+  vars = record { places = replicate 16 0; count = 0 };
+  cells = record { places = replicate 32 0; count = 0 };
+  emitted = record { places = []; count = 0 };
+}
 
 abbrev pub at_the_write : List Frame
 at_the_write = record { at = 0; part = Writing 0 5 } ∷ []
 
 abbrev pub kept_at_the_read : List Kept
 kept_at_the_read =
-    record { reply = record { places = []; count = 0 }; state = record { store = empty_store; frames = at_the_write; exit = Ok (block.Wants (access.Write 0 5)) } }
-    ∷ record { reply = record { places = 0 ∷ []; count = 1 }; state = record { store = empty_store; frames = at_the_read; exit = Ok (block.Wants (access.Read 0)) } }
+    record {
+      reply = record { places = []; count = 0 };
+      state = record { store = empty_store; frames = at_the_write; exit = Ok (block.Wants (access.Write 0 5)) };
+    }
+    ∷ record {
+      reply = record { places = 0 ∷ []; count = 1 };
+      state = record { store = empty_store; frames = at_the_read; exit = Ok (block.Wants (access.Read 0)) };
+    }
     ∷ []
 
 pub the_write_is_the_start : IsStart write_and_read (state_at kept_at_the_read 0)

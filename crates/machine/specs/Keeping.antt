@@ -11,7 +11,18 @@ use Rattle.machine.specs.Rest.{Asks, rest_in}
 
 -- what stands past the last place
 abbrev pub blank : Kept
-blank = record { reply = record { places = []; count = 0 }; state = record { store = record { vars = record { places = []; count = 0 }; cells = record { places = []; count = 0 }; emitted = record { places = []; count = 0 } }; frames = []; exit = Ok block.Halts } }
+blank = record {
+  reply = record { places = []; count = 0 };
+  state = record {
+    store = record {
+      vars = record { places = []; count = 0 };
+      cells = record { places = []; count = 0 };
+      emitted = record { places = []; count = 0 };
+    };
+    frames = [];
+    exit = Ok block.Halts;
+  };
+}
 
 -- what is kept at a place
 abbrev pub kept_at : List Kept → ℕ → Kept

@@ -16,16 +16,17 @@ use std::alloc::Global;
 /// A place for the start, and one past each reply of a schedule.
 const PLACES: usize = MOST_LETTERS as usize + 1;
 
-/// A program in progress. It keeps the states in which it stood since its start, one past each of its first 64 replies. So after a
-/// reset it runs no statement again as long as it is fed the same replies.
+/// A program in progress. It keeps the states in which it stood since its start, one past each of
+/// its first 64 replies. So after a reset it runs no statement again as long as it is fed the same
+/// replies.
 #[derive(Drop)]
 pub struct Interp {
     prog: Prog,
     kept: Vec<Kept>,
     /// The place of the present state.
     at: usize,
-    /// How many places are known, from the start on. None is after an end, and the last one is not where more replies came than are kept: the
-    /// present state stands past them then.
+    /// How many places are known, from the start on. None is after an end, and the last one is not
+    /// where more replies came than are kept: the present state stands past them then.
     known: usize,
     ghost room: { at < length kept.items },
     ghost fits: { known ≤ length kept.items },
@@ -36,8 +37,8 @@ pub struct Interp {
 impl Interp {
     ghost use Rattle.machine.specs.Interps.{WentPast, state_of};
 
-    /// An interpreter of this program, at its start. An error comes where memory for the kept states is refused, and the program
-    /// is dropped then. No later call takes memory.
+    /// An interpreter of this program, at its start. An error comes where memory for the kept
+    /// states is refused, and the program is dropped then. No later call takes memory.
     pub fn make(alloc: Global, prog: Prog) -> Result<Interp, OutOfMemory>
         ensures same { IfOk result (λ m. ⟦<Interp as Machine>⟧.program m ≡ program_of prog) }
         ensures starts { IfOk result
@@ -90,7 +91,8 @@ impl Interp {
         self.at < self.known && self.at + 1 < self.kept.len()
     }
 
-    /// Runs on past the reply from the present state, to the state of the next place. What was known from there on is known no longer.
+    /// Runs on past the reply from the present state, to the state of the next place. What was
+    /// known from there on is known no longer.
     fn run_on(&mut self, reply: &[u32])
         requires known { self.old.at < self.old.known }
         requires room { self.old.at + 1 < length self.old.kept.items }
@@ -103,7 +105,8 @@ impl Interp {
     }
 }
 
-/// Runs on past the reply from the state at a place, and keeps the reply and the state to which it leads at the next place.
+/// Runs on past the reply from the state at a place, and keeps the reply and the state to which it
+/// leads at the next place.
 fn run_past(kept: &mut [Kept], at: usize, prog: &Prog, reply: &[u32])
     requires room { at + 1 < length kept.old }
     requires asks { Asks (program_of prog.now) (state_at kept.old at) }

@@ -30,8 +30,8 @@ use regmodel::{Pending, Reply};
 pub use sparse::put_sparse;
 pub use told::Told;
 
-/// A program in progress, known by its program and by its rest: what is pending after each list of further replies.
-/// No call takes memory.
+/// A program in progress, known by its program and by its rest: what is pending after each list of
+/// further replies. No call takes memory.
 pub trait Machine: Drop + Send {
     /// What it runs.
     ghost program: { Self → Program };
@@ -47,7 +47,8 @@ pub trait Machine: Drop + Send {
         ensures same { IsSameMachine program resumed self.old self.new }
         ensures starts { IsAtStart (program self.new) (rest self.new) };
 
-    /// Goes to the program's start, and on by the first of these replies, as many as it need not run again. It answers how many these are.
+    /// Goes to the program's start, and on by the first of these replies, as many as it need not
+    /// run again. It answers how many these are.
     fn recall(&mut self, replies: &[Reply]) -> usize
         ensures same { IsSameMachine program resumed self.old self.new }
         ensures count { result ≤ length replies.now }
@@ -63,7 +64,8 @@ pub trait Machine: Drop + Send {
     fn pending(&self) -> Pending
         ensures { result ≡ rest self.now [] };
 
-    /// Goes on past one reply: the value of each register that was read, rising, each at most 1000000000; or one 0 to a write.
+    /// Goes on past one reply: the value of each register that was read, rising, each at most
+    /// 1000000000; or one 0 to a write.
     fn feed(&mut self, reply: &[u32])
         requires { IsReplyTo (rest self.old []) reply.now }
         ensures same { IsSameMachine program resumed self.old self.new }
@@ -74,8 +76,9 @@ pub trait Machine: Drop + Send {
         ensures same { IsSameMachine program resumed self.old self.new }
         ensures ended { (s : Replies) → rest self.new s ≡ Done (record { items = [] }) };
 
-    /// Tells where it stands, in numbers behind those of the list. It answers false where it cannot tell, or the list has no room for that;
-    /// what then stands behind the earlier numbers means nothing.
+    /// Tells where it stands, in numbers behind those of the list. It answers false where it cannot
+    /// tell, or the list has no room for that; what then stands behind the earlier numbers means
+    /// nothing.
     fn tell(&self, numbers: &mut Told) -> bool
         ensures { IsTrue result
             → Tells (resumed self.now) (rest self.now) (numbers_in numbers.old)
@@ -93,7 +96,8 @@ pub fn value_of(reply: &[u32]) -> u32
     reply.first().copied().unwrap_or(0)
 }
 
-// Each call of a boxed machine stands in a function of its own, by whose name a proof knows what it promises.
+// Each call of a boxed machine stands in a function of its own, by whose name a proof knows what it
+// promises.
 
 /// What is pending in a boxed machine.
 pub fn pending_of_box(machine: &Box<dyn Machine + Send>) -> Pending

@@ -20,8 +20,8 @@ pub struct Answer<'a> {
     pub frames: &'a [Frame],
 }
 
-/// Goes on with a statement from its part past the reply. The path further down lies in the reply's frames above the depth; where it stops
-/// again, the one to that place lies in the other frames.
+/// Goes on with a statement from its part past the reply. The path further down lies in the reply's
+/// frames above the depth; where it stops again, the one to that place lies in the other frames.
 #[cycle(resume)]
 fn resume_stmt(
     stmt: &Stmt,
@@ -77,8 +77,8 @@ fn resume_stmt(
     }
 }
 
-/// Goes on past the reply with a block, from the place to which its frames from the depth on lead. Where it stops again, the other frames
-/// lead there.
+/// Goes on past the reply with a block, from the place to which its frames from the depth on lead.
+/// Where it stops again, the other frames lead there.
 #[cycle(resume)]
 pub fn resume_block(
     block: &[Stmt],

@@ -1,7 +1,7 @@
 //! Runs statements up to the next access or the end, and keeps the place where they stop.
 
 ghost use Rattle.std.specs.Prelude.{◌≡◌, ℕ, ◌+◌, ◌≤◌, IsTrue, List, Ok, drop};
-ghost use Rattle.regmodel.specs.declared.programs.Expr.{Expr};
+ghost use Rattle.regmodel.specs.declared.statements.Expr.{Expr};
 ghost use Rattle.regmodel.specs.Program.{Block, Stop, Assign, Read, Write, Scan, Repeat, Emit};
 ghost use Rattle.regmodel.specs.Blocks.{with_stmt, block_of};
 ghost use Rattle.regmodel.specs.Act.{exec};
@@ -26,14 +26,16 @@ pub enum Arm {
     Second,
 }
 
-/// The part of a statement in which a program stands. What a `read` or `write` found before its access is kept.
+/// The part of a statement in which a program stands. What a `read` or `write` found before its
+/// access is kept.
 #[derive(Clone, Copy)]
 pub enum Part {
     /// At a read of this register, whose reply is stored at the place.
     Reading(u8, Place),
     /// At a write of this value into this register.
     Writing(u8, u32),
-    /// At a scan, whose reply is stored in the cells from the first number on, of the registers from the second on, so many.
+    /// At a scan, whose reply is stored in the cells from the first number on, of the registers
+    /// from the second on, so many.
     Scanning(u8, u8, u8),
     /// In an arm of an `if`.
     Within(Arm),
@@ -48,7 +50,8 @@ pub struct Frame {
     pub part: Part,
 }
 
-/// How a statement was left without a fault: past it, at an access within its part, or at the end of the program.
+/// How a statement was left without a fault: past it, at an access within its part, or at the end
+/// of the program.
 #[derive(Clone, Copy)]
 pub enum StmtExit {
     GoesOn,
@@ -166,8 +169,8 @@ pub fn stmt_exit(exit: Result<BlockExit, u8>, part: Part) -> Result<StmtExit, u8
     }
 }
 
-/// Runs one statement; a fault at a count above the most turns. Where it stops, it tells its part, and the path further down lies in
-/// the frames above the depth.
+/// Runs one statement; a fault at a count above the most turns. Where it stops, it tells its part,
+/// and the path further down lies in the frames above the depth.
 #[cycle(run)]
 fn run_stmt(
     stmt: &Stmt,
@@ -231,8 +234,8 @@ pub fn run_turns(
     Ok(StmtExit::GoesOn)
 }
 
-/// Runs a block from the statement with this number on. Where it stops, the path to that place lies in the frames from
-/// the depth on.
+/// Runs a block from the statement with this number on. Where it stops, the path to that place lies
+/// in the frames from the depth on.
 #[cycle(run)]
 pub fn run_block(
     block: &[Stmt],

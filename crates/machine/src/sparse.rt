@@ -11,8 +11,9 @@ use told::Told;
 /// How many values are told by one mask at most.
 const MOST_VALUES: usize = 32;
 
-/// Puts at most 32 values of which most are 0 behind the numbers: a number whose bit i tells whether value i is not 0, and then the values
-/// that are not 0. None where they have no room; some of them may be put then.
+/// Puts at most 32 values of which most are 0 behind the numbers: a number whose bit i tells
+/// whether value i is not 0, and then the values that are not 0. None where they have no room; some
+/// of them may be put then.
 pub fn put_sparse(values: &[u32], numbers: &mut Told) -> Option<()>
     requires { length values.now ≤ 32 }
     ensures behind { IfSome result

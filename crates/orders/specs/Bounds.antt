@@ -6,9 +6,10 @@ use Rattle.drawing.specs.declared.breadths.Breadth.{Breadth}
 use Rattle.drawing.specs.declared.breadths.Breadth.TheVariants.{Places, Usual, Whole}
 use Rattle.orders.specs.Flags.{IsFlagTold}
 use Rattle.orders.specs.NumberTexts.{IsNumberText}
-use Rattle.orders.specs.declared.bounds.TheConstants.{CACHE, MOST_CACHE, MOST_WIDTH}
-use Rattle.orders.specs.declared.bounds.Bound.{Bound}
-use Rattle.orders.specs.declared.bounds.Bound.TheVariants.{Length, Crashes, Workers, Cache, Width}
+use Rattle.orders.specs.declared.bounds.TheConstants.{CACHE}
+use Rattle.orders.specs.declared.ranges.TheConstants.{MOST_CACHE, MOST_WIDTH}
+use Rattle.orders.specs.declared.ranges.Bound.{Bound}
+use Rattle.orders.specs.declared.ranges.Bound.TheVariants.{Length, Crashes, Workers, Cache, Width}
 use Rattle.orders.specs.declared.refusals.Refusal.{Refusal}
 use Rattle.orders.specs.declared.refusals.Refusal.TheVariants as refusal
 

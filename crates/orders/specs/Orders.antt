@@ -18,9 +18,10 @@ use Rattle.orders.specs.NumberTexts.{IsNumberText}
 use Rattle.orders.specs.PatternTexts.{AreNoTexts, AreTextsOf, are_standard}
 use Rattle.drawing.specs.declared.breadths.Breadth.{Breadth}
 use Rattle.orders.specs.declared.tasks.Task.{Task}
-use Rattle.orders.specs.declared.bounds.TheConstants.{CACHE, MOST_CACHE, ROOM, SHARED_CUT}
+use Rattle.orders.specs.declared.bounds.TheConstants.{CACHE, ROOM, SHARED_CUT}
 use Rattle.orders.specs.declared.orders.TheConstants.{CACHE_SETTING}
 use Rattle.orders.specs.declared.parts_told.TheConstants.{PART_SETTING}
+use Rattle.orders.specs.declared.ranges.TheConstants.{MOST_CACHE}
 use Rattle.orders.specs.declared.refusals.Refusal.{Refusal}
 use Rattle.orders.specs.declared.refusals.Refusal.TheVariants as refusal
 use Rattle.orders.specs.declared.tasks.Task.TheVariants.{Check, Explore, Find, Replay, Show}
@@ -145,7 +146,10 @@ is_in_words (Show schedule breadth) = true
 -- letters; and to list the outcomes
 abbrev pub IsCheck : (List ℕ → Option (List ℕ)) → ℕ → Task → Type 0
 IsCheck told processors (Check effort native allows_faults shortest lists) =
-    IsEffortTold told processors effort × IsNativeTold told native × IsFlagTold (told (codes "allow-faults")) allows_faults × IsFlagTold (told (codes "shortest")) shortest
+    IsEffortTold told processors effort
+    × IsNativeTold told native
+    × IsFlagTold (told (codes "allow-faults")) allows_faults
+    × IsFlagTold (told (codes "shortest")) shortest
     × IsFlagTold (told (codes "outcomes")) lists
 IsCheck told processors (Explore effort native part least_alone) = ⊥
 IsCheck told processors (Find effort native patterns shortest) = ⊥

@@ -10,13 +10,12 @@ ghost use Rattle.orders.specs.Inputs.{IsStandardText};
 ghost use Rattle.orders.specs.PatternTexts.{IsStandardUnread};
 ghost use Rattle.orders.specs.Statuses.{IsNoSchedule, status_of};
 
-use crate::bounds::{
-    Bound, CACHE, MOST_CACHE, ProcessorCount, bound_of, bounds_of, breadth_of, processors,
-};
+use crate::bounds::{CACHE, ProcessorCount, bound_of, bounds_of, breadth_of, processors};
 use crate::inputs::{Opener, STANDARD_INPUT, is_standard};
 use crate::options::{has_flag, is_native, number_of, word_at};
 use crate::parts_told::part_told;
 use crate::patterns_told::{are_standard, patterns_told};
+use crate::ranges::{Bound, MOST_CACHE};
 use crate::reasons::refuse;
 use crate::refusals::Refusal;
 use crate::standing_forms::standing_at;

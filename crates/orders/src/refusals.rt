@@ -3,8 +3,8 @@
 ghost use Rattle.std.specs.Prelude.{◌≡◌};
 ghost use Rattle.orders.specs.declared.refusals.Refusal.TheVariants.{Memory};
 
-use crate::bounds::Bound;
 use crate::file_faults::FileFault;
+use crate::ranges::Bound;
 use crate::reasons::Reason;
 use crate::standing_forms::form_for;
 use std::alloc::AllocFailed;

@@ -4,10 +4,10 @@ use Rattle.std.specs.Prelude.{if◌then◌else◌, not, option_and_then, option_
 use Rattle.std.specs.List.{list_all, list_any}
 use Rattle.std.proofs.lemmas.Bool.{and_from}
 use Rattle.regmodel.specs.declared.clauses.Clause.{Clause}
-use Rattle.regmodel.specs.declared.programs.Expr.{Expr}
-use Rattle.regmodel.specs.declared.programs.Operand.{Operand}
-use Rattle.regmodel.specs.declared.programs.Operand.TheVariants as operand
-use Rattle.regmodel.specs.declared.programs.Target.{Target}
+use Rattle.regmodel.specs.declared.statements.Expr.{Expr}
+use Rattle.regmodel.specs.declared.statements.Operand.{Operand}
+use Rattle.regmodel.specs.declared.statements.Operand.TheVariants as operand
+use Rattle.regmodel.specs.declared.statements.Target.{Target}
 use Rattle.uses.specs.declared.kinds.Use.{Use}
 use Rattle.reglang.specs.Arguments.{are_of, clause_with, line_with}
 use Rattle.reglang.specs.Contents.{clause_fits}

@@ -1,7 +1,7 @@
 -- Blocks one after another.
 use Rattle.std.proofs.Common.{◌≡◌, List, [], ◌∷◌, ◌++◌, refl, ap, ◌∙◌}
-use Rattle.regmodel.specs.declared.programs.Stmt.{Stmt}
-use Rattle.regmodel.specs.declared.programs.Stmt.TheVariants as stmt
+use Rattle.regmodel.specs.declared.statements.Stmt.{Stmt}
+use Rattle.regmodel.specs.declared.statements.Stmt.TheVariants as stmt
 use Rattle.regmodel.specs.Program.{Block, Stop, Assign, Read, Write, Scan, If, Repeat, Emit, Halt}
 use Rattle.regmodel.specs.Blocks.{block_of, with_stmt}
 use Rattle.reglang.specs.Drafts.{◌⊕◌}

@@ -8,7 +8,7 @@ use Rattle.std.proofs.lemmas.Option.{slice_get-map, slice_get_read}
 use Rattle.std.proofs.lemmas.List.{length-map}
 use Rattle.regmodel.specs.declared.memory.OutOfMemory.{OutOfMemory}
 use Rattle.regmodel.specs.declared.programs.Prog.{Prog}
-use Rattle.regmodel.specs.declared.programs.Stmt.{Stmt}
+use Rattle.regmodel.specs.declared.statements.Stmt.{Stmt}
 use Rattle.regmodel.specs.Limits.{IsWithin}
 use Rattle.regmodel.specs.OfProg.{program_of}
 use Rattle.regmodel.specs.Program.{Block}

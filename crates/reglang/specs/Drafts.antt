@@ -2,7 +2,7 @@
 -- line more makes of it.
 use Rattle.std.specs.Prelude.{◌≡◌, ℕ, suc, ◌+◌, ◌<◌, ◌≤◌, Bool, true, false, ◌&&◌, if◌then◌else◌, List, [], ◌∷◌, ◌++◌, length, map, reverse, max, All, Option, Some, None, Result, Ok, Err, IfErr, IsOk, MatchResult, nat_lt}
 use Rattle.regmodel.specs.declared.clauses.Clause.{Clause}
-use Rattle.regmodel.specs.declared.programs.Expr.{Expr}
+use Rattle.regmodel.specs.declared.statements.Expr.{Expr}
 use Rattle.regmodel.specs.declared.limits.TheConstants.{MOST_CHECKS, MOST_OPEN_BLOCKS, MOST_OPEN_REPEATS, MOST_PROCESSES, MOST_REGISTERS, MOST_STATEMENTS}
 use Rattle.reglang.specs.LineFaults.{code_of}
 use Rattle.reglang.specs.declared.refusals.LineFault.{LineFault}
@@ -11,7 +11,7 @@ use Rattle.regmodel.specs.Limits.{target_fits, operand_fits, expr_fits, scan_fit
 use Rattle.regmodel.specs.Program as program
 use Rattle.regmodel.specs.Program.{Block, Stop}
 use Rattle.regmodel.specs.Blocks.{block_of, with_stmt}
-use Rattle.regmodel.specs.declared.programs.Stmt.{Stmt}
+use Rattle.regmodel.specs.declared.statements.Stmt.{Stmt}
 use Rattle.reglang.specs.Forms.{read_line}
 use Rattle.reglang.specs.Contents.{Body, Text, Kind, Contents, IsBodyWithin, clause_fits}
 use Rattle.reglang.specs.Sources.{check_lines_of, contents_of, contents_with}

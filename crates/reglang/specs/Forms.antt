@@ -3,13 +3,13 @@ use Rattle.std.specs.Prelude.{◌≡◌, ℕ, Bool, true, false, not, if◌then�
 use Rattle.std.specs.List.{list_all, list_any}
 use Rattle.reglang.specs.declared.refusals.LineFault.{LineFault}
 use Rattle.reglang.specs.declared.refusals.LineFault.TheVariants.{NoForm, NoNumber, NotPrintable, UnknownWord}
-use Rattle.regmodel.specs.declared.programs.Target.{Target}
-use Rattle.regmodel.specs.declared.programs.Target.TheVariants as target
-use Rattle.regmodel.specs.declared.programs.Operand.{Operand}
-use Rattle.regmodel.specs.declared.programs.Operand.TheVariants as operand
-use Rattle.regmodel.specs.declared.programs.Op.{Op}
-use Rattle.regmodel.specs.declared.programs.Expr.{Expr}
-use Rattle.regmodel.specs.declared.programs.Expr.TheVariants as expr
+use Rattle.regmodel.specs.declared.statements.Target.{Target}
+use Rattle.regmodel.specs.declared.statements.Target.TheVariants as target
+use Rattle.regmodel.specs.declared.statements.Operand.{Operand}
+use Rattle.regmodel.specs.declared.statements.Operand.TheVariants as operand
+use Rattle.regmodel.specs.declared.statements.Op.{Op}
+use Rattle.regmodel.specs.declared.statements.Expr.{Expr}
+use Rattle.regmodel.specs.declared.statements.Expr.TheVariants as expr
 use Rattle.regmodel.specs.declared.clauses.Clause.{Clause}
 use Rattle.uses.specs.declared.kinds.Use.{Use}
 use Rattle.reglang.specs.Arguments.{clause_with, line_with, use_with}

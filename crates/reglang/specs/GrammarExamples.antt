@@ -1,8 +1,8 @@
 -- Worked examples: lines that say a source.
 use Rattle.std.specs.Prelude.{[], ◌∷◌, codes, refl}
 use Rattle.std.proofs.Common.{inl, inr}
-use Rattle.regmodel.specs.declared.programs.Expr.TheVariants.{One}
-use Rattle.regmodel.specs.declared.programs.Operand.TheVariants.{Var}
+use Rattle.regmodel.specs.declared.statements.Expr.TheVariants.{One}
+use Rattle.regmodel.specs.declared.statements.Operand.TheVariants.{Var}
 use Rattle.regmodel.specs.Program.{Block, Stop, Scan, If, Halt}
 use Rattle.reglang.specs.Contents.{Contents, Text}
 use Rattle.reglang.specs.Grammar.{BlockSays, LinesSay, Process, lines_said}

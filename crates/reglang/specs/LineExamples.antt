@@ -1,9 +1,9 @@
 -- Lines, and what each says or the code of its fault.
 use Rattle.std.specs.Prelude.{◌≡◌, [], ◌∷◌, ◌++◌, Some, None, Ok, Err, map, replicate, refl, codes}
-use Rattle.regmodel.specs.declared.programs.Target.TheVariants as target
-use Rattle.regmodel.specs.declared.programs.Operand.TheVariants as operand
-use Rattle.regmodel.specs.declared.programs.Op.TheVariants as op
-use Rattle.regmodel.specs.declared.programs.Expr.TheVariants as expr
+use Rattle.regmodel.specs.declared.statements.Target.TheVariants as target
+use Rattle.regmodel.specs.declared.statements.Operand.TheVariants as operand
+use Rattle.regmodel.specs.declared.statements.Op.TheVariants as op
+use Rattle.regmodel.specs.declared.statements.Expr.TheVariants as expr
 use Rattle.regmodel.specs.declared.clauses.Clause.TheVariants as clause
 use Rattle.reglang.specs.declared.refusals.LineFault.TheVariants.{NotPrintable, UnknownWord, NoNumber, NoForm}
 use Rattle.reglang.specs.Forms.{arguments, read_line}

@@ -1,7 +1,7 @@
 -- How the words of the language are spelled.
 use Rattle.std.specs.Prelude.{ℕ, List, codes}
-use Rattle.regmodel.specs.declared.programs.Op.{Op}
-use Rattle.regmodel.specs.declared.programs.Op.TheVariants as op
+use Rattle.regmodel.specs.declared.statements.Op.{Op}
+use Rattle.regmodel.specs.declared.statements.Op.TheVariants as op
 use Rattle.reglang.specs.declared.vocabulary.Keyword.{Keyword}
 use Rattle.reglang.specs.declared.vocabulary.Keyword.TheVariants as keyword
 use Rattle.reglang.specs.declared.vocabulary.Kind.{Kind}

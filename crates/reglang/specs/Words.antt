@@ -3,8 +3,8 @@ use Rattle.std.specs.Prelude.{ℕ, map, ◌+◌, ◌==◌, Bool, false, ◌&&◌
 use Rattle.std.specs.List.{list_all}
 use Rattle.std.specs.Str.{byte, bytes_eq}
 use Rattle.std.specs.Str.Parse.{digits_value}
-use Rattle.regmodel.specs.declared.programs.Op.{Op}
-use Rattle.regmodel.specs.declared.programs.Operand.TheVariants as operand
+use Rattle.regmodel.specs.declared.statements.Op.{Op}
+use Rattle.regmodel.specs.declared.statements.Operand.TheVariants as operand
 use Rattle.regmodel.specs.declared.limits.TheConstants.{CELLS, GREATEST_VALUE, VARIABLES}
 use Rattle.reglang.specs.Lines.{is_empty}
 use Rattle.reglang.specs.Spelling.{keyword_text, kind_text, operator_text, property_text}

@@ -2,17 +2,17 @@
 -- one between two words.
 use Rattle.std.specs.Prelude.{◌≡◌, ℕ, List, [], ◌∷◌, ◌++◌, map, Some, codes, decimal}
 use Rattle.std.specs.List.{flat_map, join_by}
-use Rattle.regmodel.specs.declared.programs.Target.{Target}
-use Rattle.regmodel.specs.declared.programs.Target.TheVariants as target
-use Rattle.regmodel.specs.declared.programs.Operand.{Operand}
-use Rattle.regmodel.specs.declared.programs.Operand.TheVariants as operand
-use Rattle.regmodel.specs.declared.programs.Expr.{Expr}
-use Rattle.regmodel.specs.declared.programs.Expr.TheVariants as expr
+use Rattle.regmodel.specs.declared.statements.Target.{Target}
+use Rattle.regmodel.specs.declared.statements.Target.TheVariants as target
+use Rattle.regmodel.specs.declared.statements.Operand.{Operand}
+use Rattle.regmodel.specs.declared.statements.Operand.TheVariants as operand
+use Rattle.regmodel.specs.declared.statements.Expr.{Expr}
+use Rattle.regmodel.specs.declared.statements.Expr.TheVariants as expr
 use Rattle.regmodel.specs.declared.clauses.Clause.{Clause}
 use Rattle.regmodel.specs.Program as program
 use Rattle.regmodel.specs.Program.{Block}
 use Rattle.regmodel.specs.Blocks.{block_of, with_stmt}
-use Rattle.regmodel.specs.declared.programs.Stmt.{Stmt}
+use Rattle.regmodel.specs.declared.statements.Stmt.{Stmt}
 use Rattle.reglang.specs.Arguments.{clause_parts, line_parts, use_parts}
 use Rattle.reglang.specs.Spelling.{keyword_text, kind_text, operator_text, property_text}
 use Rattle.reglang.specs.Contents.{Body, Text, Kind, Contents}

@@ -1,10 +1,10 @@
 -- Texts that are written.
 use Rattle.std.specs.Prelude.{◌≡◌, [], ◌∷◌, Some, refl, codes}
 use Rattle.std.specs.Fmt.{digits}
-use Rattle.regmodel.specs.declared.programs.Target.TheVariants as target
-use Rattle.regmodel.specs.declared.programs.Operand.TheVariants as operand
-use Rattle.regmodel.specs.declared.programs.Op.TheVariants as op
-use Rattle.regmodel.specs.declared.programs.Expr.TheVariants as expr
+use Rattle.regmodel.specs.declared.statements.Target.TheVariants as target
+use Rattle.regmodel.specs.declared.statements.Operand.TheVariants as operand
+use Rattle.regmodel.specs.declared.statements.Op.TheVariants as op
+use Rattle.regmodel.specs.declared.statements.Expr.TheVariants as expr
 use Rattle.regmodel.specs.declared.clauses.Clause.TheVariants as clause
 use Rattle.regmodel.specs.Program as program
 use Rattle.reglang.specs.Contents.{Text, Kind}

@@ -4,12 +4,15 @@
 mod arguments;
 mod copies;
 mod draft;
+mod draft_lines;
 mod forms;
 pub mod laws;
 mod lines;
 mod open_process;
 mod operands;
+mod part_lines;
 mod parts;
+mod process_lines;
 mod reader;
 mod refusals;
 mod sorts;

@@ -3,35 +3,24 @@
 ghost use Rattle.std.specs.Prelude.{◌≡◌, All, true};
 ghost use Rattle.reglang.specs.Bodies.{is_over};
 
-use crate::arguments::Line;
-use crate::draft::Draft;
-use crate::open_process::OpenProcess;
-use crate::refusals::{LineFault, LineRefusal};
+use crate::refusals::LineFault;
 use crate::source::{Process, Source};
 use arrayvec::ArrayVec;
-use regmodel::limits::MOST_PROCESSES;
 use regmodel::{Clause, Clauses};
 use std::alloc::Global;
-use uses::Use;
 
 /// The registers, and the whole processes and checks so far.
 #[derive(Drop)]
 pub struct Parts {
-    registers: u32,
-    processes: Vec<Process>,
-    clauses: ArrayVec<Clause, 16>,
+    pub(crate) registers: u32,
+    pub(crate) processes: Vec<Process>,
+    pub(crate) clauses: ArrayVec<Clause, 16>,
     ghost fit: { All (λ p. is_over registers p ≡ true) processes.items },
 }
 
 impl Parts {
-    ghost use Rattle.std.specs.Prelude.{Ok, false};
-    ghost use Rattle.reglang.specs.Bodies.{body_of};
-    ghost use Rattle.reglang.specs.Drafts as spec;
-    ghost use Rattle.reglang.specs.Drafts.{Answers, AnswersAtEnd, AnswersLine, Between, ReadingFits};
-    ghost use Rattle.reglang.specs.Faults.{may_ask};
-    ghost use Rattle.reglang.specs.Drafts.{begun, contents_before, with_body};
-    ghost use Rattle.reglang.specs.declared.arguments.Line.TheVariants as line;
-    ghost use Rattle.reglang.specs.declared.source.Process.TheVariants as process;
+    ghost use Rattle.std.specs.Prelude.{◌≡◌};
+    ghost use Rattle.reglang.specs.Drafts.{AnswersAtEnd, Between, ReadingFits, begun, contents_before};
 
     /// So many registers, and nothing else so far.
     pub fn new(alloc: Global, registers: u32) -> Parts
@@ -51,51 +40,6 @@ impl Parts {
         self.registers
     }
 
-    /// Takes a line between processes.
-    pub fn take(self, alloc: Global, line: Line) -> Result<Draft, LineRefusal>
-        ensures { AnswersLine false (spec.take_between (contents_before self) line) result }
-    {
-        match line {
-            Line::Process => self.begin_process(alloc),
-            Line::Check(clause) => self.add_clause(clause),
-            _ => Err(LineRefusal::Fault(LineFault::Misplaced)),
-        }
-    }
-
-    /// Begins a process.
-    fn begin_process(self, alloc: Global) -> Result<Draft, LineRefusal>
-        ensures { AnswersLine false (spec.take_between (contents_before self) line.Process) result }
-    {
-        if self.processes.len() >= MOST_PROCESSES {
-            return Err(LineRefusal::Fault(LineFault::PastLimit));
-        }
-        Ok(Draft::Inside(OpenProcess::new(alloc, self)))
-    }
-
-    /// Adds the clause of a check line.
-    fn add_clause(mut self, clause: Option<Clause>) -> Result<Draft, LineRefusal>
-        ensures { AnswersLine false (spec.add_clause (contents_before self) clause) result }
-    {
-        if self.clauses.is_full() {
-            return Err(LineRefusal::Fault(LineFault::PastLimit));
-        }
-        let Some(clause) = clause else {
-            return Err(LineRefusal::Fault(LineFault::NoClause));
-        };
-        self.clauses.push(clause);
-        Ok(Draft::Between(self))
-    }
-
-    /// Adds a process that is read to its end.
-    pub fn add_process(mut self, process: Process) -> Result<Draft, LineRefusal>
-        requires { is_over self.registers process ≡ true }
-        ensures { Answers
-            (Ok (Between (with_body (contents_before self) (body_of process)))) result }
-    {
-        self.processes.push(process)?;
-        Ok(Draft::Between(self))
-    }
-
     /// The source of these parts, whose checks stand on these lines.
     pub fn finish(self, check_lines: ArrayVec<u64, 16>) -> Result<Source, LineFault>
         requires { ReadingFits (Between (contents_before self)) }
@@ -110,17 +54,5 @@ impl Parts {
             return Err(LineFault::PastLimit);
         }
         Ok(Source::new(registers, processes, Clauses::new(clauses), check_lines))
-    }
-
-    /// Takes a line after a use line.
-    pub fn take_used(self, kind: Use, line: Line) -> Result<Draft, LineRefusal>
-        requires { is_over self.registers (process.Use kind) ≡ true }
-        ensures { AnswersLine (may_ask line)
-            (spec.take_used (contents_before self) kind line) result }
-    {
-        match line {
-            Line::End => self.add_process(Process::Use(kind)),
-            _ => Err(LineRefusal::Fault(LineFault::Misplaced)),
-        }
     }
 }

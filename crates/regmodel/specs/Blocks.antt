@@ -1,7 +1,7 @@
 -- The block that statements make, however they lie in memory.
 use Rattle.std.specs.Prelude.{List, [], ◌∷◌}
-use Rattle.regmodel.specs.declared.programs.Stmt.{Stmt, Row_of-Stmt, end_of-Stmt, more_of-Stmt}
-use Rattle.regmodel.specs.declared.programs.Stmt.TheVariants as stmt
+use Rattle.regmodel.specs.declared.statements.Stmt.{Stmt, Row_of-Stmt, end_of-Stmt, more_of-Stmt}
+use Rattle.regmodel.specs.declared.statements.Stmt.TheVariants as stmt
 use Rattle.regmodel.specs.Program.{Block, Stop, Assign, Read, Write, Scan, If, Repeat, Emit, Halt}
 
 -- a statement before the rest of its block, and a row of statements as a block

@@ -7,10 +7,10 @@ use Rattle.regmodel.specs.declared.accesses.Pending.TheVariants as pending
 use Rattle.regmodel.specs.declared.outcomes.End.{End}
 use Rattle.regmodel.specs.declared.outcomes.End.TheVariants as end
 use Rattle.regmodel.specs.declared.outcomes.ProcEnd.{ProcEnd}
-use Rattle.regmodel.specs.declared.programs.Expr.TheVariants.{One, Two}
-use Rattle.regmodel.specs.declared.programs.Op.TheVariants.{Add, Sub, Less}
-use Rattle.regmodel.specs.declared.programs.Operand.TheVariants as operand
-use Rattle.regmodel.specs.declared.programs.Target.TheVariants as target
+use Rattle.regmodel.specs.declared.statements.Expr.TheVariants.{One, Two}
+use Rattle.regmodel.specs.declared.statements.Op.TheVariants.{Add, Sub, Less}
+use Rattle.regmodel.specs.declared.statements.Operand.TheVariants as operand
+use Rattle.regmodel.specs.declared.statements.Target.TheVariants as target
 use Rattle.regmodel.specs.Program.{Block, Program, Stop, Assign, Read, Write, Scan, If, Repeat, Emit}
 use Rattle.regmodel.specs.Act.{act_of}
 use Rattle.regmodel.specs.Reply.{one}
@@ -27,7 +27,12 @@ over registers body = record { registers = registers; body = body }
 
 -- read v0 0; if v0 < 3, emit 1, else emit v0 + 1
 abbrev branches : Program
-branches = over 1 (Read (target.Var 0) (operand.Number 0) (If (Two (operand.Var 0) Less (operand.Number 3)) (Emit (One (operand.Number 1)) Stop) (Emit (Two (operand.Var 0) Add (operand.Number 1)) Stop) Stop))
+branches = over 1
+    (Read (target.Var 0) (operand.Number 0)
+    (If (Two (operand.Var 0) Less (operand.Number 3))
+    (Emit (One (operand.Number 1)) Stop)
+    (Emit (Two (operand.Var 0) Add (operand.Number 1)) Stop)
+    Stop))
 
 pub wants_a_read : act_of branches [] ≡ pending.Wants (access.Read 0)
 wants_a_read = refl
@@ -40,7 +45,14 @@ takes_the_second_part = refl
 
 -- repeat 2: write 0 v1, read v0 0, emit v0, set v1 v1 + 1
 abbrev loops : Program
-loops = over 1 (Repeat (One (operand.Number 2)) (Write (operand.Number 0) (One (operand.Var 1)) (Read (target.Var 0) (operand.Number 0) (Emit (One (operand.Var 0)) (Assign (target.Var 1) (Two (operand.Var 1) Add (operand.Number 1)) Stop)))) Stop)
+loops = over 1
+    (Repeat (One (operand.Number 2))
+    (Write (operand.Number 0) (One (operand.Var 1))
+    (Read (target.Var 0) (operand.Number 0)
+    (Emit (One (operand.Var 0))
+    (Assign (target.Var 1) (Two (operand.Var 1) Add (operand.Number 1))
+    Stop))))
+    Stop)
 
 pub wants_its_second_write : act_of loops (one 0 ∷ one 7 ∷ []) ≡ pending.Wants (access.Write 0 1)
 wants_its_second_write = refl
@@ -66,7 +78,12 @@ below_zero = refl
 pub no_such_register : act_of (over 1 (Write (operand.Number 3) (One (operand.Number 1)) Stop)) [] ≡ pending.Fault 2
 no_such_register = refl
 
-pub no_such_cell : act_of (over 1 (Assign (target.Var 0) (One (operand.Number 32)) (Assign (target.CellOf 0) (One (operand.Number 1)) Stop))) [] ≡ pending.Fault 2
+pub no_such_cell : act_of
+    (over 1
+    (Assign (target.Var 0) (One (operand.Number 32))
+    (Assign (target.CellOf 0) (One (operand.Number 1))
+    Stop))) []
+    ≡ pending.Fault 2
 no_such_cell = refl
 
 pub count_too_large : act_of (over 1 (Repeat (One (operand.Number 100)) Stop Stop)) [] ≡ pending.Fault 3
@@ -80,7 +97,12 @@ pub register_before_value : act_of (over 1 (Write (operand.Number 3) (Two (opera
 register_before_value = refl
 
 -- of two faults in an assignment, that of the value comes first
-pub value_before_cell : act_of (over 1 (Assign (target.Var 0) (One (operand.Number 32)) (Assign (target.CellOf 0) (Two (operand.Number 2) Sub (operand.Number 3)) Stop))) [] ≡ pending.Fault 1
+pub value_before_cell : act_of
+    (over 1
+    (Assign (target.Var 0) (One (operand.Number 32))
+    (Assign (target.CellOf 0) (Two (operand.Number 2) Sub (operand.Number 3))
+    Stop))) []
+    ≡ pending.Fault 1
 value_before_cell = refl
 
 -- ---- a writer and a reader of one register
@@ -106,11 +128,14 @@ is_five p = end_is_five p.fate
 pub both_orders : all_schedules writer_and_reader 0 2 ≡ (Run 0 ∷ Run 1 ∷ []) ∷ (Run 1 ∷ Run 0 ∷ []) ∷ []
 both_orders = refl
 
-pub both_outcomes : map (outcome_of writer_and_reader) (all_schedules writer_and_reader 0 2) ≡ (started [] ∷ started (5 ∷ []) ∷ []) ∷ (started [] ∷ started (0 ∷ []) ∷ []) ∷ []
+pub both_outcomes : map (outcome_of writer_and_reader) (all_schedules writer_and_reader 0 2)
+    ≡ (started [] ∷ started (5 ∷ []) ∷ []) ∷ (started [] ∷ started (0 ∷ []) ∷ []) ∷ []
 both_outcomes = refl
 
 -- the first schedule whose outcome fails a test, here whether the second process is done with 5
-pub first_refused_of_both : first_refused writer_and_reader (λ ends. list_any is_five ends) (all_schedules writer_and_reader 0 2) ≡ Some (Run 1 ∷ Run 0 ∷ [], started [] ∷ started (0 ∷ []) ∷ [])
+pub first_refused_of_both : first_refused writer_and_reader (λ ends. list_any is_five ends)
+    (all_schedules writer_and_reader 0 2)
+    ≡ Some (Run 1 ∷ Run 0 ∷ [], started [] ∷ started (0 ∷ []) ∷ [])
 first_refused_of_both = refl
 
 -- ---- two writers of a register each, one of which may crash
@@ -121,15 +146,29 @@ two_writers = writes 2 0 5 ∷ writes 2 1 5 ∷ []
 abbrev pub idle : End → ProcEnd
 idle fate = record { started = false; fate = fate }
 
-pub six_schedules : all_schedules two_writers 1 2 ≡ (Run 0 ∷ Run 1 ∷ []) ∷ (Run 0 ∷ Crash 1 ∷ []) ∷ (Run 1 ∷ Run 0 ∷ []) ∷ (Run 1 ∷ Crash 0 ∷ []) ∷ (Crash 0 ∷ Run 1 ∷ []) ∷ (Crash 1 ∷ Run 0 ∷ []) ∷ []
+pub six_schedules : all_schedules two_writers 1 2
+    ≡ (Run 0 ∷ Run 1 ∷ [])
+    ∷ (Run 0 ∷ Crash 1 ∷ [])
+    ∷ (Run 1 ∷ Run 0 ∷ [])
+    ∷ (Run 1 ∷ Crash 0 ∷ [])
+    ∷ (Crash 0 ∷ Run 1 ∷ [])
+    ∷ (Crash 1 ∷ Run 0 ∷ [])
+    ∷ []
 six_schedules = refl
 
 pub three_outcomes : map (outcome_of two_writers) (all_schedules two_writers 1 2)
-    ≡ (started [] ∷ started [] ∷ []) ∷ (started [] ∷ idle end.Crashed ∷ []) ∷ (started [] ∷ started [] ∷ []) ∷ (idle end.Crashed ∷ started [] ∷ []) ∷ (idle end.Crashed ∷ started [] ∷ []) ∷ (started [] ∷ idle end.Crashed ∷ []) ∷ []
+    ≡ (started [] ∷ started [] ∷ [])
+    ∷ (started [] ∷ idle end.Crashed ∷ [])
+    ∷ (started [] ∷ started [] ∷ [])
+    ∷ (idle end.Crashed ∷ started [] ∷ [])
+    ∷ (idle end.Crashed ∷ started [] ∷ [])
+    ∷ (started [] ∷ idle end.Crashed ∷ [])
+    ∷ []
 three_outcomes = refl
 
 -- a schedule ends at its length, with a process still running
-pub one_step_each : map (outcome_of two_writers) (all_schedules two_writers 0 1) ≡ (started [] ∷ idle end.Running ∷ []) ∷ (idle end.Running ∷ started [] ∷ []) ∷ []
+pub one_step_each : map (outcome_of two_writers) (all_schedules two_writers 0 1)
+    ≡ (started [] ∷ idle end.Running ∷ []) ∷ (idle end.Running ∷ started [] ∷ []) ∷ []
 one_step_each = refl
 
 -- a schedule ends before its length where nothing is possible

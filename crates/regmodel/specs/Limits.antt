@@ -1,12 +1,12 @@
 -- The limits of a program. What faults only when it is run is no such limit.
 use Rattle.std.specs.Prelude.{ℕ, suc, ◌+◌, ◌<◌, ◌≤◌, Bool, true, ◌&&◌, IsTrue, max, nat_lt, nat_le}
 use Rattle.regmodel.specs.declared.limits.TheConstants.{CELLS, GREATEST_VALUE, MOST_OPEN_BLOCKS, MOST_OPEN_REPEATS, MOST_REGISTERS, MOST_STATEMENTS, VARIABLES}
-use Rattle.regmodel.specs.declared.programs.Target.{Target}
-use Rattle.regmodel.specs.declared.programs.Target.TheVariants as target
-use Rattle.regmodel.specs.declared.programs.Operand.{Operand}
-use Rattle.regmodel.specs.declared.programs.Operand.TheVariants as operand
-use Rattle.regmodel.specs.declared.programs.Expr.{Expr}
-use Rattle.regmodel.specs.declared.programs.Expr.TheVariants.{One, Two}
+use Rattle.regmodel.specs.declared.statements.Target.{Target}
+use Rattle.regmodel.specs.declared.statements.Target.TheVariants as target
+use Rattle.regmodel.specs.declared.statements.Operand.{Operand}
+use Rattle.regmodel.specs.declared.statements.Operand.TheVariants as operand
+use Rattle.regmodel.specs.declared.statements.Expr.{Expr}
+use Rattle.regmodel.specs.declared.statements.Expr.TheVariants.{One, Two}
 use Rattle.regmodel.specs.Program.{Block, Program, Stop, Assign, Read, Write, Scan, If, Repeat, Emit, Halt}
 
 -- 16 variables and 32 cells

@@ -1,8 +1,8 @@
 -- Programs as plain data: a block is its statements, each followed by the rest of the block.
 use Rattle.std.specs.Prelude.{ℕ}
-use Rattle.regmodel.specs.declared.programs.Target.{Target}
-use Rattle.regmodel.specs.declared.programs.Operand.{Operand}
-use Rattle.regmodel.specs.declared.programs.Expr.{Expr}
+use Rattle.regmodel.specs.declared.statements.Target.{Target}
+use Rattle.regmodel.specs.declared.statements.Operand.{Operand}
+use Rattle.regmodel.specs.declared.statements.Expr.{Expr}
 
 -- statements, each with the rest of its block
 pub data Block : Type 0 where

@@ -6,9 +6,10 @@ ghost use Rattle.regmodel.specs.Blocks.{block_of, with_stmt};
 ghost use Rattle.regmodel.specs.Limits as spec;
 
 use crate::limits::CELLS;
-use crate::programs::Stmt;
+use crate::statements::Stmt;
 
-/// Whether each target, operand and scan of a block is within its limit, where there are so many registers.
+/// Whether each target, operand and scan of a block is within its limit, where there are so many
+/// registers.
 #[cycle(fits)]
 pub fn operands_fit(registers: u32, block: &[Stmt]) -> bool
     ensures { result ≡ spec.operands_fit registers (block_of block.now) }
@@ -51,7 +52,8 @@ fn stmt_fits(registers: u32, stmt: &Stmt) -> bool
     }
 }
 
-/// Whether a scan reads at least one register, and only such as are there, into cells that are there.
+/// Whether a scan reads at least one register, and only such as are there, into cells that are
+/// there.
 pub fn scan_fits(registers: u32, cell: u32, first: u32, count: u32) -> bool
     ensures { result ≡ spec.scan_fits registers cell first count }
 {
@@ -60,7 +62,8 @@ pub fn scan_fits(registers: u32, cell: u32, first: u32, count: u32) -> bool
         && u64::from(first) + u64::from(count) <= u64::from(registers)
 }
 
-/// Whether `if` and `repeat` are nested at most so deep in a block, and `repeat` alone at most so deep.
+/// Whether `if` and `repeat` are nested at most so deep in a block, and `repeat` alone at most so
+/// deep.
 #[cycle(nests)]
 pub fn nests_within(block: &[Stmt], blocks: u32, repeats: u32) -> bool
     ensures { IsTrue result
@@ -109,7 +112,8 @@ fn stmt_nests_within(stmt: &Stmt, blocks: u32, repeats: u32) -> bool
     }
 }
 
-/// What is left of a number after the statements of a block are taken from it, those of inner blocks counted. None where they are more.
+/// What is left of a number after the statements of a block are taken from it, those of inner
+/// blocks counted. None where they are more.
 #[cycle(counts)]
 pub fn room_after(block: &[Stmt], room: u32) -> Option<u32>
     ensures { MatchOption result (room < spec.statements (block_of block.now))

@@ -1,7 +1,7 @@
 //! Judging outcomes by clauses.
 
-ghost use Rattle.std.specs.Prelude.{◌≡◌, ◌≤◌, ◌+◌, ◌*◌, ◌==◌, ◌&&◌, not, length, count_by, nat_le};
-ghost use Rattle.std.specs.List.{list_all, list_any, position};
+ghost use Rattle.std.specs.Prelude.{◌≡◌, ◌≤◌, ◌+◌, ◌*◌, ◌==◌, ◌&&◌, length, count_by, nat_le};
+ghost use Rattle.std.specs.List.{list_all, list_any};
 ghost use Rattle.regmodel.specs.declared.limits.TheConstants.{MOST_PROCESSES};
 ghost use Rattle.regmodel.specs.Judging.{are_different, has_if_done, is_faulty, is_running, meets, meets_all, name_of, names, see_themselves, count_started};
 
@@ -84,7 +84,8 @@ fn has_if_done(fate: &End, m: u32) -> bool
     }
 }
 
-/// Whether each process that took a step and is done has its number and 1 among its numbers; the first of these is process p.
+/// Whether each process that took a step and is done has its number and 1 among its numbers; the
+/// first of these is process p.
 fn see_themselves(p: usize, ends: &[ProcEnd]) -> bool
     requires { p + length ends.now ≤ MOST_PROCESSES }
     ensures { result ≡ see_themselves p ends.now }
@@ -98,7 +99,8 @@ fn see_themselves(p: usize, ends: &[ProcEnd]) -> bool
     see_themselves(p + 1, more)
 }
 
-/// Whether each name m is at least 1, and m + 1 at most twice the number of processes that took a step.
+/// Whether each name m is at least 1, and m + 1 at most twice the number of processes that took a
+/// step.
 fn are_adaptive(outcome: &Outcome) -> bool
     ensures { result
         ≡ list_all (λ m. nat_le 1 m && nat_le (m + 1) (2 * count_started outcome.now))
@@ -185,27 +187,6 @@ impl Subject {
             Subject::Named => name_of(end).is_some(),
             Subject::Done => matches!(end.fate, End::Done(_)),
         }
-    }
-}
-
-/// The place of the first of these clauses that an outcome does not meet, counted from 0.
-fn first_broken(clauses: &[Clause], outcome: &Outcome) -> Option<usize>
-    ensures { result ≡ position (λ clause. not (meets clause outcome.now)) clauses.now }
-{
-    clauses.iter().position(|clause| !meets(clause, outcome))
-}
-
-impl Clauses {
-    ghost use Rattle.std.specs.Prelude.{IsNone, IsTrue, not};
-    ghost use Rattle.std.specs.List.{position};
-    ghost use Rattle.regmodel.specs.Judging.{meets, meets_all};
-
-    /// The place of the first clause that an outcome does not meet, counted from 0. None where it meets all of them. Takes no memory.
-    pub fn first_broken(&self, outcome: &Outcome) -> Option<usize>
-        ensures first { result ≡ position (λ clause. not (meets clause outcome.now)) self.now }
-        ensures none { IsNone result → IsTrue (meets_all self.now outcome.now) }
-    {
-        first_broken(self.list(), outcome)
     }
 }
 

@@ -3,7 +3,8 @@
 /// One letter of a schedule. Every run comes before every crash, and lower processes first.
 #[derive(Clone, Copy, PartialEq, Eq, PartialOrd, Ord, Debug)]
 pub enum Letter {
-    /// The process does the one access that it wants, and what follows up to its next access or its end.
+    /// The process does the one access that it wants, and what follows up to its next access or its
+    /// end.
     Run(u8),
     /// The process takes no further step.
     Crash(u8),

@@ -16,6 +16,7 @@ mod reply;
 mod schedule_texts;
 mod schedules;
 mod settings;
+mod statements;
 
 pub use accesses::{Access, Footprint, Numbers, Pending};
 pub use clauses::{Clause, Clauses, Subject};
@@ -23,8 +24,9 @@ pub use fitting::scan_fits;
 pub use letters::Letter;
 pub use memory::OutOfMemory;
 pub use outcomes::{End, Judge, Outcome, ProcEnd};
-pub use programs::{Expr, Op, Operand, Prog, Stmt, Target};
+pub use programs::Prog;
 pub use reply::Reply;
 pub use schedule_texts::{read_schedule, write_schedule};
 pub use schedules::Prefix;
 pub use settings::{SettingFault, Settings};
+pub use statements::{Expr, Op, Operand, Stmt, Target};

@@ -1,6 +1,7 @@
 //! The limits of the model and of an exploration.
 
-/// The greatest value of a register, a variable, a cell, a number of a program, and the numbers of a check.
+/// The greatest value of a register, a variable, a cell, a number of a program, and the numbers of
+/// a check.
 pub const GREATEST_VALUE: u32 = 1_000_000_000;
 
 /// The most registers of a program.

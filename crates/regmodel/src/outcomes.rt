@@ -27,7 +27,8 @@ pub struct ProcEnd {
     pub fate: End,
 }
 
-/// How each process stands after a schedule, processes from 0. A clause sees the list of their ends.
+/// How each process stands after a schedule, processes from 0. A clause sees the list of their
+/// ends.
 #[derive(Clone, PartialEq, Eq, PartialOrd, Ord, Debug, Drop)]
 pub struct Outcome {
     ends: ArrayVec<ProcEnd, 8>,
@@ -83,7 +84,8 @@ pub trait Judge: Sync {
     fn holds(&self, outcome: &Outcome) -> bool
         ensures { result ≡ accepts self.now outcome.now };
 
-    /// Whether every outcome is known to be good, so that none need be shown to the judge. A judge that does not know answers false.
+    /// Whether every outcome is known to be good, so that none need be shown to the judge. A judge
+    /// that does not know answers false.
     fn holds_always(&self) -> bool
         ensures { IsTrue result → (ends : List ProcEnd) → accepts self.now ends ≡ true }
     {

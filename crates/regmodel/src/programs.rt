@@ -1,4 +1,4 @@
-//! Programs, as trees of statements.
+//! Programs, as trees of statements within limits.
 
 ghost use Rattle.std.specs.Prelude.{◌≡◌, ◌<◌, ◌≤◌, ◌↔◌, IsTrue, IfSome, IsSome};
 ghost use Rattle.regmodel.specs.Blocks.{block_of};
@@ -6,117 +6,8 @@ ghost use Rattle.regmodel.specs.declared.limits.TheConstants.{MOST_OPEN_BLOCKS, 
 ghost use Rattle.regmodel.specs.Limits.{operands_fit, statements, open_blocks, open_repeats, IsWithin};
 
 use crate::fitting;
-use crate::limits::{
-    CELLS, GREATEST_VALUE, MOST_OPEN_BLOCKS, MOST_OPEN_REPEATS, MOST_REGISTERS, MOST_STATEMENTS,
-    VARIABLES,
-};
-
-/// Where a value is stored.
-#[derive(Clone, Copy, PartialEq, Eq, Debug)]
-pub enum Target {
-    /// The variable with this number, 0 to 15.
-    Var(u8),
-    /// The cell with this number, 0 to 31.
-    Cell(u8),
-    /// The cell whose number is the value of this variable.
-    CellOf(u8),
-}
-
-/// A value to compute with.
-#[derive(Clone, Copy, PartialEq, Eq, Debug)]
-pub enum Operand {
-    /// A number, 0 to 1000000000.
-    Number(u32),
-    /// The variable with this number, 0 to 15.
-    Var(u8),
-    /// The cell with this number, 0 to 31.
-    Cell(u8),
-    /// The cell whose number is the value of this variable.
-    CellOf(u8),
-}
-
-/// An operator; the comparisons give 1 or 0.
-#[derive(Clone, Copy, PartialEq, Eq, Debug)]
-pub enum Op {
-    Add,
-    Sub,
-    Mul,
-    Equal,
-    Less,
-}
-
-/// One operand, or two with an operator between them.
-#[derive(Clone, Copy, PartialEq, Eq, Debug)]
-pub enum Expr {
-    One(Operand),
-    Two(Operand, Op, Operand),
-}
-
-impl Target {
-    ghost use Rattle.regmodel.specs.Limits.{target_fits};
-
-    /// Whether the variable's number is below 16, or the cell's below 32.
-    pub fn fits(&self) -> bool
-        ensures { result ≡ target_fits self.now }
-    {
-        match self {
-            Target::Var(i) => *i < VARIABLES,
-            Target::Cell(i) => *i < CELLS,
-            Target::CellOf(i) => *i < VARIABLES,
-        }
-    }
-}
-
-impl Operand {
-    ghost use Rattle.regmodel.specs.Limits.{operand_fits};
-
-    /// Whether the number is at most 1000000000, the variable's number below 16, or the cell's below 32.
-    pub fn fits(&self) -> bool
-        ensures { result ≡ operand_fits self.now }
-    {
-        match self {
-            Operand::Number(n) => *n <= GREATEST_VALUE,
-            Operand::Var(i) => *i < VARIABLES,
-            Operand::Cell(i) => *i < CELLS,
-            Operand::CellOf(i) => *i < VARIABLES,
-        }
-    }
-}
-
-impl Expr {
-    ghost use Rattle.regmodel.specs.Limits.{expr_fits};
-
-    /// Whether each operand is within its limit.
-    pub fn fits(&self) -> bool
-        ensures { result ≡ expr_fits self.now }
-    {
-        match self {
-            Expr::One(a) => a.fits(),
-            Expr::Two(a, _, b) => a.fits() && b.fits(),
-        }
-    }
-}
-
-/// A statement of the register language.
-#[derive(Debug, Drop)]
-pub enum Stmt {
-    /// Evaluates the expression, then stores its value.
-    Assign(Target, Expr),
-    /// Reads the register with the operand's number into the target.
-    Read(Target, Operand),
-    /// Writes the expression's value into the register with the operand's number.
-    Write(Operand, Expr),
-    /// Runs the first block where the value is not 0, else the second.
-    If(Expr, Vec<Stmt>, Vec<Stmt>),
-    /// Runs the block as often as the value says, which is taken once.
-    Repeat(Expr, Vec<Stmt>),
-    /// Reads at once the registers from the second number on, as many as the third says, into the cells from the first on.
-    Scan(u32, u32, u32),
-    /// Appends the value to the numbers of the process.
-    Emit(Expr),
-    /// Ends the process with its numbers.
-    Halt,
-}
+use crate::limits::{MOST_OPEN_BLOCKS, MOST_OPEN_REPEATS, MOST_REGISTERS, MOST_STATEMENTS};
+use crate::statements::Stmt;
 
 /// A program over 1 to 64 registers, always within the limits.
 #[derive(Debug, Drop)]
@@ -134,9 +25,9 @@ pub struct Prog {
 impl Prog {
     ghost use Rattle.regmodel.specs.OfProg.{program_of};
 
-    /// The program of these statements over so many registers. None where a limit is passed: 1 to 64 registers, numbers
-    /// up to 1000000000, variables 0 to 15, cells 0 to 31, scans of registers that are there into cells that are there,
-    /// 200 statements, 3 nested repeats, 16 open blocks.
+    /// The program of these statements over so many registers. None where a limit is passed: 1 to
+    /// 64 registers, numbers up to 1000000000, variables 0 to 15, cells 0 to 31, scans of registers
+    /// that are there into cells that are there, 200 statements, 3 nested repeats, 16 open blocks.
     pub fn new(registers: u32, body: Vec<Stmt>) -> Option<Prog>
         ensures value { IfSome result
             (λ p. program_of p ≡ record { registers = registers; body = block_of body.items }) }

@@ -6,7 +6,8 @@ ghost use Rattle.regmodel.specs.declared.limits.TheConstants.{MOST_SCANNED};
 
 use crate::limits::MOST_SCANNED;
 
-/// The reply to one access, as a plain value: at most 32 numbers. Places from the count on hold what they held.
+/// The reply to one access, as a plain value: at most 32 numbers. Places from the count on hold
+/// what they held.
 #[derive(Clone, Copy)]
 pub struct Reply {
     places: [u32; MOST_SCANNED],
@@ -55,7 +56,8 @@ impl Reply {
 }
 
 /// Puts these numbers in the first places.
-// Not a part of `set`: most replies are of one number, whose place is set without room for a call that copies memory.
+// Not a part of `set`: most replies are of one number, whose place is set without room for a call
+// that copies memory.
 #[inline(never)]
 fn put_first(places: &mut [u32], values: &[u32])
     requires { length values.now ≤ length places.old }

@@ -45,7 +45,8 @@ pub const CUT_PAST_LIMIT: u8 = 4;
 /// The code of a room past its limit.
 pub const ROOM_PAST_LIMIT: u8 = 5;
 
-/// A setting past its limit, the lowest that applies: 1 length, 2 crashes, 3 workers, 4 cut, 5 room.
+/// A setting past its limit, the lowest that applies: 1 length, 2 crashes, 3 workers, 4 cut, 5
+/// room.
 #[derive(Clone, Copy, PartialEq, Eq, Debug, Error)]
 #[error("setting {code} is past its limit")]
 pub struct SettingFault {
@@ -54,7 +55,8 @@ pub struct SettingFault {
 }
 
 impl Settings {
-    /// Settings of these numbers: length 0 to 64, crashes 0 to 8, workers 1 to 16, cut 0 to 16, room 0 to 65536.
+    /// Settings of these numbers: length 0 to 64, crashes 0 to 8, workers 1 to 16, cut 0 to 16,
+    /// room 0 to 65536.
     pub fn new(
         length: u32,
         crashes: u32,

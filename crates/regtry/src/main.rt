@@ -1,4 +1,5 @@
-//! The program: checks, explores and searches sources, merges parts, and replays and draws a schedule.
+//! The program: checks, explores and searches sources, merges parts, and replays and draws a
+//! schedule.
 #![tactic(auto)]
 
 ghost use Rattle.std.specs.Prelude.{◌≡◌, Some, true};

@@ -1,4 +1,5 @@
-//! What no run of the program shows: writers that take nothing or pass nothing on, and what the words ask for.
+//! What no run of the program shows: writers that take nothing or pass nothing on, and what the
+//! words ask for.
 
 ghost use Rattle.std.specs.Prelude.{◌≡◌, Some};
 

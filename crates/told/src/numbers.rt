@@ -12,7 +12,8 @@ use crate::limits::MOST_BYTES;
 /// How many bytes are copied at once where there are no more.
 const FEW: usize = 16;
 
-/// Numbers told one behind another, in at most 128 bytes: a number takes one below 254, three below 65536, and else five.
+/// Numbers told one behind another, in at most 128 bytes: a number takes one below 254, three below
+/// 65536, and else five.
 #[derive(Clone, Copy)]
 pub struct Told {
     /// The bytes of the numbers; those behind them hold what they held.
@@ -88,7 +89,8 @@ impl Told {
         Some(())
     }
 
-    /// Puts these numbers behind the others. None where their bytes have no room; some of them may be put then.
+    /// Puts these numbers behind the others. None where their bytes have no room; some of them may
+    /// be put then.
     pub fn put_all(&mut self, numbers: &[u32]) -> Option<()>
         ensures behind { IfSome result
             (λ _. numbers_in self.new ≡ numbers_in self.old ++ numbers.now) }
@@ -100,7 +102,8 @@ impl Told {
         Some(())
     }
 
-    /// Puts the numbers of another one behind its own. None where their bytes have no room, and nothing is put then.
+    /// Puts the numbers of another one behind its own. None where their bytes have no room, and
+    /// nothing is put then.
     pub fn put_told(&mut self, other: &Told) -> Option<()>
         ensures behind { IfSome result
             (λ _. numbers_in self.new ≡ numbers_in self.old ++ numbers_in other.now) }
@@ -114,7 +117,8 @@ impl Told {
         self.put_bytes(other.bytes(), other.count)
     }
 
-    /// The same where the other one has few bytes. So many are copied without a call: those behind its own mean nothing.
+    /// The same where the other one has few bytes. So many are copied without a call: those behind
+    /// its own mean nothing.
     fn put_few(&mut self, other: &Told)
         requires few { other.now.size ≤ FEW }
         requires room { self.old.size + FEW ≤ MOST_BYTES }

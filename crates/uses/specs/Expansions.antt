@@ -1,12 +1,12 @@
 -- The programs that `use` lines stand for. The numbers of a line go into its program as literals.
 use Rattle.std.specs.Prelude.{ℕ, ◌+◌, ◌-◌, ◌*◌, ◌^◌}
 use Rattle.regmodel.specs.declared.limits.TheConstants.{MOST_TURNS}
-use Rattle.regmodel.specs.declared.programs.Target.TheVariants as target
-use Rattle.regmodel.specs.declared.programs.Operand.{Operand}
-use Rattle.regmodel.specs.declared.programs.Operand.TheVariants.{Number, Var, CellOf}
-use Rattle.regmodel.specs.declared.programs.Op.TheVariants.{Add, Sub, Mul, Equal, Less}
-use Rattle.regmodel.specs.declared.programs.Expr.{Expr}
-use Rattle.regmodel.specs.declared.programs.Expr.TheVariants.{One, Two}
+use Rattle.regmodel.specs.declared.statements.Target.TheVariants as target
+use Rattle.regmodel.specs.declared.statements.Operand.{Operand}
+use Rattle.regmodel.specs.declared.statements.Operand.TheVariants.{Number, Var, CellOf}
+use Rattle.regmodel.specs.declared.statements.Op.TheVariants.{Add, Sub, Mul, Equal, Less}
+use Rattle.regmodel.specs.declared.statements.Expr.{Expr}
+use Rattle.regmodel.specs.declared.statements.Expr.TheVariants.{One, Two}
 use Rattle.regmodel.specs.Program.{Block, Program, Stop, Assign, Read, Write, Scan, If, Repeat, Emit, Halt}
 use Rattle.uses.specs.declared.kinds.Use.{Use}
 use Rattle.uses.specs.declared.kinds.Use.TheVariants.{Split, Grid, Tree, Name, Names}

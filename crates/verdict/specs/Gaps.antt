@@ -20,7 +20,10 @@ want_of clause outcomes = elim (subject_of clause) [ Some w ↦ if is_met w outc
 -- the line of clause i and what it wants, where it is vacuous
 abbrev pub gap_at : List ℕ → List Clause → List (List ProcEnd) → ℕ → Option Gap
 gap_at text clauses outcomes i = elim (slice_get clauses i) [
-  | Some clause ↦ elim (want_of clause outcomes) [ Some w ↦ option_map (λ line. record { line = line; want = w }) (slice_get (check_lines text) i) | None ↦ None ]
+  | Some clause ↦ elim (want_of clause outcomes) [
+    | Some w ↦ option_map (λ line. record { line = line; want = w }) (slice_get (check_lines text) i)
+    | None ↦ None
+  ]
   | None ↦ None
 ]
 

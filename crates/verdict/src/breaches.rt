@@ -46,8 +46,9 @@ pub struct Breach {
     pub schedule: Prefix,
     /// Why it fails.
     pub cause: Cause,
-    /// From which letter on each of its beginnings breaks a check but `ended`, or has a process at fault where that is not allowed, counted
-    /// from 1; 0 where that with no letter does. None where it does not so itself.
+    /// From which letter on each of its beginnings breaks a check but `ended`, or has a process at
+    /// fault where that is not allowed, counted from 1; 0 where that with no letter does. None
+    /// where it does not so itself.
     pub onset: Option<u64>,
     /// What is drawn of it.
     pub drawing: Drawing,
@@ -117,8 +118,8 @@ impl Verdict {
     }
 }
 
-/// Whether the source holds that a text spells, and what its least failing schedule breaks, where one fails. The machines, one a process,
-/// lead to its drawing. Takes no memory.
+/// Whether the source holds that a text spells, and what its least failing schedule breaks, where
+/// one fails. The machines, one a process, lead to its drawing. Takes no memory.
 pub fn verdict_on(
     spelling: &Spelling<'_>,
     machines: Vec<Box<dyn Machine + Send>>,
@@ -153,8 +154,8 @@ pub fn verdict_on(
     }
 }
 
-/// What the least schedule breaks that fails when judged so strictly, which there is. The machines, one a process, lead to its drawing.
-/// Takes no memory.
+/// What the least schedule breaks that fails when judged so strictly, which there is. The machines,
+/// one a process, lead to its drawing. Takes no memory.
 pub fn breach_for(
     spelling: &Spelling<'_>,
     machines: Vec<Box<dyn Machine + Send>>,
@@ -201,7 +202,8 @@ fn cause_of(spelling: &Spelling<'_>, strictness: Strictness, outcome: &Outcome) 
     Cause::Fault(fault)
 }
 
-/// The line of the first check of a source that is asked and that an outcome breaks; `ended` may be left out. None where it breaks none.
+/// The line of the first check of a source that is asked and that an outcome breaks; `ended` may be
+/// left out. None where it breaks none.
 fn broken_line(spelling: &Spelling<'_>, asks_ended: bool, outcome: &Outcome) -> Option<u64>
     ensures line { IfSome result
         (IsBrokenLine spelling.now.text.now (contents_of spelling.now.source.now).clauses

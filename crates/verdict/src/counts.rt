@@ -5,7 +5,8 @@ ghost use Rattle.verdict.specs.VerdictText as spec;
 use std::io::Write;
 use texts::{Block, Text, WriteFault};
 
-/// A number of things: so many of what the noun says, with its ending, which is left out for one thing.
+/// A number of things: so many of what the noun says, with its ending, which is left out for one
+/// thing.
 #[derive(Clone, Copy)]
 pub struct Counted<'a>(pub u64, pub &'a str, pub &'a str);
 
@@ -46,7 +47,8 @@ impl Text for Crashes {
     }
 }
 
-/// How many letters a schedule had at most, and how many processes could crash, behind what is said of them.
+/// How many letters a schedule had at most, and how many processes could crash, behind what is said
+/// of them.
 #[derive(Clone, Copy)]
 pub struct Bounds {
     /// The number of letters.

@@ -28,7 +28,8 @@ pub struct Strictness {
     pub allows_faults: bool,
 }
 
-/// The judge of a check: an outcome is good where it meets all clauses, and no process is at fault unless that is allowed.
+/// The judge of a check: an outcome is good where it meets all clauses, and no process is at fault
+/// unless that is allowed.
 #[derive(Clone, Copy, Debug)]
 pub struct Demands<'a> {
     /// The clauses that are asked.
@@ -63,7 +64,8 @@ fn some_faulty(outcome: &Outcome) -> bool
         .any(|end| matches!(end.fate, End::Fault(_)))
 }
 
-/// These clauses without `ended`, which no schedule meets that is cut off with a process still running.
+/// These clauses without `ended`, which no schedule meets that is cut off with a process still
+/// running.
 pub fn without_ended(clauses: &Clauses) -> Clauses
     ensures { result ≡ clauses_asked false clauses.now }
 {
@@ -72,7 +74,8 @@ pub fn without_ended(clauses: &Clauses) -> Clauses
     Clauses::new(asked)
 }
 
-/// The place of the first clause that is asked and that an outcome breaks, counted from 0; `ended` may be left out.
+/// The place of the first clause that is asked and that an outcome breaks, counted from 0; `ended`
+/// may be left out.
 pub(crate) fn first_broken(clauses: &[Clause], asks_ended: bool, outcome: &Outcome) -> Option<usize>
     ensures { result ≡ position (breaks asks_ended outcome.now) clauses.now }
 {

@@ -1,4 +1,5 @@
-//! Whether a source holds, in words for a person: the schedule that fails, why and its drawing, or how much was tried.
+//! Whether a source holds, in words for a person: the schedule that fails, why and its drawing, or
+//! how much was tried.
 #![tactic(auto)]
 
 mod breaches;

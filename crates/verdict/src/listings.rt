@@ -24,8 +24,9 @@ impl Text for OutcomeList<'_> {
     }
 }
 
-/// Writes what `write_verdict` writes, and then the outcomes, one a line: where no schedule fails those that were found, else those of the
-/// exploration beside it. After a fault the writer has taken a beginning of it.
+/// Writes what `write_verdict` writes, and then the outcomes, one a line: where no schedule fails
+/// those that were found, else those of the exploration beside it. After a fault the writer has
+/// taken a beginning of it.
 pub fn write_listing<W: Write>(
     path: &[u8],
     text: &[u8],

@@ -10,9 +10,10 @@ use machine::Machine;
 use regmodel::{Clauses, Judge};
 use world::World;
 
-/// From which letter on each beginning of the schedule where the world stands fails, counted from 1; 0 where that with no letter does. A
-/// process at fault fails it, too, unless that is allowed, but `ended` is not asked. None where the schedule itself does not fail so. The
-/// world stands at a beginning of the schedule then.
+/// From which letter on each beginning of the schedule where the world stands fails, counted from
+/// 1; 0 where that with no letter does. A process at fault fails it, too, unless that is allowed,
+/// but `ended` is not asked. None where the schedule itself does not fail so. The world stands at a
+/// beginning of the schedule then.
 pub(crate) fn onset_of(world: &mut World, clauses: &Clauses, allows_faults: bool) -> Option<u64>
     requires { IsSoundWorld program rest resumed world.old }
     ensures same { IsSameWorld program rest resumed world.old world.new }

@@ -7,8 +7,9 @@ ghost use Rattle.verdict.specs.ShellWords as spec;
 use std::io::Write;
 use texts::{Block, Text, WriteFault};
 
-/// A file's path as it is to be typed in a POSIX shell, behind a program that takes options: between quotes where it has a byte of which a shell
-/// makes something else, and behind `--` where it begins with a dash. One dash alone stands for standard input, and is typed so.
+/// A file's path as it is to be typed in a POSIX shell, behind a program that takes options:
+/// between quotes where it has a byte of which a shell makes something else, and behind `--` where
+/// it begins with a dash. One dash alone stands for standard input, and is typed so.
 #[derive(Clone, Copy)]
 pub struct ShellPath<'a>(pub &'a [u8]);
 

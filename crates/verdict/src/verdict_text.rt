@@ -205,8 +205,8 @@ impl Text for Onset {
     }
 }
 
-/// A schedule that is cut off, where one is told beside another schedule that fails: what it breaks,
-/// and the command that draws it.
+/// A schedule that is cut off, where one is told beside another schedule that fails: what it
+/// breaks, and the command that draws it.
 #[derive(Clone, Copy)]
 struct Beside<'a> {
     path: &'a [u8],

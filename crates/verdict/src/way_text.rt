@@ -86,7 +86,8 @@ impl Text for NoShorter {
     }
 }
 
-/// Which of so many patterns, by its number, asks for more crashes than there may be, where one does.
+/// Which of so many patterns, by its number, asks for more crashes than there may be, where one
+/// does.
 #[derive(Clone, Copy)]
 struct Excess(u64, Option<u64>);
 

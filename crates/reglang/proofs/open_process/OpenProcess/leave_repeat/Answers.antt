@@ -1,7 +1,7 @@
 use Rattle.std.proofs.Common.{Ok, ap, sym, ◌∙◌}
 use Rattle.regmodel.proofs.Rows.{with_stmt-Repeat}
 use Rattle.regmodel.specs.Program.{Stop}
-use Rattle.regmodel.specs.declared.programs.Stmt.TheVariants as stmt
+use Rattle.regmodel.specs.declared.statements.Stmt.TheVariants as stmt
 use Rattle.reglang.specs.Drafts.{open_with, pushed}
 use Rattle.reglang.proofs.Frames.{frames_pushed}
 use Rattle.reglang.proofs.OneLineMore.{answered, left_repeat}

@@ -2,7 +2,7 @@ use Rattle.std.proofs.Common.{◌≡◌, false, map}
 use Rattle.std.proofs.lemmas.Result.{IfErr-weaker, IfOk-weaker, err_from_is_err_and}
 use Rattle.reglang.specs.Sources.{source_programs}
 use Rattle.explorer.proofs.GrownLists.{last_has}
-use Rattle.cli.proofs.tasks.found_by.Goals as goal
+use Rattle.cli.proofs.first_findings.found_by.Goals as goal
 
 pub returns-in-Check-clause-found : goal.returns-in-Check-clause-found
 returns-in-Check-clause-found g c =

@@ -2,7 +2,7 @@ use Rattle.std.proofs.Common.{map, ◌≡◌, refl}
 use Rattle.explorer.proofs.GrownLists.{All-before}
 use Rattle.cli.specs.Understanding.{resumed_of_all}
 use Rattle.cli.proofs.VerdictsFound.{plain_check, verdict_is}
-use Rattle.cli.proofs.tasks.checked.Goals as goal
+use Rattle.cli.proofs.checks.checked.Goals as goal
 
 pub run_check-requires-clause-understood : goal.run_check-requires-clause-understood
 run_check-requires-clause-understood g c κs within =

@@ -1,8 +1,8 @@
 use Rattle.std.proofs.Common.{◌≡◌, All, length, map, take}
 use Rattle.reglang.specs.Sources.{source_programs}
 use Rattle.cli.specs.Understanding.{resumed_of_all}
-use Rattle.cli.proofs.aims.reached.OwnLists.{own-1}
-use Rattle.cli.proofs.aims.reached.Given as goal
+use Rattle.cli.proofs.attempts.reached.OwnLists.{own-1}
+use Rattle.cli.proofs.attempts.reached.Given as goal
 
 -- each list so far is of the machines of all processes
 abbrev pub invariant-loop-list : goal.invariant-loop-list

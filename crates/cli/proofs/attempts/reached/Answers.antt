@@ -6,8 +6,8 @@ use denote.Param.Object.{read_made}
 use Rattle.reglang.specs.Sources.{source_programs}
 use Rattle.regmodel.proofs.Members.{map-take_push}
 use Rattle.cli.specs.Understanding.{resumed_of_all}
-use Rattle.cli.proofs.aims.reached.OwnLists.{own-1}
-use Rattle.cli.proofs.aims.reached.Goals as goal
+use Rattle.cli.proofs.attempts.reached.OwnLists.{own-1}
+use Rattle.cli.proofs.attempts.reached.Goals as goal
 
 pub loop-p-preserved : goal.loop-p-preserved
 loop-p-preserved g c =
