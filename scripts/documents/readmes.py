@@ -2,8 +2,8 @@
 
 import re
 
-from contracts import EXPORT, public_contracts
-from places import TOP, WORD, crates, root_of, rows, shown
+from functions import exported, public_functions
+from places import TOP, crates, root_of, rows, shown
 
 TYPE = re.compile(r"^pub (?:struct|enum|trait|type|const) (\w+)", re.MULTILINE)
 HEAD = re.compile(r"- (`[^`]+`(?:,\s+`[^`]+`)*):\s")
@@ -16,13 +16,12 @@ MOST_COLUMNS = 110
 def public_items(crate):
     """The public items of a crate, those of a public module as `module::name`, and the functions of a public
     type or trait as `Owner::name`. In a program all modules are open."""
-    root, items, methods = root_of(crate), set(), set()
+    root, methods = root_of(crate), set()
     modules = re.findall(r"^pub mod (\w+);", root.read_text(), re.MULTILINE)
-    for _, listed, single in EXPORT.findall(root.read_text()):
-        items.update(WORD.findall(listed or single))
+    items = set(exported(root.read_text()))
     for source in root.parent.rglob("*.rt"):
         text, module = source.read_text(), source.relative_to(root.parent).with_suffix("").parts[0]
-        functions = [(owner, name) for owner, name, _ in public_contracts(text, None)]
+        functions = [*public_functions(text)]
         methods |= {(owner, name) for owner, name in functions if owner}
         if source == root or root.name == "main.rt" or module in modules:
             within = f"{module}::" if module in modules else ""

@@ -48,6 +48,7 @@ module _ (base slots own registers : ℕ) where
 abbrev pub round_rest : Round Reading → Replies → Pending
 round_rest round = from_round round.slots.base round.slots.count round.slots.own round.slots.registers (suc round.later) round.proposal (cells_of round.seen)
 
+-- the same from a slot that is about to be read on
 abbrev pub reading_rest : Round Reading → Reading → Replies → Pending
 reading_rest round = from_reading round.slots.base round.slots.count round.slots.own round.slots.registers round.later round.proposal round.seen
 
