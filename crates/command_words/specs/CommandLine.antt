@@ -18,12 +18,13 @@ abbrev pub bounds : List Rule
 bounds = any_text (codes "length") ∷ any_text (codes "crashes") ∷ any_text (codes "workers")
     ∷ any_text (codes "cache") ∷ []
 
--- the words of each subcommand
+-- the words of each subcommand: of `check`
 abbrev pub check_words : List Rule
 check_words = several (codes "FILE") ∷ bounds ++ flag (codes "allow-faults")
     ∷ flag (codes "shortest") ∷ flag (codes "outcomes") ∷ flag (codes "text")
     ∷ flag (codes "progress") ∷ []
 
+-- of `explore`
 abbrev pub explore_words : List Rule
 explore_words = needed (codes "FILE") ∷ needed_number (codes "length")
     ∷ needed_number (codes "crashes") ∷ needed_number (codes "workers")
@@ -31,16 +32,20 @@ explore_words = needed (codes "FILE") ∷ needed_number (codes "length")
     ∷ any_text (codes "part") ∷ flag (codes "text") ∷ flag (codes "least")
     ∷ flag (codes "progress") ∷ []
 
+-- of `find`
 abbrev pub find_words : List Rule
 find_words = needed (codes "FILE") ∷ several (codes "PATTERN") ∷ bounds ++ flag (codes "shortest")
     ∷ flag (codes "text") ∷ flag (codes "progress") ∷ []
 
+-- of `merge`
 abbrev pub merge_words : List Rule
 merge_words = needed (codes "FILE") ∷ []
 
+-- of `replay`
 abbrev pub replay_words : List Rule
 replay_words = needed (codes "FILE") ∷ needed (codes "SCHEDULE") ∷ []
 
+-- of `show`
 abbrev pub show_words : List Rule
 show_words = needed (codes "FILE") ∷ needed (codes "SCHEDULE") ∷ flag (codes "all")
     ∷ any_text (codes "width") ∷ []

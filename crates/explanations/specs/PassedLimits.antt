@@ -21,10 +21,11 @@ abbrev pub use_limit : Option Kind → List ℕ
 use_limit (Some kind) = kind_limit kind
 use_limit None = []
 
--- that of a statement, and of a block
+-- that of a statement
 abbrev statement_limit : List ℕ
 statement_limit = codes "a process has at most 200 statements"
 
+-- that of a block
 abbrev block_limit : List ℕ
 block_limit = statement_limit ++ codes ", and 16 blocks may be open at a time"
 

@@ -62,12 +62,13 @@ abbrev pub PartsSay : List Part → List Line → Type 0
 PartsSay [] lines = lines ≡ []
 PartsSay (part ∷ parts) lines = Then (PartSays part) (PartsSay parts) lines
 
--- the processes among parts, and the clauses
+-- the processes among parts
 abbrev pub processes_in : List Part → List Body
 processes_in [] = []
 processes_in (Process body ∷ parts) = body ∷ processes_in parts
 processes_in (Check clause ∷ parts) = processes_in parts
 
+-- the clauses among parts
 abbrev pub clauses_in : List Part → List Clause
 clauses_in [] = []
 clauses_in (Process body ∷ parts) = clauses_in parts
