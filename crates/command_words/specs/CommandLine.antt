@@ -21,8 +21,8 @@ bounds = any_text (codes "length") ∷ any_text (codes "crashes") ∷ any_text (
 -- the words of each subcommand
 abbrev pub check_words : List Rule
 check_words = several (codes "FILE") ∷ bounds ++ flag (codes "allow-faults")
-    ∷ flag (codes "shortest") ∷ flag (codes "outcomes") ∷ flag (codes "text")
-    ∷ flag (codes "progress") ∷ []
+    ∷ flag (codes "shortest") ∷ flag (codes "outcomes") ∷ any_text (codes "width")
+    ∷ flag (codes "text") ∷ flag (codes "progress") ∷ []
 
 abbrev pub explore_words : List Rule
 explore_words = needed (codes "FILE") ∷ needed_number (codes "length")
@@ -33,7 +33,7 @@ explore_words = needed (codes "FILE") ∷ needed_number (codes "length")
 
 abbrev pub find_words : List Rule
 find_words = needed (codes "FILE") ∷ several (codes "PATTERN") ∷ bounds ++ flag (codes "shortest")
-    ∷ flag (codes "text") ∷ flag (codes "progress") ∷ []
+    ∷ any_text (codes "width") ∷ flag (codes "text") ∷ flag (codes "progress") ∷ []
 
 abbrev pub merge_words : List Rule
 merge_words = needed (codes "FILE") ∷ []
