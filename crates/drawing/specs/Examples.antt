@@ -1,5 +1,5 @@
 -- Worked examples: the definitions compute.
-use Rattle.std.specs.Prelude.{◌≡◌, ℕ, true, false, [], ◌∷◌, ◌++◌, refl, Some, codes}
+use Rattle.std.specs.Prelude.{◌≡◌, ℕ, true, false, [], ◌∷◌, ◌++◌, refl, None, Some, codes}
 use Rattle.std.specs.Fmt.{digits}
 use Rattle.regmodel.specs.declared.letters.Letter.TheVariants.{Run, Crash}
 use Rattle.regmodel.specs.declared.outcomes.End.TheVariants as end
@@ -13,6 +13,7 @@ use Rattle.drawing.specs.Cells.{row_text}
 use Rattle.drawing.specs.declared.breadths.Breadth.TheVariants.{Places, Usual, Whole}
 use Rattle.drawing.specs.DrawingText.{drawing_text, left_out_text}
 use Rattle.drawing.specs.Layout.{columns_shown}
+use Rattle.drawing.specs.Names.{name_in, register_names}
 use Rattle.drawing.specs.Pictures.{IsPictureOf, Picture, deed_by}
 use Rattle.drawing.specs.Registers.{all_held}
 
@@ -59,7 +60,7 @@ picture_of_both = record {
   ends = refl;
 }
 
-pub text_of_both : drawing_text Usual both ≡
+pub text_of_both : drawing_text Usual [] both ≡
     codes "step  process 0        process 1           r0\n"
     ++ codes "0                                          0\n"
     ++ codes "1     write 0 5, done                      5*\n"
@@ -67,6 +68,25 @@ pub text_of_both : drawing_text Usual both ≡
     ++ codes "      done             done 5\n"
 unfolding digits
 text_of_both = refl
+
+-- ---- names of registers
+
+-- the first line that names a register counts; two words are no name, nor are more than 16 bytes
+pub turn_is_named : register_names (codes "registers 2\n  # register 1: turn\n# register 1: other\n# register 0: two words\n") 2 ≡ None ∷ Some (codes "turn") ∷ []
+unfolding digits
+turn_is_named = refl
+
+pub seventeen_bytes_are_no_name : name_in (codes "0:") (codes "# register 0: seventeen_letters") ≡ None
+seventeen_bytes_are_no_name = refl
+
+pub text_with_a_name : drawing_text Usual (codes "# register 0: flag\n") both ≡
+    codes "step  process 0           process 1              flag\n"
+    ++ codes "0                                                0\n"
+    ++ codes "1     write flag 5, done                         5*\n"
+    ++ codes "2                         read flag = 5, done 5  5\n"
+    ++ codes "      done                done 5\n"
+unfolding digits
+text_with_a_name = refl
 
 -- ---- a fault
 
@@ -77,9 +97,13 @@ scan_row = record { number = 1; process = 0; deed = deed.Scan 1 2; registers = r
 abbrev faulty : Picture
 faulty = record { start = kept 0 ∷ kept 7 ∷ kept 12 ∷ []; rows = scan_row ∷ []; ends = record { started = true; fate = end.Fault 2 } ∷ [] }
 
-pub a_scan_and_a_fault_are_told : row_text faulty scan_row ≡ codes "scan 1 2 = 7 12, fault 2"
+pub a_scan_and_a_fault_are_told : row_text [] faulty scan_row ≡ codes "scan 1 2 = 7 12, fault 2"
 unfolding digits
 a_scan_and_a_fault_are_told = refl
+
+pub a_scan_from_a_named_register : row_text (None ∷ Some (codes "low") ∷ []) faulty scan_row ≡ codes "scan low .. 2 = 7 12, fault 2"
+unfolding digits
+a_scan_from_a_named_register = refl
 
 -- ---- what is left out
 

@@ -6,6 +6,7 @@ use Rattle.drawing.specs.declared.breadths.Breadth.TheVariants.{Places, Usual, W
 use Rattle.drawing.specs.declared.layout.TheConstants.{NARROW, PARTING, WIDE}
 use Rattle.drawing.specs.Cells.{cell_text}
 use Rattle.drawing.specs.declared.drawings.Row.{Row}
+use Rattle.drawing.specs.Names.{Names}
 use Rattle.drawing.specs.Pictures.{Picture}
 
 -- the greatest of f 0, f 1 and so on, n of them; 0 where there is none
@@ -22,12 +23,12 @@ abbrev pub column_count : Picture → ℕ
 column_count picture = 1 + length picture.ends + length picture.start
 
 -- a column is as wide as its widest text
-abbrev pub width_of : Picture → ℕ → ℕ
-width_of picture column = greatest (λ line. length (cell_text picture line column)) (line_count picture)
+abbrev pub width_of : Names → Picture → ℕ → ℕ
+width_of names picture column = greatest (λ line. length (cell_text names picture line column)) (line_count picture)
 
 -- the width of each column
-abbrev pub widths : Picture → List ℕ
-widths picture = map (width_of picture) (range_with_len 0 (column_count picture))
+abbrev pub widths : Names → Picture → List ℕ
+widths names picture = map (width_of names picture) (range_with_len 0 (column_count picture))
 
 -- how many columns stand in any case: those of the letters' numbers and of the processes
 abbrev pub fixed_columns : Picture → ℕ

@@ -2,5 +2,6 @@ pub mod Cells
 pub mod DrawingText
 pub mod Examples
 pub mod Layout
+pub mod Names
 pub mod Pictures
 pub mod Registers

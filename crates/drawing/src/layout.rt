@@ -6,6 +6,7 @@ ghost use Rattle.drawing.specs.Layout as layout;
 use crate::breadths::Breadth;
 use crate::cells::MOST_COLUMNS;
 use crate::drawings::Drawing;
+use crate::names::Names;
 use arrayvec::ArrayVec;
 
 /// How many spaces part two columns.
@@ -21,25 +22,25 @@ pub(crate) const WIDE: usize = 132;
 pub(crate) type Widths = ArrayVec<u16, MOST_COLUMNS>;
 
 /// How wide the column is: as wide as its widest text.
-fn width_of(drawing: &Drawing, column: u8) -> u16
-    ensures { result ≡ layout.width_of drawing.now column }
+fn width_of(names: &Names<'_>, drawing: &Drawing, column: u8) -> u16
+    ensures { result ≡ layout.width_of names.now drawing.now column }
 {
     let mut width = 0;
     for line in 0..drawing.lines() {
-        let long = drawing.cell(line, column).bytes().len() as u16;
+        let long = drawing.cell(names, line, column).bytes().len() as u16;
         width = width.max(long);
     }
     width
 }
 
 /// How wide each column is.
-pub(crate) fn widths_of(drawing: &Drawing) -> Widths
-    ensures widths { result.items ≡ layout.widths drawing.now }
+pub(crate) fn widths_of(names: &Names<'_>, drawing: &Drawing) -> Widths
+    ensures widths { result.items ≡ layout.widths names.now drawing.now }
     ensures each { length result.items ≡ layout.column_count drawing.now }
 {
     let mut widths = Widths::new();
     for column in 0..drawing.columns() {
-        widths.push(width_of(drawing, column as u8));
+        widths.push(width_of(names, drawing, column as u8));
     }
     widths
 }

@@ -7,6 +7,7 @@ mod deeds;
 mod drawings;
 mod gaps;
 mod layout;
+mod names;
 mod registers;
 mod tables;
 mod writing;

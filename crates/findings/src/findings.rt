@@ -83,8 +83,11 @@ impl Finding {
                 write_standing(&standing.outcome, standing.registers.as_slice(), out)
             }
             Finding::Drawing(drawing) => {
-                let breadth = topic.breadth;
-                let drawn = Drawn { drawing, breadth };
+                let drawn = Drawn {
+                    drawing,
+                    text: topic.text,
+                    breadth: topic.breadth,
+                };
                 write(&(drawn, FaultLine(first_fault(drawing.outcome()))), out)
             }
         }

@@ -104,6 +104,7 @@ impl Text for Failing<'_> {
         };
         let drawing = Drawn {
             drawing: &breach.drawing,
+            text,
             breadth,
         };
         let fails = Fails(self.is_shortest);

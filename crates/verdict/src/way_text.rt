@@ -118,10 +118,14 @@ pub fn write_discovery<W: Write>(
     out: &mut W,
 ) -> Result<(), WriteFault>
     ensures { Wrote W.contents out.old out.new
-        (discovery_text topic.entry.path.now topic.entry.breadth discovery.now is_shortest)
-        result }
+        (discovery_text topic.entry.path.now topic.entry.text.now topic.entry.breadth discovery.now
+        is_shortest) result }
 {
-    let Topic { path, breadth, .. } = topic;
+    let Topic {
+        path,
+        text,
+        breadth,
+    } = topic;
     let sought = discovery.sought;
     match &discovery.way {
         Some(way) => {
@@ -133,6 +137,7 @@ pub fn write_discovery<W: Write>(
             let matched = (matched, NoShorter(is_shortest, sought));
             let drawing = Drawn {
                 drawing: &way.drawing,
+                text,
                 breadth,
             };
             let show = ShowCommand {
