@@ -107,22 +107,31 @@ a_scan_from_a_named_register = refl
 
 -- ---- what is left out
 
--- a writer of 5 to the last of three registers
-abbrev last_of_three : Picture
-last_of_three = record {
-  start = kept 0 ∷ kept 0 ∷ kept 0 ∷ [];
-  rows = record { number = 1; process = 0; deed = deed.Write 2 5; registers = record { items = kept 0 ∷ kept 0 ∷ changed_to 5 ∷ [] } } ∷ [];
+-- a process that reads the last but one of four registers, and writes 5 into the last one
+abbrev read_row : Row
+read_row = record { number = 1; process = 0; deed = deed.Read 2 0; registers = record { items = kept 0 ∷ kept 0 ∷ kept 0 ∷ kept 0 ∷ [] } }
+
+abbrev write_row : Row
+write_row = record { number = 2; process = 0; deed = deed.Write 3 5; registers = record { items = kept 0 ∷ kept 0 ∷ kept 0 ∷ changed_to 5 ∷ [] } }
+
+abbrev last_two : Picture
+last_two = record {
+  start = kept 0 ∷ kept 0 ∷ kept 0 ∷ kept 0 ∷ [];
+  rows = read_row ∷ write_row ∷ [];
   ends = record { started = true; fate = end.Done (record { items = [] }) } ∷ [];
 }
 
--- in columns of width 30 two fit beside the letter's number: that of the process, and that of the register which changes
-pub the_one_that_changes_is_kept : columns_shown last_of_three (30 ∷ 30 ∷ 10 ∷ 30 ∷ 10 ∷ []) Usual ≡ 0 ∷ 1 ∷ 4 ∷ []
-the_one_that_changes_is_kept = refl
+-- in columns of width 30 two fit beside the letter's number: that of the process, and that of the register which is written
+pub the_one_that_is_written_is_kept : columns_shown last_two (10 ∷ 30 ∷ 30 ∷ 30 ∷ 30 ∷ 30 ∷ []) Usual ≡ 0 ∷ 1 ∷ 5 ∷ []
+the_one_that_is_written_is_kept = refl
 
-pub more_are_shown : columns_shown last_of_three (30 ∷ 30 ∷ 10 ∷ 30 ∷ 10 ∷ []) (Places 86) ≡ 0 ∷ 1 ∷ 2 ∷ 4 ∷ []
-more_are_shown = refl
+pub then_the_one_that_is_read : columns_shown last_two (10 ∷ 30 ∷ 30 ∷ 30 ∷ 30 ∷ 30 ∷ []) (Places 106) ≡ 0 ∷ 1 ∷ 4 ∷ 5 ∷ []
+then_the_one_that_is_read = refl
 
-pub all_are_shown : columns_shown last_of_three (30 ∷ 30 ∷ 10 ∷ 30 ∷ 10 ∷ []) Whole ≡ 0 ∷ 1 ∷ 2 ∷ 3 ∷ 4 ∷ []
+pub then_the_leftmost : columns_shown last_two (10 ∷ 30 ∷ 30 ∷ 30 ∷ 30 ∷ 30 ∷ []) (Places 138) ≡ 0 ∷ 1 ∷ 2 ∷ 4 ∷ 5 ∷ []
+then_the_leftmost = refl
+
+pub all_are_shown : columns_shown last_two (10 ∷ 30 ∷ 30 ∷ 30 ∷ 30 ∷ 30 ∷ []) Whole ≡ 0 ∷ 1 ∷ 2 ∷ 3 ∷ 4 ∷ 5 ∷ []
 all_are_shown = refl
 
 pub text_of_two_left_out : left_out_text 2 3 ≡ codes "left out: 2 of 3 registers; regtry show --all draws all\n"

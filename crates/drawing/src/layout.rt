@@ -45,22 +45,6 @@ pub(crate) fn widths_of(names: &Names<'_>, drawing: &Drawing) -> Widths
     widths
 }
 
-/// Whether a column is one of those that are kept first where not all fit: those of the letters' numbers and of the processes, and those of
-/// registers that a letter changes.
-fn is_kept_first(drawing: &Drawing, column: usize) -> bool
-    ensures { result ≡ layout.is_kept_first drawing.now column }
-{
-    let fixed = fixed_columns(drawing);
-    column < fixed || is_changed(drawing, column - fixed)
-}
-
-/// Whether a letter changes a register.
-fn is_changed(drawing: &Drawing, register: usize) -> bool
-    ensures { result ≡ layout.is_changed drawing.now register }
-{
-    drawing.rows().iter().any(|row| row.changes(register))
-}
-
 /// How many columns stand in any case: those of the letters' numbers and of the processes.
 fn fixed_columns(drawing: &Drawing) -> usize
     ensures { result ≡ layout.fixed_columns drawing.now }
@@ -68,36 +52,61 @@ fn fixed_columns(drawing: &Drawing) -> usize
     1 + drawing.outcome().ends().len()
 }
 
-/// How much of a line the first so many columns take, of those that are kept first or of the others, each with what parts it from the next.
-fn room_of(drawing: &Drawing, widths: &Widths, first: bool, columns: usize) -> usize
-    requires { columns ≤ length widths.now.items }
-    ensures value { result ≡ layout.room_of drawing.now widths.now.items first columns }
-    ensures few { result ≤ 65537 * columns }
+/// Whether a letter writes into a register.
+fn is_written(drawing: &Drawing, register: usize) -> bool
+    ensures { result ≡ layout.is_written drawing.now register }
+{
+    drawing.rows().iter().any(|row| row.deed.writes(register))
+}
+
+/// Whether a letter reads a register.
+fn is_read(drawing: &Drawing, register: usize) -> bool
+    ensures { result ≡ layout.is_read drawing.now register }
+{
+    drawing.rows().iter().any(|row| row.deed.reads(register))
+}
+
+/// When a column is kept where not all fit, those of lower rank first: what stands in any case, the
+/// registers that a letter writes, those that a letter reads, and the others.
+fn rank(drawing: &Drawing, column: usize) -> u8
+    ensures { result ≡ layout.rank drawing.now column }
+{
+    let fixed = fixed_columns(drawing);
+    if column < fixed {
+        0
+    } else if is_written(drawing, column - fixed) {
+        1
+    } else if is_read(drawing, column - fixed) {
+        2
+    } else {
+        3
+    }
+}
+
+/// Whether another column is kept no later than a column: it is of a lower rank, or of the same and
+/// no further right.
+fn is_kept_by(drawing: &Drawing, column: usize, other: usize) -> bool
+    ensures { result ≡ layout.is_kept_by drawing.now column other }
+{
+    let (own, its) = (rank(drawing, column), rank(drawing, other));
+    its < own || (its == own && other <= column)
+}
+
+/// Where the line would end with a column and all those that are kept before it.
+fn end_with(drawing: &Drawing, widths: &Widths, column: usize) -> usize
+    ensures { result ≡ layout.end_with drawing.now widths.now.items column }
 {
     let mut room = 0;
-    for column in 0..columns {
-        if is_kept_first(drawing, column) == first {
-            room += usize::from(widths[column]) + PARTING;
+    for other in 0..widths.len() {
+        if is_kept_by(drawing, column, other) {
+            room += usize::from(widths[other]) + PARTING;
         }
     }
     room
 }
 
-/// Where the line would end with a column and all those that are kept before it.
-fn end_with(drawing: &Drawing, widths: &Widths, column: usize) -> usize
-    requires { column < length widths.now.items }
-    ensures { result ≡ layout.end_with drawing.now widths.now.items column }
-{
-    let columns = widths.len();
-    if is_kept_first(drawing, column) {
-        return room_of(drawing, widths, true, column + 1);
-    }
-    room_of(drawing, widths, true, columns) + room_of(drawing, widths, false, column + 1)
-}
-
 /// Whether a column is shown.
 fn is_shown(drawing: &Drawing, widths: &Widths, breadth: Breadth, column: usize) -> bool
-    requires { column < length widths.now.items }
     ensures { result ≡ layout.is_shown drawing.now widths.now.items breadth column }
 {
     if column < fixed_columns(drawing) {
@@ -122,7 +131,7 @@ fn places_for(breadth: Breadth, processes: usize) -> Option<usize>
 }
 
 /// The columns that are shown, rising: all of them, or without registers that do not fit, of which
-/// those that change are kept first.
+/// those that a letter writes are kept first, and then those that a letter reads.
 pub(crate) fn columns_shown(
     drawing: &Drawing,
     widths: &Widths,
