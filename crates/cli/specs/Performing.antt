@@ -1,6 +1,7 @@
 -- What the program does with what was ordered.
 use Rattle.std.specs.Prelude.{◌≡◌, ◌≢◌, ◌⊎◌, ⊤, ℕ, ◌<◌, ◌≤◌, ◌++◌, List, codes, map, None, IsNone, Option, Result, Ok, Err, option_and_then}
 use Rattle.std.specs.List.{FoldsTo}
+use Rattle.drawing.specs.declared.breadths.Breadth.{Breadth}
 use Rattle.texts.specs.Appending.{Writes}
 use Rattle.command_words.specs.declared.TheConstants.{VERSION}
 use Rattle.cli.specs.Answers.{IsAnswered, IsRefusedWith}
@@ -21,20 +22,20 @@ version_text = codes "regtry " ++ VERSION.now ++ codes "\n"
 -- a file is answered, or refused for a reason, with this status; one that could not
 -- be opened is refused
 pub record IsAnsweredOrRefused {W R : Type 0} (contents : W → Option (List ℕ)) (remaining : R → Option (List ℕ)) (fails : R → Refusal → Type 0)
-    (path : List ℕ) (asked : Task) (file : Option R) (old new : W) (status : ℕ) : Type 0 where
+    (path : List ℕ) (asked : Task) (breadth : Breadth) (file : Option R) (old new : W) (status : ℕ) : Type 0 where
   pub no_file : IsNone file → status ≡ 2
-  pub answered : status ≤ 1 → IsAnswered path asked (option_and_then remaining file) (contents old) (contents new) status
-  pub refused : 2 ≤ status → IsRefusedWith contents remaining fails (λ why. ⊤) path asked file old new status
+  pub answered : status ≤ 1 → IsAnswered path asked breadth (option_and_then remaining file) (contents old) (contents new) status
+  pub refused : 2 ≤ status → IsRefusedWith contents remaining fails (λ why. ⊤) path asked breadth file old new status
   pub status_is : status ≤ 3
 
 -- the file of one more path, which is opened so, is answered or refused, and counted; what is
 -- counted stands beside what the writer holds
 pub record IsNext {W R : Type 0} (contents : W → Option (List ℕ)) (remaining : R → Option (List ℕ)) (fails : R → Refusal → Type 0)
-    (opens : List ℕ → Option R → Type 0) (asked : Task) (before : W × FileCounts) (path : List ℕ) (after : W × FileCounts) : Type 0 where
+    (opens : List ℕ → Option R → Type 0) (asked : Task) (breadth : Breadth) (before : W × FileCounts) (path : List ℕ) (after : W × FileCounts) : Type 0 where
   pub file : Option R
   pub opened : opens path file
   pub status : ℕ
-  pub done : IsAnsweredOrRefused contents remaining fails path asked file before.0 after.0 status
+  pub done : IsAnsweredOrRefused contents remaining fails path asked breadth file before.0 after.0 status
   pub counted : after.1 ≡ with_one_more before.1 status
 
 -- of several files it is written how they were answered, and the status is the highest, or 3 where
@@ -50,7 +51,7 @@ pub record AreAnswered {W R : Type 0} (contents : W → Option (List ℕ)) (rema
     (opens : List ℕ → Option R → Type 0) (order : orders.Order) (old new : W) (status : ℕ) : Type 0 where
   pub between : W
   pub counts : FileCounts
-  pub answered : FoldsTo (IsNext contents remaining fails opens order.task) (old, no_counts) (map (λ path. path.now) order.paths.items) (between, counts)
+  pub answered : FoldsTo (IsNext contents remaining fails opens order.task order.breadth) (old, no_counts) (map (λ path. path.now) order.paths.items) (between, counts)
   pub summed : AreSummed contents between new counts status
 
 -- the version is written, and where it is not written whole the status is 3

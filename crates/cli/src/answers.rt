@@ -24,6 +24,7 @@ use std::alloc::Global;
 use std::io::Write;
 use std::sync::Wait;
 use std::thread::Threads;
+use verdict::Topic;
 
 /// Does what is asked of the source in the file, and writes what it found. The status is 0 where
 /// that is done, but 1 where it tells of a schedule that fails or was looked for, unless it is of a
@@ -46,19 +47,20 @@ pub fn answer<H: Threads + Wait + Sync, R: Readable, W: Write, E: Write + Send>(
         → IsReportWritten effort.settings (option_and_then R.remaining (result_ok file))
         (W.contents out.old) (W.contents out.new) result }
     ensures answered { result ≤ 1
-        → IsAnswered question.now.path.now question.now.task.now (option_and_then R.remaining (result_ok file))
-        (W.contents out.old) (W.contents out.new) result }
+        → IsAnswered question.now.path.now question.now.task.now question.now.breadth
+        (option_and_then R.remaining (result_ok file)) (W.contents out.old) (W.contents out.new) result }
     ensures refused { 2 ≤ result
         → IsRefusedWith W.contents R.remaining R.fails
         (λ fault. question.now.progress ≡ false → is_in_words question.now.task.now ≡ true
         → IsTold question.now.path.now (option_and_then R.remaining (result_ok file)) fault
         (E.contents err.old) (E.contents err.new))
-        question.now.path.now question.now.task.now (result_ok file) out.old out.new result }
+        question.now.path.now question.now.task.now question.now.breadth (result_ok file) out.old out.new
+        result }
     ensures silent { result ≡ 2 → out.new ≡ out.old }
     ensures cut_short { result ≡ 3
         → (out.new ≡ out.old)
-        ⊎ IsCutShort question.now.path.now question.now.task.now (option_and_then R.remaining (result_ok file))
-        (W.contents out.old) (W.contents out.new) }
+        ⊎ IsCutShort question.now.path.now question.now.task.now question.now.breadth
+        (option_and_then R.remaining (result_ok file)) (W.contents out.old) (W.contents out.new) }
 {
     let written = match file {
         Ok(file) => written(rt, alloc, question, file, out, err),
@@ -95,11 +97,11 @@ fn written<H: Threads + Wait + Sync, R: Readable, W: Write, E: Write + Send>(
     err: &mut E,
 ) -> Result<bool, AnswerFault>
     ensures answered { IfOk result
-        (λ fails. IsAnswered question.now.path.now question.now.task.now (R.remaining file)
-        (W.contents out.old) (W.contents out.new) (if fails then 1 else 0)) }
+        (λ fails. IsAnswered question.now.path.now question.now.task.now question.now.breadth
+        (R.remaining file) (W.contents out.old) (W.contents out.new) (if fails then 1 else 0)) }
     ensures refused { IfErr result
         (IsUnanswered W.contents R.remaining R.fails question.now.path.now question.now.task.now
-        (Some file) out.old out.new) }
+        question.now.breadth (Some file) out.old out.new) }
     ensures told { IfErr result (λ fault. question.now.progress ≡ false
         → is_in_words question.now.task.now ≡ true
         → IsTold question.now.path.now (R.remaining file) fault (E.contents err.old)
@@ -110,7 +112,12 @@ fn written<H: Threads + Wait + Sync, R: Readable, W: Write, E: Write + Send>(
         Ok(finding) => finding,
         Err(fault) => return Err(explained(question, text.as_slice(), fault, err)),
     };
-    tell(question.path, text.as_slice(), &finding, out)?;
+    let topic = Topic {
+        path: question.path.as_bytes(),
+        text: text.as_slice(),
+        breadth: question.breadth,
+    };
+    tell(topic, &finding, out)?;
     Ok(finding.fails())
 }
 
@@ -154,17 +161,13 @@ fn explained<E: Write>(
     fault
 }
 
-/// Writes what was found of the text in the file of this path, and has the writer pass it on.
-fn tell<W: Write>(
-    path: &str,
-    text: &[u8],
-    finding: &Finding,
-    out: &mut W,
-) -> Result<(), AnswerFault>
+/// Writes what was found of the text in the file of a path, and has the writer pass it on.
+fn tell<W: Write>(topic: Topic<'_>, finding: &Finding, out: &mut W) -> Result<(), AnswerFault>
     ensures { Tells (W.contents out.old) (W.contents out.new)
-        (finding_text path.now text.now finding.now) result }
+        (finding_text topic.entry.path.now topic.entry.text.now topic.entry.breadth finding.now)
+        result }
 {
-    if finding.write(path, text, out).is_err() {
+    if finding.write(topic, out).is_err() {
         return Err(AnswerFault::Write);
     }
     if out.flush().is_err() {

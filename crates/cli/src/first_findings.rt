@@ -14,7 +14,6 @@ use crate::faults::AnswerFault;
 use crate::runs::{Run, last_of};
 use crate::searches::discovered;
 use crate::standings::{drawing_of, standing_after};
-use drawing::Breadth;
 use explorer::Gate;
 use findings::Finding;
 use machine::Machine;
@@ -63,7 +62,7 @@ pub fn found_by<H: Threads + Wait + Sync, G: Gate>(
                 Err(refused) => Err(AnswerFault::Letter(refused)),
             }
         }
-        Task::Show { schedule, breadth } => { shown(run, last_of(&mut lists), schedule, *breadth) }
+        Task::Show { schedule } => shown(run, last_of(&mut lists), schedule),
     }
 }
 
@@ -75,14 +74,13 @@ fn shown<H, G>(
     run: &Run<'_, H, G>,
     own: Vec<Box<dyn Machine + Send>>,
     schedule: &Prefix,
-    breadth: Breadth,
 ) -> Result<Finding, AnswerFault>
     requires { map program own.items ≡ source_programs run.now.spelling.source.now }
-    ensures { Finds (asked.Show schedule.now breadth) run.now.spelling.text.now result }
+    ensures { Finds (asked.Show schedule.now) run.now.spelling.text.now result }
 {
     run.spelling.spells();
     match drawing_of(run.spelling.source, own, schedule) {
-        Ok(drawing) => Ok(Finding::Drawing(Box::new(run.alloc, drawing)?, breadth)),
+        Ok(drawing) => Ok(Finding::Drawing(Box::new(run.alloc, drawing)?)),
         Err(refused) => Err(AnswerFault::Letter(refused)),
     }
 }

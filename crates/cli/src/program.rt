@@ -83,7 +83,8 @@ fn answers_of<H: Threads + Wait + Sync, O: Opener, W: Write, E: Write + Send>(
     err: &mut E,
 ) -> FileCounts
     ensures { FoldsTo
-        (IsNext W.contents O.Reader.remaining O.Reader.fails (O.opens opener.now) order.now.task)
+        (IsNext W.contents O.Reader.remaining O.Reader.fails (O.opens opener.now) order.now.task
+        order.now.breadth)
         (out.old, no_counts) (map (λ path. path.now) order.now.paths.items) (out.new, result) }
 {
     let mut counts = FileCounts::none();
@@ -91,6 +92,7 @@ fn answers_of<H: Threads + Wait + Sync, O: Opener, W: Write, E: Write + Send>(
         let question = Question {
             path,
             task: &order.task,
+            breadth: order.breadth,
             progress: order.progress,
         };
         let status = answer(rt, alloc, &question, opener.open(path), out, err);

@@ -21,8 +21,8 @@ bounds = any_text (codes "length") ∷ any_text (codes "crashes") ∷ any_text (
 -- the words of each subcommand: of `check`
 abbrev pub check_words : List Rule
 check_words = several (codes "FILE") ∷ bounds ++ flag (codes "allow-faults")
-    ∷ flag (codes "shortest") ∷ flag (codes "outcomes") ∷ flag (codes "text")
-    ∷ flag (codes "progress") ∷ []
+    ∷ flag (codes "shortest") ∷ flag (codes "outcomes") ∷ any_text (codes "width")
+    ∷ flag (codes "text") ∷ flag (codes "progress") ∷ []
 
 -- of `explore`
 abbrev pub explore_words : List Rule
@@ -35,7 +35,7 @@ explore_words = needed (codes "FILE") ∷ needed_number (codes "length")
 -- of `find`
 abbrev pub find_words : List Rule
 find_words = needed (codes "FILE") ∷ several (codes "PATTERN") ∷ bounds ++ flag (codes "shortest")
-    ∷ flag (codes "text") ∷ flag (codes "progress") ∷ []
+    ∷ any_text (codes "width") ∷ flag (codes "text") ∷ flag (codes "progress") ∷ []
 
 -- of `merge`
 abbrev pub merge_words : List Rule
@@ -48,7 +48,7 @@ replay_words = needed (codes "FILE") ∷ needed (codes "SCHEDULE") ∷ []
 -- of `show`
 abbrev pub show_words : List Rule
 show_words = needed (codes "FILE") ∷ needed (codes "SCHEDULE") ∷ flag (codes "all")
-    ∷ any_text (codes "width") ∷ []
+    ∷ any_text (codes "registers") ∷ any_text (codes "width") ∷ []
 
 -- the subcommands, by their names
 abbrev pub subcommands : List Shape

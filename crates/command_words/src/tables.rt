@@ -100,6 +100,7 @@ const CHECK: &[Word] = &[
         kind: Kind::Flag,
         help: "Print all outcomes as well, as explore does",
     },
+    WIDTH,
     TEXT,
     PROGRESS,
 ];
@@ -168,6 +169,7 @@ const FIND: &[Word] = &[
         kind: Kind::Flag,
         help: "Tell the least of the shortest schedules that lead there, in place of the least of all: lengths are tried from 0 on, up to --length",
     },
+    WIDTH,
     TEXT,
     PROGRESS,
 ];
@@ -192,10 +194,11 @@ const SHOW: &[Word] = &[
         help: "Draw all registers, however long the lines become",
     },
     Word {
-        name: "width",
-        kind: Kind::Text("N"),
-        help: "How long a line may become, as far as leaving out registers helps: 1 to 65536 [default: 80 for up to two processes, else 132]",
+        name: "registers",
+        kind: Kind::Text("LIST"),
+        help: "Draw these registers alone, however long the lines become: numbers from 0 to 63 and ranges of them, as 0,3-5",
     },
+    WIDTH,
 ];
 
 /// What the help says of a source.
@@ -242,6 +245,13 @@ const CACHE: Word = Word {
     name: "cache",
     kind: Kind::Text("MB"),
     help: "In how many megabytes states are remembered, as by explore: 0 to 65536 [default: 128]",
+};
+
+/// How broad a drawing may be, for a check, a search and a drawing.
+const WIDTH: Word = Word {
+    name: "width",
+    kind: Kind::Text("N"),
+    help: "How long a line of a drawing may become, as far as leaving out registers helps: 1 to 65536 [default: 80 for up to two processes, else 132]",
 };
 
 /// The flag that asks for interpreters.

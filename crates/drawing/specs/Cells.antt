@@ -1,7 +1,7 @@
 -- The texts of a drawing, cell by cell: lines from 0, the header, the start, a line a letter, the ends; columns from 0, the letters'
 -- numbers, a column a process, a column a register.
-use Rattle.std.specs.Prelude.{ℕ, zero, suc, ◌+◌, ◌-◌, ◌==◌, ◌&&◌, Bool, true, false, not, List, [], ◌++◌, length, Option, Some, None}
-use Rattle.std.specs.Prelude.{codes, decimal, if◌then◌else◌, nat_le, nat_lt, slice_get}
+use Rattle.std.specs.Prelude.{ℕ, zero, suc, ◌+◌, ◌-◌, ◌==◌, ◌&&◌, ◌||◌, Bool, true, false, not, List, [], ◌++◌, length, Option, Some, None}
+use Rattle.std.specs.Prelude.{codes, decimal, if◌then◌else◌, is_some, nat_le, nat_lt, slice_get}
 use Rattle.std.specs.List.{list_any}
 use Rattle.texts.specs.OutcomeText.{end_text, fate_text}
 use Rattle.regmodel.specs.declared.outcomes.End as fates
@@ -13,6 +13,7 @@ use Rattle.drawing.specs.declared.drawings.Deed.{Deed}
 use Rattle.drawing.specs.declared.drawings.Deed.TheVariants.{Read, Write, Scan, Crash}
 use Rattle.drawing.specs.declared.drawings.Held.{Held}
 use Rattle.drawing.specs.declared.drawings.Row.{Row}
+use Rattle.drawing.specs.Names.{Names, name_at}
 use Rattle.drawing.specs.Pictures.{Picture}
 
 -- the texts f 0, f 1 and so on, n of them, one after another
@@ -41,13 +42,31 @@ found_text registers first count r = if nat_le first r && nat_lt r (first + coun
 abbrev pub scanned_text : List Held → ℕ → ℕ → List ℕ
 scanned_text registers first count = joined (found_text registers first count) (length registers)
 
+-- the name of a register, or else this
+abbrev pub name_or : Names → ℕ → List ℕ → List ℕ
+name_or names r other = elim (name_at names r) [ Some name ↦ name | None ↦ other ]
+
+-- a register in what a letter did: its name, or else its number
+abbrev pub place_text : Names → ℕ → List ℕ
+place_text names r = name_or names r (decimal r)
+
+-- whether a register has a name
+abbrev pub is_named : Names → ℕ → Bool
+is_named names r = is_some (name_at names r)
+
+-- the registers of a scan: the first one, and how many they are; or the first and the last one, where one of these has a name
+abbrev pub span_text : Names → ℕ → ℕ → List ℕ
+span_text names first count =
+    if is_named names first || is_named names (first + count - 1)
+    then place_text names first ++ codes " .. " ++ place_text names (first + count - 1)
+    else decimal first ++ codes " " ++ decimal count
+
 -- what a letter did, after which registers hold this
-abbrev pub deed_text : List Held → Deed → List ℕ
-deed_text registers (Read r v) = codes "read " ++ decimal r ++ codes " = " ++ decimal v
-deed_text registers (Write r v) = codes "write " ++ decimal r ++ codes " " ++ decimal v
-deed_text registers (Scan first count) =
-    codes "scan " ++ decimal first ++ codes " " ++ decimal count ++ codes " =" ++ scanned_text registers first count
-deed_text registers Crash = codes "crash"
+abbrev pub deed_text : Names → List Held → Deed → List ℕ
+deed_text names registers (Read r v) = codes "read " ++ place_text names r ++ codes " = " ++ decimal v
+deed_text names registers (Write r v) = codes "write " ++ place_text names r ++ codes " " ++ decimal v
+deed_text names registers (Scan first count) = codes "scan " ++ span_text names first count ++ codes " =" ++ scanned_text registers first count
+deed_text names registers Crash = codes "crash"
 
 -- whether a process has come to its end by itself
 abbrev pub is_over : fates.End → Bool
@@ -69,9 +88,9 @@ abbrev pub is_last : List Row → Row → Bool
 is_last rows row = not (list_any (is_later row.number row.process) rows)
 
 -- what a row's letter did, and where it is the last one of its process, how that came to its end
-abbrev pub row_text : Picture → Row → List ℕ
-row_text picture row =
-    deed_text row.registers.items row.deed ++ (if is_last picture.rows row then text_at ending_text (slice_get picture.ends row.process) else [])
+abbrev pub row_text : Names → Picture → Row → List ℕ
+row_text names picture row =
+    deed_text names row.registers.items row.deed ++ (if is_last picture.rows row then text_at ending_text (slice_get picture.ends row.process) else [])
 
 -- what a line is: the header, the start, one letter's row, or the ends
 pub data Line : Type 0 where
@@ -105,26 +124,26 @@ number_cell (Letter row) = decimal row.number
 number_cell End = []
 
 -- a line in the column of process p: what the letter did, where it is one of p, and by its last one how p came to its end; then how p stands
-abbrev pub process_cell : Picture → ℕ → Line → List ℕ
-process_cell picture p Head = codes "process " ++ decimal p
-process_cell picture p Start = []
-process_cell picture p (Letter row) = if row.process == p then row_text picture row else []
-process_cell picture p End = text_at end_text (slice_get picture.ends p)
+abbrev pub process_cell : Names → Picture → ℕ → Line → List ℕ
+process_cell names picture p Head = codes "process " ++ decimal p
+process_cell names picture p Start = []
+process_cell names picture p (Letter row) = if row.process == p then row_text names picture row else []
+process_cell names picture p End = text_at end_text (slice_get picture.ends p)
 
--- a line in the column of register r
-abbrev pub register_cell : List Held → ℕ → Line → List ℕ
-register_cell start r Head = codes "r" ++ decimal r
-register_cell start r Start = text_at held_text (slice_get start r)
-register_cell start r (Letter row) = text_at held_text (slice_get row.registers.items r)
-register_cell start r End = []
+-- a line in the column of register r: its name, or else `r` and its number; then what it holds
+abbrev pub register_cell : Names → List Held → ℕ → Line → List ℕ
+register_cell names start r Head = name_or names r (codes "r" ++ decimal r)
+register_cell names start r Start = text_at held_text (slice_get start r)
+register_cell names start r (Letter row) = text_at held_text (slice_get row.registers.items r)
+register_cell names start r End = []
 
 -- the text of a line in a column
-abbrev pub line_cell : Picture → Line → ℕ → List ℕ
-line_cell picture line column =
+abbrev pub line_cell : Names → Picture → Line → ℕ → List ℕ
+line_cell names picture line column =
     if column == 0 then number_cell line else
-    (if nat_le column (length picture.ends) then process_cell picture (column - 1) line
-    else register_cell picture.start (column - 1 - length picture.ends) line)
+    (if nat_le column (length picture.ends) then process_cell names picture (column - 1) line
+    else register_cell names picture.start (column - 1 - length picture.ends) line)
 
 -- the text at a line and a column
-abbrev pub cell_text : Picture → ℕ → ℕ → List ℕ
-cell_text picture line column = line_cell picture (line_at picture line) column
+abbrev pub cell_text : Names → Picture → ℕ → ℕ → List ℕ
+cell_text names picture line column = line_cell names picture (line_at picture line) column

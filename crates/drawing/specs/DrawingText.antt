@@ -4,6 +4,7 @@ use Rattle.drawing.specs.declared.breadths.Breadth.{Breadth}
 use Rattle.drawing.specs.declared.layout.TheConstants.{PARTING}
 use Rattle.drawing.specs.Cells.{cell_text, joined}
 use Rattle.drawing.specs.Layout.{columns_shown, line_count, widths}
+use Rattle.drawing.specs.Names.{Names, register_names}
 use Rattle.drawing.specs.Pictures.{Picture}
 
 -- so many spaces
@@ -37,21 +38,25 @@ abbrev pub width_at : List ℕ → List ℕ → ℕ → ℕ
 width_at wide columns place = get_or wide (get_or columns place 0) 0
 
 -- the text of a line in the column at a place
-abbrev pub text_at : Picture → List ℕ → ℕ → ℕ → List ℕ
-text_at picture columns line place = cell_text picture line (get_or columns place 0)
+abbrev pub text_at : Names → Picture → List ℕ → ℕ → ℕ → List ℕ
+text_at names picture columns line place = cell_text names picture line (get_or columns place 0)
 
 -- a line of a drawing in these columns, each of its width
-abbrev pub table_line : Picture → List ℕ → List ℕ → ℕ → List ℕ
-table_line picture wide columns line = line_text (width_at wide columns) (text_at picture columns line) (length columns)
+abbrev pub table_line : Names → Picture → List ℕ → List ℕ → ℕ → List ℕ
+table_line names picture wide columns line = line_text (width_at wide columns) (text_at names picture columns line) (length columns)
 
 -- its lines
-abbrev pub table_lines : Picture → List ℕ → List ℕ → List ℕ
-table_lines picture wide columns = joined (table_line picture wide columns) (line_count picture)
+abbrev pub table_lines : Names → Picture → List ℕ → List ℕ → List ℕ
+table_lines names picture wide columns = joined (table_line names picture wide columns) (line_count picture)
 
 -- its text: the lines, and how many registers are left out
-abbrev pub table_text : Picture → List ℕ → List ℕ → List ℕ
-table_text picture wide columns = table_lines picture wide columns ++ left_out_text (length wide - length columns) (length picture.start)
+abbrev pub table_text : Names → Picture → List ℕ → List ℕ → List ℕ
+table_text names picture wide columns = table_lines names picture wide columns ++ left_out_text (length wide - length columns) (length picture.start)
 
--- the text of a drawing that may be so broad
-abbrev pub drawing_text : Breadth → Picture → List ℕ
-drawing_text breadth picture = table_text picture (widths picture) (columns_shown picture (widths picture) breadth)
+-- the text of a drawing that may be so broad, with these names of registers
+abbrev pub named_text : Breadth → Names → Picture → List ℕ
+named_text breadth names picture = table_text names picture (widths names picture) (columns_shown picture (widths names picture) breadth)
+
+-- the same with the names that the text of a source gives them
+abbrev pub drawing_text : Breadth → List ℕ → Picture → List ℕ
+drawing_text breadth text picture = named_text breadth (register_names text (length picture.start)) picture

@@ -1,5 +1,5 @@
 -- Worked examples: the definitions compute.
-use Rattle.std.specs.Prelude.{◌≡◌, ℕ, true, false, [], ◌∷◌, ◌++◌, refl, Some, codes}
+use Rattle.std.specs.Prelude.{◌≡◌, ℕ, true, false, [], ◌∷◌, ◌++◌, map, refl, None, Some, codes}
 use Rattle.std.specs.Fmt.{digits}
 use Rattle.regmodel.specs.declared.letters.Letter.TheVariants.{Run, Crash}
 use Rattle.regmodel.specs.declared.outcomes.End.TheVariants as end
@@ -10,9 +10,11 @@ use Rattle.drawing.specs.declared.drawings.Deed.TheVariants as deed
 use Rattle.drawing.specs.declared.drawings.Held.{Held}
 use Rattle.drawing.specs.declared.drawings.Row.{Row}
 use Rattle.drawing.specs.Cells.{row_text}
+use Rattle.drawing.specs.Choices.{is_told, tells_registers}
 use Rattle.drawing.specs.declared.breadths.Breadth.TheVariants.{Places, Usual, Whole}
 use Rattle.drawing.specs.DrawingText.{drawing_text, left_out_text}
 use Rattle.drawing.specs.Layout.{columns_shown}
+use Rattle.drawing.specs.Names.{name_in, register_names}
 use Rattle.drawing.specs.Pictures.{IsPictureOf, Picture, deed_by}
 use Rattle.drawing.specs.Registers.{all_held}
 
@@ -59,7 +61,7 @@ picture_of_both = record {
   ends = refl;
 }
 
-pub text_of_both : drawing_text Usual both ≡
+pub text_of_both : drawing_text Usual [] both ≡
     codes "step  process 0        process 1           r0\n"
     ++ codes "0                                          0\n"
     ++ codes "1     write 0 5, done                      5*\n"
@@ -67,6 +69,25 @@ pub text_of_both : drawing_text Usual both ≡
     ++ codes "      done             done 5\n"
 unfolding digits
 text_of_both = refl
+
+-- ---- names of registers
+
+-- the first line that names a register counts; two words are no name, nor are more than 16 bytes
+pub turn_is_named : register_names (codes "registers 2\n  # register 1: turn\n# register 1: other\n# register 0: two words\n") 2 ≡ None ∷ Some (codes "turn") ∷ []
+unfolding digits
+turn_is_named = refl
+
+pub seventeen_bytes_are_no_name : name_in (codes "0:") (codes "# register 0: seventeen_letters") ≡ None
+seventeen_bytes_are_no_name = refl
+
+pub text_with_a_name : drawing_text Usual (codes "# register 0: flag\n") both ≡
+    codes "step  process 0           process 1              flag\n"
+    ++ codes "0                                                0\n"
+    ++ codes "1     write flag 5, done                         5*\n"
+    ++ codes "2                         read flag = 5, done 5  5\n"
+    ++ codes "      done                done 5\n"
+unfolding digits
+text_with_a_name = refl
 
 -- ---- a fault
 
@@ -77,29 +98,52 @@ scan_row = record { number = 1; process = 0; deed = deed.Scan 1 2; registers = r
 abbrev faulty : Picture
 faulty = record { start = kept 0 ∷ kept 7 ∷ kept 12 ∷ []; rows = scan_row ∷ []; ends = record { started = true; fate = end.Fault 2 } ∷ [] }
 
-pub a_scan_and_a_fault_are_told : row_text faulty scan_row ≡ codes "scan 1 2 = 7 12, fault 2"
+pub a_scan_and_a_fault_are_told : row_text [] faulty scan_row ≡ codes "scan 1 2 = 7 12, fault 2"
 unfolding digits
 a_scan_and_a_fault_are_told = refl
 
+pub a_scan_from_a_named_register : row_text (None ∷ Some (codes "low") ∷ []) faulty scan_row ≡ codes "scan low .. 2 = 7 12, fault 2"
+unfolding digits
+a_scan_from_a_named_register = refl
+
 -- ---- what is left out
 
--- a writer of 5 to the last of three registers
-abbrev last_of_three : Picture
-last_of_three = record {
-  start = kept 0 ∷ kept 0 ∷ kept 0 ∷ [];
-  rows = record { number = 1; process = 0; deed = deed.Write 2 5; registers = record { items = kept 0 ∷ kept 0 ∷ changed_to 5 ∷ [] } } ∷ [];
+-- a process that reads the last but one of four registers, and writes 5 into the last one
+abbrev read_row : Row
+read_row = record { number = 1; process = 0; deed = deed.Read 2 0; registers = record { items = kept 0 ∷ kept 0 ∷ kept 0 ∷ kept 0 ∷ [] } }
+
+abbrev write_row : Row
+write_row = record { number = 2; process = 0; deed = deed.Write 3 5; registers = record { items = kept 0 ∷ kept 0 ∷ kept 0 ∷ changed_to 5 ∷ [] } }
+
+abbrev last_two : Picture
+last_two = record {
+  start = kept 0 ∷ kept 0 ∷ kept 0 ∷ kept 0 ∷ [];
+  rows = read_row ∷ write_row ∷ [];
   ends = record { started = true; fate = end.Done (record { items = [] }) } ∷ [];
 }
 
--- in columns of width 30 two fit beside the letter's number: that of the process, and that of the register which changes
-pub the_one_that_changes_is_kept : columns_shown last_of_three (30 ∷ 30 ∷ 10 ∷ 30 ∷ 10 ∷ []) Usual ≡ 0 ∷ 1 ∷ 4 ∷ []
-the_one_that_changes_is_kept = refl
+-- in columns of width 30 two fit beside the letter's number: that of the process, and that of the register which is written
+pub the_one_that_is_written_is_kept : columns_shown last_two (10 ∷ 30 ∷ 30 ∷ 30 ∷ 30 ∷ 30 ∷ []) Usual ≡ 0 ∷ 1 ∷ 5 ∷ []
+the_one_that_is_written_is_kept = refl
 
-pub more_are_shown : columns_shown last_of_three (30 ∷ 30 ∷ 10 ∷ 30 ∷ 10 ∷ []) (Places 86) ≡ 0 ∷ 1 ∷ 2 ∷ 4 ∷ []
-more_are_shown = refl
+pub then_the_one_that_is_read : columns_shown last_two (10 ∷ 30 ∷ 30 ∷ 30 ∷ 30 ∷ 30 ∷ []) (Places 106) ≡ 0 ∷ 1 ∷ 4 ∷ 5 ∷ []
+then_the_one_that_is_read = refl
 
-pub all_are_shown : columns_shown last_of_three (30 ∷ 30 ∷ 10 ∷ 30 ∷ 10 ∷ []) Whole ≡ 0 ∷ 1 ∷ 2 ∷ 3 ∷ 4 ∷ []
+pub then_the_leftmost : columns_shown last_two (10 ∷ 30 ∷ 30 ∷ 30 ∷ 30 ∷ 30 ∷ []) (Places 138) ≡ 0 ∷ 1 ∷ 2 ∷ 4 ∷ 5 ∷ []
+then_the_leftmost = refl
+
+pub all_are_shown : columns_shown last_two (10 ∷ 30 ∷ 30 ∷ 30 ∷ 30 ∷ 30 ∷ []) Whole ≡ 0 ∷ 1 ∷ 2 ∷ 3 ∷ 4 ∷ 5 ∷ []
 all_are_shown = refl
+
+-- ---- registers that a text tells
+
+pub one_and_three_to_five : map (is_told (codes "1,3-5")) (0 ∷ 1 ∷ 2 ∷ 3 ∷ 5 ∷ 6 ∷ []) ≡ false ∷ true ∷ false ∷ true ∷ true ∷ false ∷ []
+one_and_three_to_five = refl
+
+pub which_tell_registers : map tells_registers (codes "0,63" ∷ codes "5-5" ∷ codes "5-4" ∷ codes "64" ∷ codes "0,,1" ∷ codes "01" ∷ [] ∷ []) ≡ true ∷ true ∷ false ∷ false ∷ false ∷ false ∷ false ∷ []
+which_tell_registers = refl
+
+-- ---- how many are left out
 
 pub text_of_two_left_out : left_out_text 2 3 ≡ codes "left out: 2 of 3 registers; regtry show --all draws all\n"
 unfolding digits

@@ -1,11 +1,14 @@
 -- How wide the columns of a drawing are, and how many are shown.
-use Rattle.std.specs.Prelude.{ℕ, zero, suc, ◌+◌, ◌-◌, Bool, true, false, ◌||◌, not, List, filter, length, map, max, nat_le, nat_lt, Option, Some, None, if◌then◌else◌, get_or, slice_get}
+use Rattle.std.specs.Prelude.{ℕ, zero, suc, ◌+◌, ◌-◌, ◌==◌, Bool, true, false, ◌&&◌, ◌||◌, List, filter, length, map, max, nat_le, nat_lt, if◌then◌else◌, get_or}
 use Rattle.std.specs.List.{list_any, range_with_len}
 use Rattle.drawing.specs.declared.breadths.Breadth.{Breadth}
-use Rattle.drawing.specs.declared.breadths.Breadth.TheVariants.{Places, Usual, Whole}
+use Rattle.drawing.specs.declared.breadths.Breadth.TheVariants.{Chosen, Places, Usual, Whole}
 use Rattle.drawing.specs.declared.layout.TheConstants.{NARROW, PARTING, WIDE}
 use Rattle.drawing.specs.Cells.{cell_text}
-use Rattle.drawing.specs.declared.drawings.Row.{Row}
+use Rattle.drawing.specs.Choices.{is_told}
+use Rattle.drawing.specs.declared.drawings.Deed.{Deed}
+use Rattle.drawing.specs.declared.drawings.Deed.TheVariants.{Read, Write, Scan, Crash}
+use Rattle.drawing.specs.Names.{Names}
 use Rattle.drawing.specs.Pictures.{Picture}
 
 -- the greatest of f 0, f 1 and so on, n of them; 0 where there is none
@@ -22,59 +25,79 @@ abbrev pub column_count : Picture → ℕ
 column_count picture = 1 + length picture.ends + length picture.start
 
 -- a column is as wide as its widest text
-abbrev pub width_of : Picture → ℕ → ℕ
-width_of picture column = greatest (λ line. length (cell_text picture line column)) (line_count picture)
+abbrev pub width_of : Names → Picture → ℕ → ℕ
+width_of names picture column = greatest (λ line. length (cell_text names picture line column)) (line_count picture)
 
 -- the width of each column
-abbrev pub widths : Picture → List ℕ
-widths picture = map (width_of picture) (range_with_len 0 (column_count picture))
+abbrev pub widths : Names → Picture → List ℕ
+widths names picture = map (width_of names picture) (range_with_len 0 (column_count picture))
 
 -- how many columns stand in any case: those of the letters' numbers and of the processes
 abbrev pub fixed_columns : Picture → ℕ
 fixed_columns picture = 1 + length picture.ends
 
--- whether a row's letter changes a register
-abbrev pub changes : ℕ → Row → Bool
-changes register row = elim (slice_get row.registers.items register) [ Some held ↦ held.changed | None ↦ false ]
+-- whether a letter that did this wrote into a register
+abbrev pub writes : ℕ → Deed → Bool
+writes register (Read r v) = false
+writes register (Write r v) = r == register
+writes register (Scan first count) = false
+writes register Crash = false
 
--- whether a letter changes a register
-abbrev pub is_changed : Picture → ℕ → Bool
-is_changed picture register = list_any (changes register) picture.rows
+-- whether it read a register
+abbrev pub reads : ℕ → Deed → Bool
+reads register (Read r v) = r == register
+reads register (Write r v) = false
+reads register (Scan first count) = nat_le first register && nat_lt register (first + count)
+reads register Crash = false
 
--- the columns that are kept first where not all fit: those that stand in any case, and those of registers that change
-abbrev pub is_kept_first : Picture → ℕ → Bool
-is_kept_first picture column = nat_lt column (fixed_columns picture) || is_changed picture (column - fixed_columns picture)
+-- whether a letter writes into a register, or reads it
+abbrev pub is_written : Picture → ℕ → Bool
+is_written picture register = list_any (λ row. writes register row.deed) picture.rows
 
--- whether a column is one of those, or one of the others
-abbrev pub is_of : Picture → Bool → ℕ → Bool
-is_of picture first column = if is_kept_first picture column then first else not first
+abbrev pub is_read : Picture → ℕ → Bool
+is_read picture register = list_any (λ row. reads register row.deed) picture.rows
 
--- how much of a line the first so many columns take, of those that are kept first or of the others, each with what parts it from the next
-abbrev pub room_of : Picture → List ℕ → Bool → ℕ → ℕ
-room_of picture wide first zero = 0
-room_of picture wide first (suc n) = room_of picture wide first n + (if is_of picture first n then get_or wide n 0 + PARTING else 0)
+-- which registers are kept before others where not all fit: those that a letter writes, then those that a letter reads
+abbrev pub register_rank : Picture → ℕ → ℕ
+register_rank picture register = if is_written picture register then 1 else (if is_read picture register then 2 else 3)
 
--- where the line would end with a column and all those that are kept before it: of its own kind those to its left, and all that are kept first
+-- the same of columns; those that stand in any case come before all registers
+abbrev pub rank : Picture → ℕ → ℕ
+rank picture column = if nat_lt column (fixed_columns picture) then 0 else register_rank picture (column - fixed_columns picture)
+
+-- whether another column is kept no later than a column: it is of a lower rank, or of the same and no further right
+abbrev pub is_kept_by : Picture → ℕ → ℕ → Bool
+is_kept_by picture column other =
+    nat_lt (rank picture other) (rank picture column) || (rank picture other == rank picture column && nat_le other column)
+
+-- how much of a line those of the first so many columns take that are kept no later than this one, each with what parts it from the next
+abbrev pub room_of : Picture → List ℕ → ℕ → ℕ → ℕ
+room_of picture wide column zero = 0
+room_of picture wide column (suc n) =
+    room_of picture wide column n + (if is_kept_by picture column n then get_or wide n 0 + PARTING else 0)
+
+-- where the line would end with a column and all those that are kept before it
 abbrev pub end_with : Picture → List ℕ → ℕ → ℕ
-end_with picture wide column =
-    if is_kept_first picture column then room_of picture wide true (column + 1)
-    else room_of picture wide true (length wide) + room_of picture wide false (column + 1)
+end_with picture wide column = room_of picture wide column (length wide)
 
--- how long a line may be where there are so many processes; where it may be whole, of any length
-abbrev pub places_for : Breadth → ℕ → Option ℕ
-places_for Usual processes = Some (if nat_le processes 2 then NARROW else WIDE)
-places_for (Places places) processes = Some places
-places_for Whole processes = None
+-- how long a line may be where there are so many processes
+abbrev pub usual_places : ℕ → ℕ
+usual_places processes = if nat_le processes 2 then NARROW else WIDE
 
--- whether a line has room for a column and those that are kept before it
-abbrev pub has_room : Picture → List ℕ → ℕ → Option ℕ → Bool
-has_room picture wide column (Some places) = nat_le (end_with picture wide column) (places + PARTING)
-has_room picture wide column None = true
+-- whether a line of so many places has room for a column and those that are kept before it
+abbrev pub has_room : Picture → List ℕ → ℕ → ℕ → Bool
+has_room picture wide column places = nat_le (end_with picture wide column) (places + PARTING)
 
--- whether a column is shown: it stands in any case, or there is room for it
+-- whether the column of a register is shown: there is room for it, or all are shown, or just this one and others are asked for
+abbrev pub is_asked : Picture → List ℕ → ℕ → Breadth → Bool
+is_asked picture wide column Usual = has_room picture wide column (usual_places (length picture.ends))
+is_asked picture wide column (Places places) = has_room picture wide column places
+is_asked picture wide column Whole = true
+is_asked picture wide column (Chosen text) = is_told text.now (column - fixed_columns picture)
+
+-- whether a column is shown: it stands in any case, or is that of a register which is asked for
 abbrev pub is_shown : Picture → List ℕ → Breadth → ℕ → Bool
-is_shown picture wide breadth column =
-    nat_lt column (fixed_columns picture) || has_room picture wide column (places_for breadth (length picture.ends))
+is_shown picture wide breadth column = nat_lt column (fixed_columns picture) || is_asked picture wide column breadth
 
 -- the columns that are shown
 abbrev pub columns_shown : Picture → List ℕ → Breadth → List ℕ

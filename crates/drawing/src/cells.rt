@@ -7,14 +7,15 @@ ghost use Rattle.drawing.specs.Cells as texts;
 ghost use Rattle.drawing.specs.Layout.{column_count, line_count};
 
 use crate::drawings::{Deed, Drawing, Held, Row};
+use crate::names::{MOST_NAME_BYTES, Names};
 use arrayvec::ArrayVec;
 use itoa::Buffer;
 use regmodel::{End, ProcEnd};
 use std::marker::Model;
 
-/// The most bytes of a cell: those of a scan of 64 numbers of ten digits, by which its process is
-/// done with eight of them.
-pub(crate) const MOST_CELL_BYTES: usize = 832;
+/// The most bytes of a cell: those of a scan of 64 numbers of ten digits from a register with a name
+/// to another one, by which its process is done with eight of them.
+pub(crate) const MOST_CELL_BYTES: usize = 848;
 
 /// The most bytes of a number.
 const MOST_DIGITS: usize = 10;
@@ -54,7 +55,7 @@ impl Cell {
     }
 
     /// The same with these bytes last.
-    fn with(self, bytes: &[u8]) -> Cell
+    pub(crate) fn with(self, bytes: &[u8]) -> Cell
         requires { length self + length bytes.now ≤ MOST_CELL_BYTES }
         ensures text { result ≡ self ++ bytes.now }
         ensures long { length result ≡ length self + length bytes.now }
@@ -65,7 +66,7 @@ impl Cell {
     }
 
     /// The same with the digits of a number last.
-    fn with_number(self, number: u32) -> Cell
+    pub(crate) fn with_number(self, number: u32) -> Cell
         requires { length self + MOST_DIGITS ≤ MOST_CELL_BYTES }
         ensures text { result ≡ self ++ decimal number }
         ensures long { length result ≤ length self + MOST_DIGITS }
@@ -73,31 +74,62 @@ impl Cell {
         let mut buffer = Buffer::new();
         self.with(buffer.format(number).as_bytes())
     }
+
+    /// The same with a register last: its name, or else its number.
+    fn with_place(self, names: &Names<'_>, r: usize) -> Cell
+        requires room { length self + MOST_NAME_BYTES ≤ MOST_CELL_BYTES }
+        requires few { r ≤ 510 }
+        ensures text { result ≡ self ++ texts.place_text names.now r }
+        ensures long { length result ≤ length self + MOST_NAME_BYTES }
+    {
+        match names.at(r) {
+            Some(name) => self.with(name.bytes),
+            None => self.with_number(r as u32),
+        }
+    }
+
+    /// The same with the registers of a scan last: the first one, and how many they are; or the first
+    /// and the last one, where one of these has a name.
+    fn with_span(self, names: &Names<'_>, first: u8, count: u8) -> Cell
+        requires { length self ≤ 5 }
+        ensures text { result ≡ self ++ texts.span_text names.now first count }
+        ensures long { length result ≤ length self + 36 }
+    {
+        let (from, many) = (usize::from(first), usize::from(count));
+        let last = (from + many).saturating_sub(1);
+        if names.at(from).is_some() || names.at(last).is_some() {
+            self.with_place(names, from)
+                .with(b" .. ")
+                .with_place(names, last)
+        } else {
+            self.with_number(u32::from(first))
+                .with(b" ")
+                .with_number(u32::from(count))
+        }
+    }
 }
 
 /// What a letter did, after which registers hold this.
-fn deed_cell(deed: Deed, registers: &[Held]) -> Cell
+fn deed_cell(names: &Names<'_>, deed: Deed, registers: &[Held]) -> Cell
     requires { length registers.now ≤ 64 }
-    ensures text { result ≡ texts.deed_text registers.now deed }
-    ensures long { length result ≤ 734 }
+    ensures text { result ≡ texts.deed_text names.now registers.now deed }
+    ensures long { length result ≤ 748 }
 {
     match deed {
         Deed::Read(r, value) => Cell::new()
             .with(b"read ")
-            .with_number(u32::from(r))
+            .with_place(names, usize::from(r))
             .with(b" = ")
             .with_number(value),
         Deed::Write(r, value) => Cell::new()
             .with(b"write ")
-            .with_number(u32::from(r))
+            .with_place(names, usize::from(r))
             .with(b" ")
             .with_number(value),
         Deed::Scan(first, count) => {
             let scan = Cell::new()
                 .with(b"scan ")
-                .with_number(u32::from(first))
-                .with(b" ")
-                .with_number(u32::from(count))
+                .with_span(names, first, count)
                 .with(b" =");
             with_scanned(scan, registers, usize::from(first), usize::from(count))
         }
@@ -107,10 +139,10 @@ fn deed_cell(deed: Deed, registers: &[Held]) -> Cell
 
 /// The same with what a scan of so many registers from the first on finds in them last.
 fn with_scanned(cell: Cell, registers: &[Held], first: usize, count: usize) -> Cell
-    requires short { length cell ≤ 30 }
+    requires short { length cell ≤ 44 }
     requires few { (length registers.now ≤ 64) × (first ≤ 255) × (count ≤ 255) }
     ensures text { result ≡ cell ++ texts.scanned_text registers.now first count }
-    ensures long { length result ≤ 734 }
+    ensures long { length result ≤ 748 }
 {
     let mut cell = cell;
     for r in 0..registers.len() {
@@ -132,6 +164,16 @@ fn found_cell(registers: &[Held], first: usize, count: usize, r: usize) -> Cell
     match registers.get(r) {
         Some(held) => Cell::new().with(b" ").with_number(held.value),
         None => Cell::new(),
+    }
+}
+
+/// The head of a register's column: its name, or else `r` and its number.
+fn head_cell(names: &Names<'_>, r: u8) -> Cell
+    ensures { result ≡ texts.name_or names.now r (codes "r" ++ decimal r) }
+{
+    match names.at(usize::from(r)) {
+        Some(name) => Cell::new().with(name.bytes),
+        None => Cell::new().with(b"r").with_number(u32::from(r)),
     }
 }
 
@@ -176,7 +218,7 @@ fn end_cell(end: &ProcEnd) -> Cell
 
 /// The same with how a process came to its end last, where it is done or at fault.
 fn with_ending(cell: Cell, end: &ProcEnd) -> Cell
-    requires { length cell ≤ 734 }
+    requires { length cell ≤ 748 }
     ensures { result ≡ cell ++ texts.ending_text end.now }
 {
     match &end.fate {
@@ -251,26 +293,26 @@ impl Drawing {
     }
 
     /// The text at a line and a column.
-    pub(crate) fn cell(&self, line: usize, column: u8) -> Cell
-        ensures { result ≡ texts.cell_text self.now line column }
+    pub(crate) fn cell(&self, names: &Names<'_>, line: usize, column: u8) -> Cell
+        ensures { result ≡ texts.cell_text names.now self.now line column }
     {
         let line = self.line_at(line);
         let processes = self.outcome().ends().len() as u8;
         if column == 0 {
             number_cell(line)
         } else if column <= processes {
-            self.process_cell(line, column - 1)
+            self.process_cell(names, line, column - 1)
         } else {
-            self.register_cell(line, column - 1 - processes)
+            self.register_cell(names, line, column - 1 - processes)
         }
     }
 
     /// What a row's letter did, and where it is the last one of its process, how that came to its
     /// end.
-    fn row_cell(&self, row: &Row) -> Cell
-        ensures { result ≡ texts.row_text self.now row.now }
+    fn row_cell(&self, names: &Names<'_>, row: &Row) -> Cell
+        ensures { result ≡ texts.row_text names.now self.now row.now }
     {
-        let cell = deed_cell(row.deed, row.registers.as_slice());
+        let cell = deed_cell(names, row.deed, row.registers.as_slice());
         if !self.is_last(row) {
             return cell;
         }
@@ -295,12 +337,12 @@ impl Drawing {
     }
 
     /// The text of a line in the column of a process.
-    fn process_cell(&self, line: Line<'_>, p: u8) -> Cell
-        ensures { result ≡ texts.process_cell self.now p (texts.line_of line.entry) }
+    fn process_cell(&self, names: &Names<'_>, line: Line<'_>, p: u8) -> Cell
+        ensures { result ≡ texts.process_cell names.now self.now p (texts.line_of line.entry) }
     {
         match line {
             Line::Head => Cell::new().with(b"process ").with_number(u32::from(p)),
-            Line::Row(row) if row.process == p => self.row_cell(row),
+            Line::Row(row) if row.process == p => self.row_cell(names, row),
             Line::Start | Line::Row(_) => Cell::new(),
             Line::End => match self.outcome().ends().get(usize::from(p)) {
                 Some(end) => end_cell(end),
@@ -310,11 +352,12 @@ impl Drawing {
     }
 
     /// The text of a line in the column of a register.
-    fn register_cell(&self, line: Line<'_>, r: u8) -> Cell
-        ensures { result ≡ texts.register_cell self.now.start r (texts.line_of line.entry) }
+    fn register_cell(&self, names: &Names<'_>, line: Line<'_>, r: u8) -> Cell
+        ensures { result ≡ texts.register_cell names.now self.now.start r
+            (texts.line_of line.entry) }
     {
         let registers = match line {
-            Line::Head => return Cell::new().with(b"r").with_number(u32::from(r)),
+            Line::Head => return head_cell(names, r),
             Line::Start => self.start(),
             Line::Row(row) => &row.registers,
             Line::End => return Cell::new(),

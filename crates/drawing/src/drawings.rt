@@ -20,6 +20,34 @@ pub enum Deed {
     Crash,
 }
 
+impl Deed {
+    ghost use Rattle.drawing.specs.Layout as layout;
+
+    /// Whether it wrote into a register.
+    pub(crate) fn writes(self, register: usize) -> bool
+        ensures { result ≡ layout.writes register self }
+    {
+        match self {
+            Deed::Write(r, _) => usize::from(r) == register,
+            Deed::Read(..) | Deed::Scan(..) | Deed::Crash => false,
+        }
+    }
+
+    /// Whether it read a register.
+    pub(crate) fn reads(self, register: usize) -> bool
+        ensures { result ≡ layout.reads register self }
+    {
+        match self {
+            Deed::Read(r, _) => usize::from(r) == register,
+            Deed::Scan(first, count) => {
+                let (first, count) = (usize::from(first), usize::from(count));
+                first <= register && register < first + count
+            }
+            Deed::Write(..) | Deed::Crash => false,
+        }
+    }
+}
+
 /// What a register holds after a letter, and whether it held another value before it.
 #[derive(Clone, Copy, Default, PartialEq, Eq, Debug)]
 pub struct Held {
@@ -40,20 +68,6 @@ pub struct Row {
     pub deed: Deed,
     /// What each register holds after it, registers from 0.
     pub registers: ArrayVec<Held, 64>,
-}
-
-impl Row {
-    ghost use Rattle.drawing.specs.Layout as layout;
-
-    /// Whether its letter changes a register.
-    pub(crate) fn changes(&self, register: usize) -> bool
-        ensures { result ≡ layout.changes register self.now }
-    {
-        match self.registers.get(register) {
-            Some(held) => held.changed,
-            None => false,
-        }
-    }
 }
 
 /// What is drawn of a schedule: what each register holds before its first letter, a row a letter,

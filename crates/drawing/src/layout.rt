@@ -5,7 +5,9 @@ ghost use Rattle.drawing.specs.Layout as layout;
 
 use crate::breadths::Breadth;
 use crate::cells::MOST_COLUMNS;
+use crate::choices::is_told;
 use crate::drawings::Drawing;
+use crate::names::Names;
 use arrayvec::ArrayVec;
 
 /// How many spaces part two columns.
@@ -21,43 +23,27 @@ pub(crate) const WIDE: usize = 132;
 pub(crate) type Widths = ArrayVec<u16, MOST_COLUMNS>;
 
 /// How wide the column is: as wide as its widest text.
-fn width_of(drawing: &Drawing, column: u8) -> u16
-    ensures { result ≡ layout.width_of drawing.now column }
+fn width_of(names: &Names<'_>, drawing: &Drawing, column: u8) -> u16
+    ensures { result ≡ layout.width_of names.now drawing.now column }
 {
     let mut width = 0;
     for line in 0..drawing.lines() {
-        let long = drawing.cell(line, column).bytes().len() as u16;
+        let long = drawing.cell(names, line, column).bytes().len() as u16;
         width = width.max(long);
     }
     width
 }
 
 /// How wide each column is.
-pub(crate) fn widths_of(drawing: &Drawing) -> Widths
-    ensures widths { result.items ≡ layout.widths drawing.now }
+pub(crate) fn widths_of(names: &Names<'_>, drawing: &Drawing) -> Widths
+    ensures widths { result.items ≡ layout.widths names.now drawing.now }
     ensures each { length result.items ≡ layout.column_count drawing.now }
 {
     let mut widths = Widths::new();
     for column in 0..drawing.columns() {
-        widths.push(width_of(drawing, column as u8));
+        widths.push(width_of(names, drawing, column as u8));
     }
     widths
-}
-
-/// Whether a column is one of those that are kept first where not all fit: those of the letters'
-/// numbers and of the processes, and those of registers that a letter changes.
-fn is_kept_first(drawing: &Drawing, column: usize) -> bool
-    ensures { result ≡ layout.is_kept_first drawing.now column }
-{
-    let fixed = fixed_columns(drawing);
-    column < fixed || is_changed(drawing, column - fixed)
-}
-
-/// Whether a letter changes a register.
-fn is_changed(drawing: &Drawing, register: usize) -> bool
-    ensures { result ≡ layout.is_changed drawing.now register }
-{
-    drawing.rows().iter().any(|row| row.changes(register))
 }
 
 /// How many columns stand in any case: those of the letters' numbers and of the processes.
@@ -67,69 +53,94 @@ fn fixed_columns(drawing: &Drawing) -> usize
     1 + drawing.outcome().ends().len()
 }
 
-/// How much of a line the first so many columns take, of those that are kept first or of the
-/// others, each with what parts it from the next.
-fn room_of(drawing: &Drawing, widths: &Widths, first: bool, columns: usize) -> usize
-    requires { columns ≤ length widths.now.items }
-    ensures value { result ≡ layout.room_of drawing.now widths.now.items first columns }
-    ensures few { result ≤ 65537 * columns }
+/// Whether a letter writes into a register.
+fn is_written(drawing: &Drawing, register: usize) -> bool
+    ensures { result ≡ layout.is_written drawing.now register }
+{
+    drawing.rows().iter().any(|row| row.deed.writes(register))
+}
+
+/// Whether a letter reads a register.
+fn is_read(drawing: &Drawing, register: usize) -> bool
+    ensures { result ≡ layout.is_read drawing.now register }
+{
+    drawing.rows().iter().any(|row| row.deed.reads(register))
+}
+
+/// When a column is kept where not all fit, those of lower rank first: what stands in any case, the
+/// registers that a letter writes, those that a letter reads, and the others.
+fn rank(drawing: &Drawing, column: usize) -> u8
+    ensures { result ≡ layout.rank drawing.now column }
+{
+    let fixed = fixed_columns(drawing);
+    if column < fixed {
+        0
+    } else if is_written(drawing, column - fixed) {
+        1
+    } else if is_read(drawing, column - fixed) {
+        2
+    } else {
+        3
+    }
+}
+
+/// Whether another column is kept no later than a column: it is of a lower rank, or of the same and
+/// no further right.
+fn is_kept_by(drawing: &Drawing, column: usize, other: usize) -> bool
+    ensures { result ≡ layout.is_kept_by drawing.now column other }
+{
+    let (own, its) = (rank(drawing, column), rank(drawing, other));
+    its < own || (its == own && other <= column)
+}
+
+/// Where the line would end with a column and all those that are kept before it.
+fn end_with(drawing: &Drawing, widths: &Widths, column: usize) -> usize
+    ensures { result ≡ layout.end_with drawing.now widths.now.items column }
 {
     let mut room = 0;
-    for column in 0..columns {
-        if is_kept_first(drawing, column) == first {
-            room += usize::from(widths[column]) + PARTING;
+    for other in 0..widths.len() {
+        if is_kept_by(drawing, column, other) {
+            room += usize::from(widths[other]) + PARTING;
         }
     }
     room
 }
 
-/// Where the line would end with a column and all those that are kept before it.
-fn end_with(drawing: &Drawing, widths: &Widths, column: usize) -> usize
-    requires { column < length widths.now.items }
-    ensures { result ≡ layout.end_with drawing.now widths.now.items column }
-{
-    let columns = widths.len();
-    if is_kept_first(drawing, column) {
-        return room_of(drawing, widths, true, column + 1);
-    }
-    room_of(drawing, widths, true, columns) + room_of(drawing, widths, false, column + 1)
-}
-
 /// Whether a column is shown.
-fn is_shown(drawing: &Drawing, widths: &Widths, breadth: Breadth, column: usize) -> bool
-    requires { column < length widths.now.items }
-    ensures { result ≡ layout.is_shown drawing.now widths.now.items breadth column }
+fn is_shown(drawing: &Drawing, widths: &Widths, breadth: Breadth<'_>, column: usize) -> bool
+    ensures { result ≡ layout.is_shown drawing.now widths.now.items breadth.entry column }
 {
-    if column < fixed_columns(drawing) {
+    let fixed = fixed_columns(drawing);
+    if column < fixed {
         return true;
     }
-    match places_for(breadth, drawing.outcome().ends().len()) {
-        Some(places) => end_with(drawing, widths, column) <= places + PARTING,
-        None => true,
+    match breadth {
+        Breadth::Usual => { end_with(drawing, widths, column) <= usual_places(fixed - 1) + PARTING }
+        Breadth::Places(places) => {
+            end_with(drawing, widths, column) <= places as usize + PARTING
+        }
+        Breadth::Whole => true,
+        Breadth::Chosen(text) => is_told(text.as_bytes(), column - fixed),
     }
 }
 
-/// How long a line may be where there are so many processes; None where it may be of any length.
-fn places_for(breadth: Breadth, processes: usize) -> Option<usize>
-    ensures value { result ≡ layout.places_for breadth processes }
-    ensures few { IfSome result (λ places. places < 2 ^ 32) }
+/// How long a line may be where there are so many processes.
+fn usual_places(processes: usize) -> usize
+    ensures value { result ≡ layout.usual_places processes }
+    ensures few { result ≤ WIDE }
 {
-    match breadth {
-        Breadth::Usual => Some(if processes <= 2 { NARROW } else { WIDE }),
-        Breadth::Places(places) => Some(places as usize),
-        Breadth::Whole => None,
-    }
+    if processes <= 2 { NARROW } else { WIDE }
 }
 
 /// The columns that are shown, rising: all of them, or without registers that do not fit, of which
-/// those that change are kept first.
+/// those that a letter writes are kept first, and then those that a letter reads.
 pub(crate) fn columns_shown(
     drawing: &Drawing,
     widths: &Widths,
-    breadth: Breadth,
+    breadth: Breadth<'_>,
 ) -> ArrayVec<u8, MOST_COLUMNS>
     requires { length widths.now.items ≡ layout.column_count drawing.now }
-    ensures value { result.items ≡ layout.columns_shown drawing.now widths.now.items breadth }
+    ensures value { result.items ≡ layout.columns_shown drawing.now widths.now.items breadth.entry }
     ensures there { All (λ column. column < length widths.now.items) result.items }
 {
     let mut shown = ArrayVec::new();

@@ -3,15 +3,18 @@
 
 mod breadths;
 mod cells;
+mod choices;
 mod deeds;
 mod drawings;
 mod gaps;
 mod layout;
+mod names;
 mod registers;
 mod tables;
 mod writing;
 
 pub use breadths::Breadth;
+pub use choices::tells_registers;
 pub use deeds::draw;
 pub use drawings::{Deed, Drawing, Held, Row};
 pub use writing::Drawn;

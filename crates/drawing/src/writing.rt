@@ -5,29 +5,35 @@ ghost use Rattle.drawing.specs.DrawingText.{drawing_text};
 use crate::breadths::Breadth;
 use crate::drawings::Drawing;
 use crate::layout::{columns_shown, widths_of};
+use crate::names::Names;
 use crate::tables::Table;
 use std::io::Write;
 use texts::{Block, Text, WriteFault};
 
 /// The text of a drawing: a header, a line with what each register holds at the start, a line a
 /// letter, and a line with how each process stands at the end. A line is as long as it may be at
-/// most, as far as leaving out registers can bring that about, first of those that no letter
-/// changes, and each time the last one; a last line says how many are left out.
+/// most, as far as leaving out registers can bring that about, first of those that no letter reads
+/// or writes, then of those that no letter writes, and each time the last one; a last line says how
+/// many are left out.
 #[derive(Clone, Copy)]
 pub struct Drawn<'a> {
     /// The drawing.
     pub drawing: &'a Drawing,
+    /// The text of the source, whose comments may give its registers names.
+    pub text: &'a [u8],
     /// How broad it may be.
-    pub breadth: Breadth,
+    pub breadth: Breadth<'a>,
 }
 
 impl Text for Drawn<'_> {
-    ghost text = { λ d. drawing_text d.breadth d.drawing.now };
+    ghost text = { λ d. drawing_text d.breadth d.text.now d.drawing.now };
 
     fn put<W: Write>(&self, out: &mut W, block: &mut Block) -> Result<(), WriteFault> {
-        let widths = widths_of(self.drawing);
+        let names = Names::told(self.text, self.drawing.start().len());
+        let widths = widths_of(&names, self.drawing);
         let columns = columns_shown(self.drawing, &widths, self.breadth);
         let table = Table {
+            names: &names,
             drawing: self.drawing,
             widths: widths.as_slice(),
             columns: columns.as_slice(),

@@ -5,13 +5,14 @@ ghost use Rattle.texts.specs.Appending.{Wrote};
 ghost use Rattle.findings.specs.FindingText.{finding_text, has_failing};
 
 use crate::standings::Standing;
-use drawing::{Breadth, Drawing, Drawn};
+use drawing::{Drawing, Drawn};
 use part_texts::{PartHead, write_explored_part, write_least_part};
 use report::{Exploration, Least, write_exploration, write_least, write_standing};
 use std::io::Write;
 use texts::{WriteFault, write};
 use verdict::{
-    Discovery, FaultLine, Verdict, first_fault, write_discovery, write_listing, write_verdict,
+    Discovery, FaultLine, Topic, Verdict, first_fault, write_discovery, write_listing,
+    write_verdict,
 };
 
 /// What was found of a source.
@@ -36,8 +37,8 @@ pub enum Finding {
     Discovery(Box<Discovery>, bool),
     /// Where a schedule leads.
     Standing(Standing),
-    /// What a schedule does, and how broad its drawing may be.
-    Drawing(Box<Drawing>, Breadth),
+    /// What a schedule does.
+    Drawing(Box<Drawing>),
 }
 
 impl Finding {
@@ -55,36 +56,38 @@ impl Finding {
             Finding::LeastPart(_, _) => false,
             Finding::Discovery(discovery, _) => discovery.least.least().is_some(),
             Finding::Standing(_) => false,
-            Finding::Drawing(_, _) => false,
+            Finding::Drawing(_) => false,
         }
     }
 
-    /// Writes what was found of the text in the file of this path.
-    pub fn write<W: Write>(&self, path: &str, text: &[u8], out: &mut W) -> Result<(), WriteFault>
-        ensures { Wrote W.contents out.old out.new (finding_text path.now text.now self.now)
-            result }
+    /// Writes what was found of the text in the file of a path.
+    pub fn write<W: Write>(&self, topic: Topic<'_>, out: &mut W) -> Result<(), WriteFault>
+        ensures { Wrote W.contents out.old out.new
+            (finding_text topic.entry.path.now topic.entry.text.now topic.entry.breadth self.now) result }
     {
         match self {
             Finding::Verdict(verdict, is_shortest) => {
-                write_verdict(path.as_bytes(), text, verdict, *is_shortest, out)
+                write_verdict(topic, verdict, *is_shortest, out)
             }
             Finding::Listing(verdict, is_shortest, explored) => {
-                let (path, explored) = (path.as_bytes(), explored.as_ref());
-                write_listing(path, text, verdict, *is_shortest, explored, out)
+                write_listing(topic, verdict, *is_shortest, explored.as_ref(), out)
             }
             Finding::Report(report) => write_exploration(report, out),
             Finding::Least(least) => write_least(least, out),
             Finding::Part(head, found) => write_explored_part(head, found, out),
             Finding::LeastPart(head, least) => write_least_part(head, least, out),
             Finding::Discovery(discovery, is_shortest) => {
-                write_discovery(path.as_bytes(), discovery, *is_shortest, out)
+                write_discovery(topic, discovery, *is_shortest, out)
             }
             Finding::Standing(standing) => {
                 write_standing(&standing.outcome, standing.registers.as_slice(), out)
             }
-            Finding::Drawing(drawing, breadth) => {
-                let breadth = *breadth;
-                let drawn = Drawn { drawing, breadth };
+            Finding::Drawing(drawing) => {
+                let drawn = Drawn {
+                    drawing,
+                    text: topic.text,
+                    breadth: topic.breadth,
+                };
                 write(&(drawn, FaultLine(first_fault(drawing.outcome()))), out)
             }
         }

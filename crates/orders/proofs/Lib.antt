@@ -3,3 +3,4 @@ mod BoundedReads
 mod FirstBad
 mod Numbers
 mod PartWords
+mod Breadths

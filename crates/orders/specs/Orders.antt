@@ -16,7 +16,6 @@ use Rattle.orders.specs.Inputs.{is_standard}
 use Rattle.orders.specs.Flags.{IsFlagTold}
 use Rattle.orders.specs.NumberTexts.{IsNumberText}
 use Rattle.orders.specs.PatternTexts.{AreNoTexts, AreTextsOf, are_standard}
-use Rattle.drawing.specs.declared.breadths.Breadth.{Breadth}
 use Rattle.orders.specs.declared.tasks.Task.{Task}
 use Rattle.orders.specs.declared.bounds.TheConstants.{CACHE, ROOM, SHARED_CUT}
 use Rattle.orders.specs.declared.orders.TheConstants.{CACHE_SETTING}
@@ -31,10 +30,10 @@ abbrev pub IsReplay : List ℕ → Task → Type 0
 IsReplay text (Replay schedule) = schedule_text schedule ≡ text
 IsReplay text _ = ⊥
 
--- to draw the schedule of this text, so broad as this is so
-abbrev pub IsShowOf : (Breadth → Type 0) → List ℕ → Task → Type 0
-IsShowOf is_broad text (Show schedule breadth) = (schedule_text schedule ≡ text) × is_broad breadth
-IsShowOf is_broad text _ = ⊥
+-- to draw the schedule of this text
+abbrev pub IsShow : List ℕ → Task → Type 0
+IsShow text (Show schedule) = schedule_text schedule ≡ text
+IsShow text _ = ⊥
 
 -- the number that a text writes, where it writes one; else another one
 pub record IsNumberIn (text : List ℕ) (other n : ℕ) : Type 0 where
@@ -124,7 +123,7 @@ IsExploration told text (Explore effort native part least_alone) =
     × IsPartTold text part
 IsExploration told text (Find effort native patterns shortest) = ⊥
 IsExploration told text (Replay schedule) = ⊥
-IsExploration told text (Show schedule breadth) = ⊥
+IsExploration told text (Show schedule) = ⊥
 
 -- whether use lines run as native machines
 abbrev pub is_native : Task → Bool
@@ -132,7 +131,7 @@ is_native (Check effort native allows_faults shortest lists) = native
 is_native (Explore effort native part least_alone) = native
 is_native (Find effort native patterns shortest) = native
 is_native (Replay schedule) = false
-is_native (Show schedule breadth) = false
+is_native (Show schedule) = false
 
 -- whether its refusals are told in words
 abbrev pub is_in_words : Task → Bool
@@ -140,7 +139,7 @@ is_in_words (Check effort native allows_faults shortest lists) = true
 is_in_words (Explore effort native part least_alone) = false
 is_in_words (Find effort native patterns shortest) = true
 is_in_words (Replay schedule) = false
-is_in_words (Show schedule breadth) = true
+is_in_words (Show schedule) = true
 
 -- to check as the words tell, and say in words what fails first, or what fails with the fewest
 -- letters; and to list the outcomes
@@ -154,7 +153,7 @@ IsCheck told processors (Check effort native allows_faults shortest lists) =
 IsCheck told processors (Explore effort native part least_alone) = ⊥
 IsCheck told processors (Find effort native patterns shortest) = ⊥
 IsCheck told processors (Replay schedule) = ⊥
-IsCheck told processors (Show schedule breadth) = ⊥
+IsCheck told processors (Show schedule) = ⊥
 
 -- the texts that stand where this name does, by what clap found
 abbrev pub texts_at : List ℕ → Found → List (List ℕ)
@@ -177,7 +176,7 @@ IsFind told processors texts (Find effort native patterns shortest) =
     IsEffortTold told processors effort × IsNativeTold told native × (map pattern_text patterns.items ≡ texts)
     × IsFlagTold (told (codes "shortest")) shortest
 IsFind told processors texts (Replay schedule) = ⊥
-IsFind told processors texts (Show schedule breadth) = ⊥
+IsFind told processors texts (Show schedule) = ⊥
 
 -- so it is with the patterns that the words tell, by what is read of standard input
 -- and what clap found
@@ -204,4 +203,4 @@ lists_of (Check effort native allows_faults shortest lists) = effort.settings.wo
 lists_of (Explore effort native part least_alone) = effort.settings.workers
 lists_of (Find effort native patterns shortest) = effort.settings.workers + 1
 lists_of (Replay schedule) = 1
-lists_of (Show schedule breadth) = 1
+lists_of (Show schedule) = 1

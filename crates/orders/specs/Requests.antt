@@ -8,15 +8,11 @@ use Rattle.command_words.specs.CommandLine.{IsParseOf, command_line, word_at_nam
 use Rattle.regmodel.specs.declared.limits.TheConstants.{MOST_WORKERS}
 use Rattle.orders.specs.Bounds.{IsBreadthTold}
 use Rattle.orders.specs.Flags.{IsFlagTold}
-use Rattle.orders.specs.Orders.{IsCheck, IsExploration, IsFindTold, IsReplay, IsShowOf, texts_at, word_at, word_told}
+use Rattle.orders.specs.Orders.{IsCheck, IsExploration, IsFindTold, IsReplay, IsShow, texts_at, word_at, word_told}
 use Rattle.orders.specs.declared.orders.Order as orders
 use Rattle.orders.specs.declared.orders.Request.{Request}
 use Rattle.orders.specs.declared.orders.Request.TheVariants.{Merge, Order, Version}
 use Rattle.orders.specs.declared.tasks.Task.{Task}
-
--- to draw the schedule that the words tell, as broad as they say
-abbrev pub IsShow : Found → Task → Type 0
-IsShow found task = IsShowOf (IsBreadthTold (one_text found)) (word_at (codes "SCHEDULE") found) task
 
 -- what the words behind the name of a subcommand ask to do; `reads` tells what is
 -- read of standard input
@@ -25,13 +21,14 @@ pub record IsTaskTold (reads : List ℕ → Type 0) (processors : ℕ) (name : T
   pub explore : name ≡ codes "explore" → IsExploration (one_text found) (word_told found) task
   pub find : name ≡ codes "find" → IsFindTold reads found processors task
   pub replay : name ≡ codes "replay" → IsReplay (word_at (codes "SCHEDULE") found) task
-  pub show : name ≡ codes "show" → IsShow found task
+  pub show : name ≡ codes "show" → IsShow (word_at (codes "SCHEDULE") found) task
 
--- so it is, with these files in their order, and whether it is to be told meanwhile
--- how far it has come
+-- so it is, with these files in their order, how broad a drawing may be, and whether it
+-- is to be told meanwhile how far it has come
 pub record IsOrderTold (reads : List ℕ → Type 0) (processors : ℕ) (name : Text) (found : Found) (order : orders.Order) : Type 0 where
   pub task : IsTaskTold reads processors name found order.task
   pub paths : map (λ path. path.now) order.paths.items ≡ texts_at (codes "FILE") found
+  pub breadth : IsBreadthTold found order.breadth
   pub progress : IsFlagTold (one_text found (codes "progress")) order.progress
 
 -- the subcommand that a parse names, and what is found behind it

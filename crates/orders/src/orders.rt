@@ -3,8 +3,8 @@
 ghost use Rattle.std.specs.Prelude.{◌≡◌, ◌≤◌, ◌⊎◌, Err, IfErr, IfOk, map, ℕ};
 ghost use Rattle.clap.specs.Words.{found_of, one_text};
 ghost use Rattle.orders.specs.Bounds.{IsBoundRefused};
-ghost use Rattle.orders.specs.Orders.{IsCheck, IsEffortTold, IsExploration, IsFindRefused, IsFindTold, IsReplay, IsSettingRefused, texts_told, word_told};
-ghost use Rattle.orders.specs.Requests.{IsOrderTold, IsRequestBy, IsRequestOf, IsShow, IsTaskTold};
+ghost use Rattle.orders.specs.Orders.{IsCheck, IsEffortTold, IsExploration, IsFindRefused, IsFindTold, IsReplay, IsSettingRefused, IsShow, texts_told, word_told};
+ghost use Rattle.orders.specs.Requests.{IsOrderTold, IsRequestBy, IsRequestOf, IsTaskTold};
 ghost use Rattle.regmodel.specs.declared.limits.TheConstants.{MOST_WORKERS};
 ghost use Rattle.orders.specs.Inputs.{IsStandardText};
 ghost use Rattle.orders.specs.PatternTexts.{IsStandardUnread};
@@ -24,6 +24,7 @@ use crate::tips::write_unknown;
 use clap::ArgMatches;
 use clap::error::ErrorKind;
 use command_words::matches_of;
+use drawing::Breadth;
 use regmodel::{Settings, read_schedule};
 use report::Effort;
 use std::alloc::Global;
@@ -43,6 +44,8 @@ pub struct Order<'a> {
     pub paths: Vec<&'a str>,
     /// What to do with each of them.
     pub task: Task,
+    /// How broad a drawing may be, where one is made.
+    pub breadth: Breadth<'a>,
     /// Whether it is to be told meanwhile how far it has come. A replay and a drawing never tell.
     pub progress: bool,
 }
@@ -139,12 +142,14 @@ fn order_of<'a, O: Opener>(
         (IsOrderTold (IsStandardText (O.opens opener.now) O.Reader.remaining) processors.number
         name.now (found_of words.now)) }
 {
+    let breadth = breadth_of(words)?;
     let task = task_of(alloc, processors, name, words, opener)?;
     let progress = has_flag(words, "progress");
     match Vec::from_slice(alloc, words.get_strs("FILE").unwrap_or(&[])) {
         Ok(paths) => Ok(Order {
             paths,
             task,
+            breadth,
             progress,
         }),
         Err(_) => Err(Refusal::Memory),
@@ -167,7 +172,7 @@ fn task_of<O: Opener>(
         "check" => check_of(words, processors),
         "find" => find_of(alloc, words, processors, opener),
         "replay" => replay_of(word_at(words, "SCHEDULE")),
-        "show" => show_of(words),
+        "show" => show_of(word_at(words, "SCHEDULE")),
         _ => exploration_of(words),
     }
 }
@@ -177,6 +182,7 @@ fn task_of<O: Opener>(
 fn subject_of<'a>(words: &ArgMatches<'a>, refusal: &Refusal) -> &'a str {
     match refusal {
         Refusal::Bound(bound) => word_at(words, bound.name()),
+        Refusal::Registers => word_at(words, "registers"),
         Refusal::Pattern(place, standing) => {
             match words.get_strs("PATTERN").unwrap_or(&[]).get(*place) {
                 Some(text) => standing_at(text, *standing),
@@ -305,13 +311,13 @@ fn replay_of(text: &str) -> Result<Task, Refusal>
     }
 }
 
-/// To draw the schedule that the words tell, as broad as they say.
-fn show_of(words: &ArgMatches<'_>) -> Result<Task, Refusal>
-    ensures { IfOk result (IsShow (found_of words.now)) }
+/// To draw the schedule of this text.
+fn show_of(text: &str) -> Result<Task, Refusal>
+    ensures ok { IfOk result (IsShow text.now) }
+    ensures refused { IfErr result (IsNoSchedule text.now) }
 {
-    let breadth = breadth_of(words)?;
-    match read_schedule(word_at(words, "SCHEDULE").as_bytes()) {
-        Some(schedule) => Ok(Task::Show { schedule, breadth }),
+    match read_schedule(text.as_bytes()) {
+        Some(schedule) => Ok(Task::Show { schedule }),
         None => Err(Refusal::Schedule),
     }
 }

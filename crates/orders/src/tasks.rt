@@ -40,10 +40,9 @@ pub enum Task {
     Replay {
         schedule: Prefix,
     },
-    /// Draw this schedule, so broad.
+    /// Draw this schedule.
     Show {
         schedule: Prefix,
-        breadth: Breadth,
     },
 }
 
@@ -93,6 +92,8 @@ pub struct Question<'a> {
     pub path: &'a str,
     /// What to do with it.
     pub task: &'a Task,
+    /// How broad a drawing may be.
+    pub breadth: Breadth<'a>,
     /// Whether it is to be told meanwhile how far it has come.
     pub progress: bool,
 }

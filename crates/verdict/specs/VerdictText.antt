@@ -10,7 +10,7 @@ use Rattle.report.specs.PlainReport.{Findings}
 use Rattle.regmodel.specs.ScheduleText.{schedule_text}
 use Rattle.reglang.specs.Lines.{without_indent}
 use Rattle.reglang.specs.Checks.{line_at}
-use Rattle.drawing.specs.declared.breadths.Breadth.TheVariants.{Usual}
+use Rattle.drawing.specs.declared.breadths.Breadth.{Breadth}
 use Rattle.drawing.specs.DrawingText.{drawing_text}
 use Rattle.explanations.specs.Origins.{line_told, path_told}
 use Rattle.explanations.specs.Shown.{shown}
@@ -82,10 +82,10 @@ failing_text path text is_shortest letters cause onset =
 abbrev pub show_text : List ℕ → Schedule → List ℕ
 show_text path w = codes "\nregtry show " ++ operand_text path ++ codes " '" ++ schedule_text w ++ codes "'\n"
 
--- that a schedule fails and why, the schedule as a drawing, and the command that draws it again
-abbrev pub breach_text : List ℕ → List ℕ → Bool → Breach → List ℕ
-breach_text path text is_shortest breach =
-    failing_text path text is_shortest (length breach.schedule) breach.cause breach.onset ++ drawing_text Usual breach.drawing ++ show_text path breach.schedule
+-- that a schedule fails and why, the schedule as a drawing that may be so broad, and the command that draws it again
+abbrev pub breach_text : List ℕ → List ℕ → Breadth → Bool → Breach → List ℕ
+breach_text path text breadth is_shortest breach =
+    failing_text path text is_shortest (length breach.schedule) breach.cause breach.onset ++ drawing_text breadth text breach.drawing ++ show_text path breach.schedule
 
 -- that a schedule is cut off, what it breaks, and the command that draws it
 abbrev pub cut_text : List ℕ → List ℕ → Cut → List ℕ
@@ -162,6 +162,6 @@ held_text path text reach asked gaps =
     holding_text path reach ++ asked_text asked ++ gaps_text text gaps ++ caution_text reach.cut_off reach.length
 
 -- what is told of a source in the file of this path, where the least failing schedule was asked for, or the shortest one
-abbrev pub verdict_text : List ℕ → List ℕ → Bool → Verdict → List ℕ
-verdict_text path text is_shortest (Fails breach cut) = breach_text path text is_shortest breach ++ beside_text path text cut
-verdict_text path text is_shortest (Holds held) = held_text path text (reach_of held.exploration) held.asked held.gaps.items
+abbrev pub verdict_text : List ℕ → List ℕ → Breadth → Bool → Verdict → List ℕ
+verdict_text path text breadth is_shortest (Fails breach cut) = breach_text path text breadth is_shortest breach ++ beside_text path text cut
+verdict_text path text breadth is_shortest (Holds held) = held_text path text (reach_of held.exploration) held.asked held.gaps.items

@@ -2,7 +2,7 @@
 use Rattle.std.specs.Prelude.{ℕ, ◌==◌, Bool, false, if◌then◌else◌, List, [], ◌++◌, length, Option, Some, None, codes, decimal}
 use Rattle.regmodel.specs.declared.outcomes.ProcEnd.{ProcEnd}
 use Rattle.texts.specs.OutcomeText.{outcome_text}
-use Rattle.drawing.specs.declared.breadths.Breadth.TheVariants.{Usual}
+use Rattle.drawing.specs.declared.breadths.Breadth.{Breadth}
 use Rattle.drawing.specs.DrawingText.{drawing_text}
 use Rattle.patterns.specs.PatternText.{pattern_text}
 use Rattle.patterns.specs.declared.matching.Match.{Match}
@@ -31,11 +31,11 @@ nowhere sought = if sought == 1 then codes "there" else codes "to any of " ++ de
 abbrev pub no_shorter_text : Bool → ℕ → List ℕ
 no_shorter_text is_shortest sought = if is_shortest then codes "No shorter one leads " ++ nowhere sought ++ codes ".\n" else []
 
--- what is told of a way, with the drawing of the schedule, and the command that draws it again
-abbrev pub way_text : List ℕ → ℕ → Bool → Way → List ℕ
-way_text path sought is_shortest way =
+-- what is told of a way, with the drawing of the schedule, which may be so broad, and the command that draws it again
+abbrev pub way_text : List ℕ → List ℕ → Breadth → ℕ → Bool → Way → List ℕ
+way_text path text breadth sought is_shortest way =
     leading_text path (length way.schedule) way.outcome ++ (match_text sought way.matched ++ no_shorter_text is_shortest sought) ++ codes "\n"
-    ++ drawing_text Usual way.drawing ++ show_text path way.schedule
+    ++ drawing_text breadth text way.drawing ++ show_text path way.schedule
 
 -- that no schedule leads there, and how far was looked
 abbrev pub nowhere_text : List ℕ → ℕ → ℕ → ℕ → List ℕ
@@ -53,9 +53,9 @@ excess_text sought excess = elim excess [
 ]
 
 -- what is told of a source in the file of this path
-abbrev pub discovery_text : List ℕ → Discovery → Bool → List ℕ
-discovery_text path discovery is_shortest =
+abbrev pub discovery_text : List ℕ → List ℕ → Breadth → Discovery → Bool → List ℕ
+discovery_text path text breadth discovery is_shortest =
     elim discovery.way [
-      | Some way ↦ way_text path discovery.sought is_shortest way
+      | Some way ↦ way_text path text breadth discovery.sought is_shortest way
       | None ↦ nowhere_text path discovery.sought discovery.least.length discovery.least.crashes ++ excess_text discovery.sought discovery.excess
     ]

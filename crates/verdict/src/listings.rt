@@ -6,6 +6,7 @@ ghost use Rattle.verdict.specs.Listings as spec;
 ghost use Rattle.verdict.specs.Listings.{listed_text};
 
 use crate::breaches::Verdict;
+use crate::topics::Topic;
 use crate::verdict_text::Told;
 use report::{CodedLines, Exploration};
 use std::io::Write;
@@ -28,20 +29,18 @@ impl Text for OutcomeList<'_> {
 /// those that were found, else those of the exploration beside it. After a fault the writer has
 /// taken a beginning of it.
 pub fn write_listing<W: Write>(
-    path: &[u8],
-    text: &[u8],
+    topic: Topic<'_>,
     verdict: &Verdict,
     is_shortest: bool,
     explored: Option<&Exploration>,
     out: &mut W,
 ) -> Result<(), WriteFault>
     ensures { Wrote W.contents out.old out.new
-        (listed_text path.now text.now is_shortest verdict.now
-        (option_map (λ e. e.now) explored.entry)) result }
+        (listed_text topic.entry.path.now topic.entry.text.now topic.entry.breadth is_shortest
+        verdict.now (option_map (λ e. e.now) explored.entry)) result }
 {
     let told = Told {
-        path,
-        text,
+        topic,
         verdict,
         is_shortest,
     };

@@ -11,7 +11,8 @@ use crate::faults::FaultLine;
 use crate::gaps::Gap;
 use crate::reach::{Reach, reach_of};
 use crate::show_commands::ShowCommand;
-use drawing::{Breadth, Drawn};
+use crate::topics::Topic;
+use drawing::Drawn;
 use explanations::{origin_of, shown_line};
 use reglang::without_indent;
 use regmodel::Subject;
@@ -19,49 +20,47 @@ use regmodel::limits::MOST_LETTERS;
 use std::io::Write;
 use texts::{Block, Text, WriteFault, write};
 
-/// Writes whether the source holds that the text in the file of this path spells: the schedule that
+/// Writes whether the source holds that the text of this topic spells: the schedule that
 /// fails, the check that it breaks and the process at fault, its drawing and the command that draws
 /// it again; or how much was tried, what was looked for where there is no check line, which checks
 /// no outcome could break, and whether schedules were cut off. Where the shortest one was asked
 /// for, that no shorter one fails. After a fault the writer has taken a beginning of it.
 pub fn write_verdict<W: Write>(
-    path: &[u8],
-    text: &[u8],
+    topic: Topic<'_>,
     verdict: &Verdict,
     is_shortest: bool,
     out: &mut W,
 ) -> Result<(), WriteFault>
     ensures { Wrote W.contents out.old out.new
-        (verdict_text path.now text.now is_shortest verdict.now) result }
+        (verdict_text topic.entry.path.now topic.entry.text.now topic.entry.breadth is_shortest
+        verdict.now) result }
 {
     let told = Told {
-        path,
-        text,
+        topic,
         verdict,
         is_shortest,
     };
     write(&told, out)
 }
 
-/// Whether a source holds, as it is told of the file of this path.
+/// Whether a source holds, as it is told of the file of a path.
 #[derive(Clone, Copy)]
 pub(crate) struct Told<'a> {
-    pub(crate) path: &'a [u8],
-    pub(crate) text: &'a [u8],
+    pub(crate) topic: Topic<'a>,
     pub(crate) verdict: &'a Verdict,
     pub(crate) is_shortest: bool,
 }
 
 impl Text for Told<'_> {
-    ghost text = { λ t. spec.verdict_text t.path.now t.text.now t.is_shortest t.verdict.now };
+    ghost text = { λ t. spec.verdict_text t.topic.path.now t.topic.text.now t.topic.breadth
+        t.is_shortest t.verdict.now };
 
     fn put<W: Write>(&self, out: &mut W, block: &mut Block) -> Result<(), WriteFault> {
-        let Told { path, text, .. } = *self;
+        let Topic { path, text, .. } = self.topic;
         match self.verdict {
             Verdict::Fails(breach, cut) => {
                 let failing = Failing {
-                    path,
-                    text,
+                    topic: self.topic,
                     breach,
                     is_shortest: self.is_shortest,
                 };
@@ -82,30 +81,36 @@ impl Text for Told<'_> {
 /// What a schedule that fails breaks.
 #[derive(Clone, Copy)]
 struct Failing<'a> {
-    path: &'a [u8],
-    text: &'a [u8],
+    topic: Topic<'a>,
     breach: &'a Breach,
     is_shortest: bool,
 }
 
 impl Text for Failing<'_> {
-    ghost text = { λ f. spec.breach_text f.path.now f.text.now f.is_shortest f.breach.now };
+    ghost text = { λ f. spec.breach_text f.topic.path.now f.topic.text.now f.topic.breadth
+        f.is_shortest f.breach.now };
 
     fn put<W: Write>(&self, out: &mut W, block: &mut Block) -> Result<(), WriteFault> {
+        let Topic {
+            path,
+            text,
+            breadth,
+        } = self.topic;
         let breach = self.breach;
         let letters = Letters(breach.schedule.letters().len() as u64);
         let cause = Caused {
-            text: self.text,
+            text,
             cause: &breach.cause,
         };
         let drawing = Drawn {
             drawing: &breach.drawing,
-            breadth: Breadth::Usual,
+            text,
+            breadth,
         };
         let fails = Fails(self.is_shortest);
-        let failing = (self.path, ": a schedule of ", letters, fails);
+        let failing = (path, ": a schedule of ", letters, fails);
         let show = ShowCommand {
-            path: self.path,
+            path,
             schedule: &breach.schedule,
         };
         let onset = Onset(breach.onset);

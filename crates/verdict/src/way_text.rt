@@ -7,8 +7,9 @@ ghost use Rattle.verdict.specs.WayText.{discovery_text};
 
 use crate::counts::{Bounds, Letters};
 use crate::show_commands::ShowCommand;
+use crate::topics::Topic;
 use crate::ways::{Discovery, Way};
-use drawing::{Breadth, Drawn};
+use drawing::Drawn;
 use patterns::Match;
 use std::io::Write;
 use texts::{Block, Text, WriteFault, write};
@@ -106,20 +107,26 @@ impl Text for Excess {
     }
 }
 
-/// Writes what was found of the source in the file of this path: the least schedule that leads to
+/// Writes what was found of the source in the file of a path: the least schedule that leads to
 /// an outcome that was looked for, which of several patterns it matches, its drawing and the
 /// command that draws it again; or that none does, how far was looked, and whether a pattern asks
 /// for more crashes than there may be. Where the shortest one
 /// was asked for, that no shorter one does. After a fault the writer has taken a beginning of it.
 pub fn write_discovery<W: Write>(
-    path: &[u8],
+    topic: Topic<'_>,
     discovery: &Discovery,
     is_shortest: bool,
     out: &mut W,
 ) -> Result<(), WriteFault>
     ensures { Wrote W.contents out.old out.new
-        (discovery_text path.now discovery.now is_shortest) result }
+        (discovery_text topic.entry.path.now topic.entry.text.now topic.entry.breadth discovery.now
+        is_shortest) result }
 {
+    let Topic {
+        path,
+        text,
+        breadth,
+    } = topic;
     let sought = discovery.sought;
     match &discovery.way {
         Some(way) => {
@@ -131,7 +138,8 @@ pub fn write_discovery<W: Write>(
             let matched = (matched, NoShorter(is_shortest, sought));
             let drawing = Drawn {
                 drawing: &way.drawing,
-                breadth: Breadth::Usual,
+                text,
+                breadth,
             };
             let show = ShowCommand {
                 path,

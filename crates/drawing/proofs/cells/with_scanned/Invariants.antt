@@ -6,5 +6,5 @@ use Rattle.drawing.proofs.cells.with_scanned.Given as goal
 abbrev pub invariant-loop-r : goal.invariant-loop-r
 invariant-loop-r l = record {
   text : l.cell ≡ l.fn.cell ++ joined (found_text l.registers l.first l.count) l.r;
-  long : length l.cell ≤ 30 + 11 * l.r;
+  long : length l.cell ≤ 44 + 11 * l.r;
 }
