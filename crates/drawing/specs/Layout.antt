@@ -50,10 +50,11 @@ reads register (Write r v) = false
 reads register (Scan first count) = nat_le first register && nat_lt register (first + count)
 reads register Crash = false
 
--- whether a letter writes into a register, or reads it
+-- whether a letter writes into a register
 abbrev pub is_written : Picture → ℕ → Bool
 is_written picture register = list_any (λ row. writes register row.deed) picture.rows
 
+-- whether a letter reads a register
 abbrev pub is_read : Picture → ℕ → Bool
 is_read picture register = list_any (λ row. reads register row.deed) picture.rows
 

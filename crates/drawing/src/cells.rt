@@ -1,80 +1,20 @@
 //! The texts of a drawing, cell by cell.
 
-ghost use Rattle.std.specs.Prelude.{◌≡◌, ◌≤◌, ◌<◌, ◌+◌, ◌++◌, [], codes, decimal, length};
+ghost use Rattle.std.specs.Prelude.{◌≡◌, ◌≤◌, ◌<◌, ◌+◌, ◌++◌, codes, decimal, length};
 ghost use Rattle.std.specs.List.{list_any};
 ghost use Rattle.texts.specs.OutcomeText.{end_text, fate_text};
 ghost use Rattle.drawing.specs.Cells as texts;
 ghost use Rattle.drawing.specs.Layout.{column_count, line_count};
 
+use crate::cell_bytes::{Cell, MOST_CELL_BYTES};
 use crate::drawings::{Deed, Drawing, Held, Row};
 use crate::names::{MOST_NAME_BYTES, Names};
-use arrayvec::ArrayVec;
-use itoa::Buffer;
 use regmodel::{End, ProcEnd};
-use std::marker::Model;
-
-/// The most bytes of a cell: those of a scan of 64 numbers of ten digits from a register with a name
-/// to another one, by which its process is done with eight of them.
-pub(crate) const MOST_CELL_BYTES: usize = 848;
-
-/// The most bytes of a number.
-const MOST_DIGITS: usize = 10;
 
 /// The most columns: the letters' numbers, 8 processes and 64 registers.
 pub(crate) const MOST_COLUMNS: usize = 73;
 
-/// The text of a cell. A clause sees its bytes.
-#[derive(Drop)]
-pub(crate) struct Cell {
-    bytes: ArrayVec<u8, MOST_CELL_BYTES>,
-}
-
-impl Model for Cell {
-    ghost use Rattle.std.specs.Prelude.{List, ℕ};
-
-    ghost Value = { List ℕ };
-
-    ghost view = { λ cell. cell.bytes.items };
-}
-
 impl Cell {
-    /// An empty cell.
-    pub(crate) fn new() -> Cell
-        ensures { result ≡ [] }
-    {
-        Cell {
-            bytes: ArrayVec::new(),
-        }
-    }
-
-    /// The bytes.
-    pub(crate) fn bytes(&self) -> &ArrayVec<u8, MOST_CELL_BYTES>
-        ensures { result.now.items ≡ self.now }
-    {
-        &self.bytes
-    }
-
-    /// The same with these bytes last.
-    pub(crate) fn with(self, bytes: &[u8]) -> Cell
-        requires { length self + length bytes.now ≤ MOST_CELL_BYTES }
-        ensures text { result ≡ self ++ bytes.now }
-        ensures long { length result ≡ length self + length bytes.now }
-    {
-        let mut cell = self;
-        let _ = cell.bytes.try_extend_from_slice(bytes);
-        cell
-    }
-
-    /// The same with the digits of a number last.
-    pub(crate) fn with_number(self, number: u32) -> Cell
-        requires { length self + MOST_DIGITS ≤ MOST_CELL_BYTES }
-        ensures text { result ≡ self ++ decimal number }
-        ensures long { length result ≤ length self + MOST_DIGITS }
-    {
-        let mut buffer = Buffer::new();
-        self.with(buffer.format(number).as_bytes())
-    }
-
     /// The same with a register last: its name, or else its number.
     fn with_place(self, names: &Names<'_>, r: usize) -> Cell
         requires room { length self + MOST_NAME_BYTES ≤ MOST_CELL_BYTES }
@@ -88,8 +28,8 @@ impl Cell {
         }
     }
 
-    /// The same with the registers of a scan last: the first one, and how many they are; or the first
-    /// and the last one, where one of these has a name.
+    /// The same with the registers of a scan last: the first one, and how many they are; or the
+    /// first and the last one, where one of these has a name.
     fn with_span(self, names: &Names<'_>, first: u8, count: u8) -> Cell
         requires { length self ≤ 5 }
         ensures text { result ≡ self ++ texts.span_text names.now first count }

@@ -4,7 +4,8 @@ ghost use Rattle.std.specs.Prelude.{◌≡◌, ◌≤◌, ◌*◌};
 ghost use Rattle.drawing.specs.DrawingText as texts;
 ghost use Rattle.drawing.specs.DrawingText.{placed, spaces};
 
-use crate::cells::{Cell, MOST_COLUMNS};
+use crate::cell_bytes::Cell;
+use crate::cells::MOST_COLUMNS;
 use crate::layout::PARTING;
 use std::io::Write;
 use texts::{Block, Text, WriteFault};

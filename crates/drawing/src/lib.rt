@@ -2,6 +2,7 @@
 #![tactic(auto)]
 
 mod breadths;
+mod cell_bytes;
 mod cells;
 mod choices;
 mod deeds;

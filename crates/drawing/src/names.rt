@@ -5,7 +5,7 @@ ghost use Rattle.reglang.specs.Lines.{lines, words};
 ghost use Rattle.drawing.specs.Names as spec;
 ghost use Rattle.drawing.specs.declared.names.TheConstants.{MOST_NAME_BYTES};
 
-use crate::cells::Cell;
+use crate::cell_bytes::Cell;
 use arrayvec::ArrayVec;
 use reglang::{split_line, split_word};
 use std::marker::Model;
