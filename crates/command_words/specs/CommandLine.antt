@@ -43,7 +43,7 @@ replay_words = needed (codes "FILE") ∷ needed (codes "SCHEDULE") ∷ []
 
 abbrev pub show_words : List Rule
 show_words = needed (codes "FILE") ∷ needed (codes "SCHEDULE") ∷ flag (codes "all")
-    ∷ any_text (codes "width") ∷ []
+    ∷ any_text (codes "registers") ∷ any_text (codes "width") ∷ []
 
 -- the subcommands, by their names
 abbrev pub subcommands : List Shape

@@ -192,6 +192,11 @@ const SHOW: &[Word] = &[
         kind: Kind::Flag,
         help: "Draw all registers, however long the lines become",
     },
+    Word {
+        name: "registers",
+        kind: Kind::Text("LIST"),
+        help: "Draw these registers alone, however long the lines become: numbers from 0 to 63 and ranges of them, as 0,3-5",
+    },
     WIDTH,
 ];
 

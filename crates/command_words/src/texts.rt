@@ -142,7 +142,8 @@ and why. A comment line of the source, as `# register 0: flag[0]`, gives a regis
 characters, which stands there in place of its number.
 
 A line is at most 80 places long where there are at most two processes, else 132. Registers are left out until that holds or none is left,
-first those that no letter reads or writes, then those that no letter writes, and each time the last one; a line below then says how many. With --all none is left out.
+first those that no letter reads or writes, then those that no letter writes, and each time the last one; a line below then says how many. With --all none is left out,
+and with --registers 0,3-5 those are drawn and no others.
 
 Statuses:
   0  the schedule was drawn

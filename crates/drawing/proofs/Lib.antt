@@ -3,3 +3,4 @@ mod KeptNumbers
 mod DueSpaces
 mod RowFacts
 mod RegistersRead
+mod TextParts

@@ -1,5 +1,5 @@
 -- Worked examples: the definitions compute.
-use Rattle.std.specs.Prelude.{◌≡◌, ℕ, true, false, [], ◌∷◌, ◌++◌, refl, None, Some, codes}
+use Rattle.std.specs.Prelude.{◌≡◌, ℕ, true, false, [], ◌∷◌, ◌++◌, map, refl, None, Some, codes}
 use Rattle.std.specs.Fmt.{digits}
 use Rattle.regmodel.specs.declared.letters.Letter.TheVariants.{Run, Crash}
 use Rattle.regmodel.specs.declared.outcomes.End.TheVariants as end
@@ -10,6 +10,7 @@ use Rattle.drawing.specs.declared.drawings.Deed.TheVariants as deed
 use Rattle.drawing.specs.declared.drawings.Held.{Held}
 use Rattle.drawing.specs.declared.drawings.Row.{Row}
 use Rattle.drawing.specs.Cells.{row_text}
+use Rattle.drawing.specs.Choices.{is_told, tells_registers}
 use Rattle.drawing.specs.declared.breadths.Breadth.TheVariants.{Places, Usual, Whole}
 use Rattle.drawing.specs.DrawingText.{drawing_text, left_out_text}
 use Rattle.drawing.specs.Layout.{columns_shown}
@@ -133,6 +134,16 @@ then_the_leftmost = refl
 
 pub all_are_shown : columns_shown last_two (10 ∷ 30 ∷ 30 ∷ 30 ∷ 30 ∷ 30 ∷ []) Whole ≡ 0 ∷ 1 ∷ 2 ∷ 3 ∷ 4 ∷ 5 ∷ []
 all_are_shown = refl
+
+-- ---- registers that a text tells
+
+pub one_and_three_to_five : map (is_told (codes "1,3-5")) (0 ∷ 1 ∷ 2 ∷ 3 ∷ 5 ∷ 6 ∷ []) ≡ false ∷ true ∷ false ∷ true ∷ true ∷ false ∷ []
+one_and_three_to_five = refl
+
+pub which_tell_registers : map tells_registers (codes "0,63" ∷ codes "5-5" ∷ codes "5-4" ∷ codes "64" ∷ codes "0,,1" ∷ codes "01" ∷ [] ∷ []) ≡ true ∷ true ∷ false ∷ false ∷ false ∷ false ∷ false ∷ []
+which_tell_registers = refl
+
+-- ---- how many are left out
 
 pub text_of_two_left_out : left_out_text 2 3 ≡ codes "left out: 2 of 3 registers; regtry show --all draws all\n"
 unfolding digits

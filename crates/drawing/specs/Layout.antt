@@ -1,10 +1,11 @@
 -- How wide the columns of a drawing are, and how many are shown.
-use Rattle.std.specs.Prelude.{ℕ, zero, suc, ◌+◌, ◌-◌, ◌==◌, Bool, true, false, ◌&&◌, ◌||◌, List, filter, length, map, max, nat_le, nat_lt, Option, Some, None, if◌then◌else◌, get_or}
+use Rattle.std.specs.Prelude.{ℕ, zero, suc, ◌+◌, ◌-◌, ◌==◌, Bool, true, false, ◌&&◌, ◌||◌, List, filter, length, map, max, nat_le, nat_lt, if◌then◌else◌, get_or}
 use Rattle.std.specs.List.{list_any, range_with_len}
 use Rattle.drawing.specs.declared.breadths.Breadth.{Breadth}
-use Rattle.drawing.specs.declared.breadths.Breadth.TheVariants.{Places, Usual, Whole}
+use Rattle.drawing.specs.declared.breadths.Breadth.TheVariants.{Chosen, Places, Usual, Whole}
 use Rattle.drawing.specs.declared.layout.TheConstants.{NARROW, PARTING, WIDE}
 use Rattle.drawing.specs.Cells.{cell_text}
+use Rattle.drawing.specs.Choices.{is_told}
 use Rattle.drawing.specs.declared.drawings.Deed.{Deed}
 use Rattle.drawing.specs.declared.drawings.Deed.TheVariants.{Read, Write, Scan, Crash}
 use Rattle.drawing.specs.Names.{Names}
@@ -79,21 +80,24 @@ room_of picture wide column (suc n) =
 abbrev pub end_with : Picture → List ℕ → ℕ → ℕ
 end_with picture wide column = room_of picture wide column (length wide)
 
--- how long a line may be where there are so many processes; where it may be whole, of any length
-abbrev pub places_for : Breadth → ℕ → Option ℕ
-places_for Usual processes = Some (if nat_le processes 2 then NARROW else WIDE)
-places_for (Places places) processes = Some places
-places_for Whole processes = None
+-- how long a line may be where there are so many processes
+abbrev pub usual_places : ℕ → ℕ
+usual_places processes = if nat_le processes 2 then NARROW else WIDE
 
--- whether a line has room for a column and those that are kept before it
-abbrev pub has_room : Picture → List ℕ → ℕ → Option ℕ → Bool
-has_room picture wide column (Some places) = nat_le (end_with picture wide column) (places + PARTING)
-has_room picture wide column None = true
+-- whether a line of so many places has room for a column and those that are kept before it
+abbrev pub has_room : Picture → List ℕ → ℕ → ℕ → Bool
+has_room picture wide column places = nat_le (end_with picture wide column) (places + PARTING)
 
--- whether a column is shown: it stands in any case, or there is room for it
+-- whether the column of a register is shown: there is room for it, or all are shown, or just this one and others are asked for
+abbrev pub is_asked : Picture → List ℕ → ℕ → Breadth → Bool
+is_asked picture wide column Usual = has_room picture wide column (usual_places (length picture.ends))
+is_asked picture wide column (Places places) = has_room picture wide column places
+is_asked picture wide column Whole = true
+is_asked picture wide column (Chosen text) = is_told text.now (column - fixed_columns picture)
+
+-- whether a column is shown: it stands in any case, or is that of a register which is asked for
 abbrev pub is_shown : Picture → List ℕ → Breadth → ℕ → Bool
-is_shown picture wide breadth column =
-    nat_lt column (fixed_columns picture) || has_room picture wide column (places_for breadth (length picture.ends))
+is_shown picture wide breadth column = nat_lt column (fixed_columns picture) || is_asked picture wide column breadth
 
 -- the columns that are shown
 abbrev pub columns_shown : Picture → List ℕ → Breadth → List ℕ

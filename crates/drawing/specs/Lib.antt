@@ -1,4 +1,5 @@
 pub mod Cells
+pub mod Choices
 pub mod DrawingText
 pub mod Examples
 pub mod Layout

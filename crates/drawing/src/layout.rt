@@ -5,6 +5,7 @@ ghost use Rattle.drawing.specs.Layout as layout;
 
 use crate::breadths::Breadth;
 use crate::cells::MOST_COLUMNS;
+use crate::choices::is_told;
 use crate::drawings::Drawing;
 use crate::names::Names;
 use arrayvec::ArrayVec;
@@ -106,28 +107,29 @@ fn end_with(drawing: &Drawing, widths: &Widths, column: usize) -> usize
 }
 
 /// Whether a column is shown.
-fn is_shown(drawing: &Drawing, widths: &Widths, breadth: Breadth, column: usize) -> bool
-    ensures { result ≡ layout.is_shown drawing.now widths.now.items breadth column }
+fn is_shown(drawing: &Drawing, widths: &Widths, breadth: Breadth<'_>, column: usize) -> bool
+    ensures { result ≡ layout.is_shown drawing.now widths.now.items breadth.entry column }
 {
-    if column < fixed_columns(drawing) {
+    let fixed = fixed_columns(drawing);
+    if column < fixed {
         return true;
     }
-    match places_for(breadth, drawing.outcome().ends().len()) {
-        Some(places) => end_with(drawing, widths, column) <= places + PARTING,
-        None => true,
+    match breadth {
+        Breadth::Usual => { end_with(drawing, widths, column) <= usual_places(fixed - 1) + PARTING }
+        Breadth::Places(places) => {
+            end_with(drawing, widths, column) <= places as usize + PARTING
+        }
+        Breadth::Whole => true,
+        Breadth::Chosen(text) => is_told(text.as_bytes(), column - fixed),
     }
 }
 
-/// How long a line may be where there are so many processes; None where it may be of any length.
-fn places_for(breadth: Breadth, processes: usize) -> Option<usize>
-    ensures value { result ≡ layout.places_for breadth processes }
-    ensures few { IfSome result (λ places. places < 2 ^ 32) }
+/// How long a line may be where there are so many processes.
+fn usual_places(processes: usize) -> usize
+    ensures value { result ≡ layout.usual_places processes }
+    ensures few { result ≤ WIDE }
 {
-    match breadth {
-        Breadth::Usual => Some(if processes <= 2 { NARROW } else { WIDE }),
-        Breadth::Places(places) => Some(places as usize),
-        Breadth::Whole => None,
-    }
+    if processes <= 2 { NARROW } else { WIDE }
 }
 
 /// The columns that are shown, rising: all of them, or without registers that do not fit, of which
@@ -135,10 +137,10 @@ fn places_for(breadth: Breadth, processes: usize) -> Option<usize>
 pub(crate) fn columns_shown(
     drawing: &Drawing,
     widths: &Widths,
-    breadth: Breadth,
+    breadth: Breadth<'_>,
 ) -> ArrayVec<u8, MOST_COLUMNS>
     requires { length widths.now.items ≡ layout.column_count drawing.now }
-    ensures value { result.items ≡ layout.columns_shown drawing.now widths.now.items breadth }
+    ensures value { result.items ≡ layout.columns_shown drawing.now widths.now.items breadth.entry }
     ensures there { All (λ column. column < length widths.now.items) result.items }
 {
     let mut shown = ArrayVec::new();

@@ -3,6 +3,7 @@
 
 mod breadths;
 mod cells;
+mod choices;
 mod deeds;
 mod drawings;
 mod gaps;
@@ -13,6 +14,7 @@ mod tables;
 mod writing;
 
 pub use breadths::Breadth;
+pub use choices::tells_registers;
 pub use deeds::draw;
 pub use drawings::{Deed, Drawing, Held, Row};
 pub use writing::Drawn;

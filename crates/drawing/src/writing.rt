@@ -21,7 +21,7 @@ pub struct Drawn<'a> {
     /// The text of the source, whose comments may give its registers names.
     pub text: &'a [u8],
     /// How broad it may be.
-    pub breadth: Breadth,
+    pub breadth: Breadth<'a>,
 }
 
 impl Text for Drawn<'_> {

@@ -1,9 +1,13 @@
 -- The bounds of a check and of a search.
-use Rattle.std.specs.Prelude.{◌≡◌, ◌≤◌, ℕ, Bool, true, false, List, Option, Some, None, codes, if◌then◌else◌}
+use Rattle.std.specs.Prelude.{◌≡◌, ◌⊎◌, ◌≤◌, ℕ, Bool, true, false, List, Option, Some, None, codes, if◌then◌else◌}
 use Rattle.std.specs.Str.Parse.{digits_value, without_leading_plus}
 use Rattle.regmodel.specs.declared.limits.TheConstants.{MOST_CRASHES, MOST_LETTERS, MOST_WORKERS}
+use Rattle.clap.specs.Matches.{first_value}
+use Rattle.clap.specs.Words.{one_text}
+use Rattle.clap.specs.declared.parser.matches.Found.{Found}
+use Rattle.drawing.specs.Choices.{tells_registers}
 use Rattle.drawing.specs.declared.breadths.Breadth.{Breadth}
-use Rattle.drawing.specs.declared.breadths.Breadth.TheVariants.{Places, Usual, Whole}
+use Rattle.drawing.specs.declared.breadths.Breadth.TheVariants.{Chosen, Places, Usual, Whole}
 use Rattle.orders.specs.Flags.{IsFlagTold}
 use Rattle.orders.specs.NumberTexts.{IsNumberText}
 use Rattle.orders.specs.declared.bounds.TheConstants.{CACHE, MOST_CACHE, MOST_WIDTH}
@@ -63,9 +67,37 @@ pub record IsBoundRefused (told : List ℕ → Option (List ℕ)) (workers : ℕ
 abbrev pub width : Bound
 width = Width
 
--- how broad the words allow a drawing to be: whole, or as usual where they tell no
--- width, or so many places
-abbrev pub IsBreadthTold : (List ℕ → Option (List ℕ)) → Breadth → Type 0
-IsBreadthTold told Whole = IsFlagTold (told (codes "all")) true
-IsBreadthTold told Usual = IsFlagTold (told (codes "all")) false × (told (codes "width") ≡ None)
-IsBreadthTold told (Places places) = IsFlagTold (told (codes "all")) false × IsBoundTold (told (codes "width")) 0 places × (1 ≤ places)
+-- how broad a text for the width allows a drawing to be: as usual where there is none, or so many places
+abbrev pub IsWidthTold : Option (List ℕ) → Breadth → Type 0
+IsWidthTold text Whole = ⊥
+IsWidthTold text (Chosen registers) = ⊥
+IsWidthTold text Usual = text ≡ None
+IsWidthTold text (Places places) = IsBoundTold text 0 places × (1 ≤ places)
+
+-- the text that the words give for the registers to draw, by what clap found
+abbrev pub registers_told : Found → Option (List ℕ)
+registers_told found = first_value found (codes "registers")
+
+-- how broad the words allow a drawing to be: whole, or with the registers that they tell, or as their width tells
+abbrev pub IsBreadthTold : Found → Breadth → Type 0
+IsBreadthTold found Whole = IsFlagTold (one_text found (codes "all")) true
+IsBreadthTold found (Chosen text) =
+    IsFlagTold (one_text found (codes "all")) false × (registers_told found ≡ Some text.now) × (tells_registers text.now ≡ true)
+IsBreadthTold found breadth =
+    IsFlagTold (one_text found (codes "all")) false × (registers_told found ≡ None) × IsWidthTold (one_text found (codes "width")) breadth
+
+-- the text for the registers to draw tells none
+pub record AreNoRegisters (found : Found) (r : Refusal) : Type 0 where
+  pub told_is : r ≡ refusal.Registers
+  pub text : List ℕ
+  pub given : registers_told found ≡ Some text
+  pub none : tells_registers text ≡ false
+
+-- the words tell no width that may be
+pub record IsNoWidth (found : Found) (r : Refusal) : Type 0 where
+  pub told_is : r ≡ refusal.Bound width
+  pub none : IsNoBound (one_text found (name_of width)) width MOST_WIDTH
+
+-- why no drawing can be so broad
+abbrev pub IsBreadthRefused : Found → Refusal → Type 0
+IsBreadthRefused found r = AreNoRegisters found r ⊎ IsNoWidth found r

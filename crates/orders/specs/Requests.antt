@@ -28,7 +28,7 @@ pub record IsTaskTold (reads : List ℕ → Type 0) (processors : ℕ) (name : T
 pub record IsOrderTold (reads : List ℕ → Type 0) (processors : ℕ) (name : Text) (found : Found) (order : orders.Order) : Type 0 where
   pub task : IsTaskTold reads processors name found order.task
   pub paths : map (λ path. path.now) order.paths.items ≡ texts_at (codes "FILE") found
-  pub breadth : IsBreadthTold (one_text found) order.breadth
+  pub breadth : IsBreadthTold found order.breadth
   pub progress : IsFlagTold (one_text found (codes "progress")) order.progress
 
 -- the subcommand that a parse names, and what is found behind it

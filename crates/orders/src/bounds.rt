@@ -1,6 +1,6 @@
 //! How far the words of a check or a search ask to go.
 
-ghost use Rattle.std.specs.Prelude.{◌≡◌, ◌<◌, ◌≤◌, IfErr, IfOk};
+ghost use Rattle.std.specs.Prelude.{◌≡◌, ◌<◌, ◌≤◌, IfErr, IfOk, codes};
 ghost use Rattle.clap.specs.Words.{found_of, one_text};
 ghost use Rattle.regmodel.specs.declared.limits.TheConstants.{MOST_WORKERS};
 ghost use Rattle.orders.specs.Bounds as spec;
@@ -10,7 +10,7 @@ ghost use Rattle.orders.specs.Orders.{AreBoundsTold};
 use crate::options::has_flag;
 use crate::refusals::Refusal;
 use clap::ArgMatches;
-use drawing::Breadth;
+use drawing::{Breadth, tells_registers};
 use regmodel::Settings;
 use regmodel::limits::{MOST_CRASHES, MOST_LETTERS, MOST_WORKERS};
 use std::thread;
@@ -129,16 +129,31 @@ pub(crate) fn bounds_of(
     }
 }
 
-/// How broad the words allow a drawing to be: whole, or so many places, or as usual.
-pub(crate) fn breadth_of(words: &ArgMatches<'_>) -> Result<Breadth, Refusal>
-    ensures ok { IfOk result (spec.IsBreadthTold (one_text (found_of words.now))) }
-    ensures err { IfErr result (λ refusal. refusal ≡ Refusal.Bound spec.width) }
-    ensures refused { IfErr result (λ refusal.
-        IsNoBound (one_text (found_of words.now) (spec.name_of spec.width)) spec.width MOST_WIDTH) }
+/// How broad the words allow a drawing to be: whole, or with some registers alone, or so many places,
+/// or as usual.
+pub(crate) fn breadth_of<'a>(words: &ArgMatches<'a>) -> Result<Breadth<'a>, Refusal>
+    ensures ok { IfOk result (spec.IsBreadthTold (found_of words.now)) }
+    ensures err { IfErr result (spec.IsBreadthRefused (found_of words.now)) }
 {
     if has_flag(words, "all") {
         return Ok(Breadth::Whole);
     }
+    let Some(text) = words.get_str("registers") else {
+        return width_of(words);
+    };
+    if tells_registers(text.as_bytes()) {
+        Ok(Breadth::Chosen(text))
+    } else {
+        Err(Refusal::Registers)
+    }
+}
+
+/// How broad the words allow a drawing to be that do not choose registers: so many places, or as
+/// usual.
+fn width_of<'a>(words: &ArgMatches<'a>) -> Result<Breadth<'a>, Refusal>
+    ensures ok { IfOk result (spec.IsWidthTold (one_text (found_of words.now) (codes "width"))) }
+    ensures err { IfErr result (spec.IsNoWidth (found_of words.now)) }
+{
     match words.try_get_one::<u32>("width") {
         Ok(Some(places)) if 1 <= places && places <= MOST_WIDTH => Ok(Breadth::Places(places)),
         Ok(None) => Ok(Breadth::Usual),

@@ -46,7 +46,7 @@ pub struct Order<'a> {
     /// What to do with each of them.
     pub task: Task,
     /// How broad a drawing may be, where one is made.
-    pub breadth: Breadth,
+    pub breadth: Breadth<'a>,
     /// Whether it is to be told meanwhile how far it has come. A replay and a drawing never tell.
     pub progress: bool,
 }
@@ -183,6 +183,7 @@ fn task_of<O: Opener>(
 fn subject_of<'a>(words: &ArgMatches<'a>, refusal: &Refusal) -> &'a str {
     match refusal {
         Refusal::Bound(bound) => word_at(words, bound.name()),
+        Refusal::Registers => word_at(words, "registers"),
         Refusal::Pattern(place, standing) => {
             match words.get_strs("PATTERN").unwrap_or(&[]).get(*place) {
                 Some(text) => standing_at(text, *standing),

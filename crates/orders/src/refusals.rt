@@ -12,6 +12,9 @@ use std::io;
 use std::io::Write;
 use thiserror::Error;
 
+/// How registers are written.
+const REGISTERS: &str = "numbers from 0 to 63 and ranges of them, parted by commas, as 0,3-5";
+
 /// How a schedule is written.
 const LETTERS: &str =
     "write at most 64 letters parted by one space, each R or C and the number of a process, 0 to 7, or . for none";
@@ -32,6 +35,9 @@ pub enum Refusal {
     /// A bound whose text is no number, or not one that it takes.
     #[error("bound")]
     Bound(Bound),
+    /// A text that tells no registers.
+    #[error("registers")]
+    Registers,
     /// A word that is the text of no schedule.
     #[error("schedule")]
     Schedule,
@@ -67,6 +73,7 @@ impl Reason for Refusal {
             Refusal::Words
             | Refusal::Setting(_)
             | Refusal::Bound(_)
+            | Refusal::Registers
             | Refusal::Schedule
             | Refusal::Pattern(_, _)
             | Refusal::PatternLine(_, _)
@@ -88,6 +95,9 @@ impl Reason for Refusal {
                 bound.least(),
                 bound.most()
             ),
+            Refusal::Registers => {
+                writeln!(err, "--registers takes {REGISTERS}, not '{subject}'")
+            }
             Refusal::Schedule => write_line("this is no schedule: ", LETTERS, err),
             Refusal::Pattern(place, standing) => writeln!(
                 err,

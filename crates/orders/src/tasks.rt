@@ -93,7 +93,7 @@ pub struct Question<'a> {
     /// What to do with it.
     pub task: &'a Task,
     /// How broad a drawing may be.
-    pub breadth: Breadth,
+    pub breadth: Breadth<'a>,
     /// Whether it is to be told meanwhile how far it has come.
     pub progress: bool,
 }

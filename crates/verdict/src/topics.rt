@@ -10,5 +10,5 @@ pub struct Topic<'a> {
     /// The text.
     pub text: &'a [u8],
     /// How broad a drawing may be.
-    pub breadth: Breadth,
+    pub breadth: Breadth<'a>,
 }
