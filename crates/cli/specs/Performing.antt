@@ -51,7 +51,8 @@ pub record AreAnswered {W R : Type 0} (contents : W → Option (List ℕ)) (rema
     (opens : List ℕ → Option R → Type 0) (order : orders.Order) (old new : W) (status : ℕ) : Type 0 where
   pub between : W
   pub counts : FileCounts
-  pub answered : FoldsTo (IsNext contents remaining fails opens order.task order.breadth) (old, no_counts) (map (λ path. path.now) order.paths.items) (between, counts)
+  pub answered : FoldsTo (IsNext contents remaining fails opens order.task order.breadth) (old, no_counts)
+      (map (λ path. path.now) order.paths.items) (between, counts)
   pub summed : AreSummed contents between new counts status
 
 -- the version is written, and where it is not written whole the status is 3

@@ -73,7 +73,8 @@ text_of_both = refl
 -- ---- names of registers
 
 -- the first line that names a register counts; two words are no name, nor are more than 16 bytes
-pub turn_is_named : register_names (codes "registers 2\n  # register 1: turn\n# register 1: other\n# register 0: two words\n") 2 ≡ None ∷ Some (codes "turn") ∷ []
+pub turn_is_named : register_names (codes "registers 2\n  # register 1: turn\n# register 1: other\n# register 0: two words\n") 2
+    ≡ None ∷ Some (codes "turn") ∷ []
 unfolding digits
 turn_is_named = refl
 
@@ -140,7 +141,8 @@ all_are_shown = refl
 pub one_and_three_to_five : map (is_told (codes "1,3-5")) (0 ∷ 1 ∷ 2 ∷ 3 ∷ 5 ∷ 6 ∷ []) ≡ false ∷ true ∷ false ∷ true ∷ true ∷ false ∷ []
 one_and_three_to_five = refl
 
-pub which_tell_registers : map tells_registers (codes "0,63" ∷ codes "5-5" ∷ codes "5-4" ∷ codes "64" ∷ codes "0,,1" ∷ codes "01" ∷ [] ∷ []) ≡ true ∷ true ∷ false ∷ false ∷ false ∷ false ∷ false ∷ []
+pub which_tell_registers : map tells_registers (codes "0,63" ∷ codes "5-5" ∷ codes "5-4" ∷ codes "64" ∷ codes "0,,1" ∷ codes "01" ∷ [] ∷ [])
+    ≡ true ∷ true ∷ false ∷ false ∷ false ∷ false ∷ false ∷ []
 which_tell_registers = refl
 
 -- ---- how many are left out

@@ -13,8 +13,8 @@ use itoa::Buffer;
 use regmodel::{End, ProcEnd};
 use std::marker::Model;
 
-/// The most bytes of a cell: those of a scan of 64 numbers of ten digits from a register with a name
-/// to another one, by which its process is done with eight of them.
+/// The most bytes of a cell: those of a scan of 64 numbers of ten digits, between registers that have
+/// names, by which its process is done with eight of them.
 pub(crate) const MOST_CELL_BYTES: usize = 848;
 
 /// The most bytes of a number.
@@ -88,8 +88,8 @@ impl Cell {
         }
     }
 
-    /// The same with the registers of a scan last: the first one, and how many they are; or the first
-    /// and the last one, where one of these has a name.
+    /// The same with the registers of a scan last: the first one, and how many they are; or the
+    /// first and the last one, where one of these has a name.
     fn with_span(self, names: &Names<'_>, first: u8, count: u8) -> Cell
         requires { length self ≤ 5 }
         ensures text { result ≡ self ++ texts.span_text names.now first count }

@@ -7,8 +7,8 @@ ghost use Rattle.drawing.specs.Choices as spec;
 use reglang::{number_in, word_of};
 use regmodel::limits::MOST_REGISTERS;
 
-/// Whether a text tells registers: each of its parts, between commas, is the number of a register, or
-/// two with a dash between them of which the second is no lower.
+/// Whether a text tells registers: each of its parts, between commas, is the number of a register,
+/// or two with a dash between them of which the second is no lower.
 pub fn tells_registers(text: &[u8]) -> bool
     ensures { result ≡ spec.tells_registers text.now }
 {

@@ -129,8 +129,8 @@ pub(crate) fn bounds_of(
     }
 }
 
-/// How broad the words allow a drawing to be: whole, or with some registers alone, or so many places,
-/// or as usual.
+/// How broad the words allow a drawing to be: whole, or with some registers alone, or so many
+/// places, or as usual.
 pub(crate) fn breadth_of<'a>(words: &ArgMatches<'a>) -> Result<Breadth<'a>, Refusal>
     ensures ok { IfOk result (spec.IsBreadthTold (found_of words.now)) }
     ensures err { IfErr result (spec.IsBreadthRefused (found_of words.now)) }

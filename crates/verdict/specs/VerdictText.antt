@@ -85,7 +85,8 @@ show_text path w = codes "\nregtry show " ++ operand_text path ++ codes " '" ++ 
 -- that a schedule fails and why, the schedule as a drawing that may be so broad, and the command that draws it again
 abbrev pub breach_text : List ℕ → List ℕ → Breadth → Bool → Breach → List ℕ
 breach_text path text breadth is_shortest breach =
-    failing_text path text is_shortest (length breach.schedule) breach.cause breach.onset ++ drawing_text breadth text breach.drawing ++ show_text path breach.schedule
+    failing_text path text is_shortest (length breach.schedule) breach.cause breach.onset ++ drawing_text breadth text breach.drawing
+    ++ show_text path breach.schedule
 
 -- that a schedule is cut off, what it breaks, and the command that draws it
 abbrev pub cut_text : List ℕ → List ℕ → Cut → List ℕ
