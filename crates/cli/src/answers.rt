@@ -48,14 +48,15 @@ pub fn answer<H: Threads + Wait + Sync, R: Readable, W: Write, E: Write + Send>(
         (W.contents out.old) (W.contents out.new) result }
     ensures answered { result ≤ 1
         → IsAnswered question.now.path.now question.now.task.now question.now.breadth
-        (option_and_then R.remaining (result_ok file)) (W.contents out.old) (W.contents out.new) result }
+        (option_and_then R.remaining (result_ok file)) (W.contents out.old) (W.contents out.new)
+        result }
     ensures refused { 2 ≤ result
         → IsRefusedWith W.contents R.remaining R.fails
         (λ fault. question.now.progress ≡ false → is_in_words question.now.task.now ≡ true
         → IsTold question.now.path.now (option_and_then R.remaining (result_ok file)) fault
         (E.contents err.old) (E.contents err.new))
-        question.now.path.now question.now.task.now question.now.breadth (result_ok file) out.old out.new
-        result }
+        question.now.path.now question.now.task.now question.now.breadth (result_ok file) out.old
+        out.new result }
     ensures silent { result ≡ 2 → out.new ≡ out.old }
     ensures cut_short { result ≡ 3
         → (out.new ≡ out.old)

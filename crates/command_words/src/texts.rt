@@ -139,12 +139,12 @@ on with what it found in each, or `crash`; behind the last letter of a process h
 end by it, as `, done 4` or `, fault 2`; then what each register holds after it, r0 first, with a
 star where the letter changed it. The line of step 0 has what they hold at the start. Below the
 letters a line says how each process stands, and then the lowest process at fault is told, if any,
-and why. A comment line of the source, as `# register 0: flag[0]`, gives a register a name of at most 16
-characters, which stands there in place of its number.
+and why. A comment line of the source, as `# register 0: flag[0]`, gives a register a name of at most
+16 characters, which stands there in place of its number.
 
 A line is at most 80 places long where there are at most two processes, else 132. Registers are left out until that holds or none is left,
-first those that no letter reads or writes, then those that no letter writes, and each time the last one; a line below then says how many. With --all none is left out,
-and with --registers 0,3-5 those are drawn and no others.
+first those that no letter reads or writes, then those that no letter writes, and each time the last one; a line
+below then says how many. With --all none is left out, and with --registers 0,3-5 those are drawn and no others.
 
 Statuses:
   0  the schedule was drawn

@@ -63,7 +63,8 @@ impl Finding {
     /// Writes what was found of the text in the file of a path.
     pub fn write<W: Write>(&self, topic: Topic<'_>, out: &mut W) -> Result<(), WriteFault>
         ensures { Wrote W.contents out.old out.new
-            (finding_text topic.entry.path.now topic.entry.text.now topic.entry.breadth self.now) result }
+            (finding_text topic.entry.path.now topic.entry.text.now topic.entry.breadth self.now)
+            result }
     {
         match self {
             Finding::Verdict(verdict, is_shortest) => {

@@ -2,8 +2,7 @@
 
 use drawing::Breadth;
 
-/// Of what is told: the text in the file of a path, and how broad a drawing of its schedules may
-/// be.
+/// Of what is told: the text in the file of a path, and how broad a drawing of a schedule may be.
 #[derive(Clone, Copy)]
 pub struct Topic<'a> {
     /// The path.
