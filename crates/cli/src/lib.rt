@@ -11,6 +11,7 @@ mod file_counts;
 mod listings;
 mod machines;
 mod merges;
+mod outputs;
 mod program;
 mod progress;
 mod runs;
@@ -24,4 +25,5 @@ pub use orders::{
     Bound, FileFault, Input, Opener, Order, Question, Reason, Refusal, Request, Task, command,
     input_of, refuse, words_of,
 };
+pub use outputs::{Output, Watched};
 pub use program::perform;
