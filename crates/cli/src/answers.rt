@@ -15,6 +15,7 @@ ghost use Rattle.orders.specs.Orders.{is_in_words};
 ghost use Rattle.orders.specs.Reasons.{IsStatusOf};
 
 use crate::faults::AnswerFault;
+use crate::outputs::{Output, tell_unwritten};
 use crate::progress::Progress;
 use crate::tasks::found;
 use explanations::write_explanation;
@@ -32,7 +33,7 @@ use verdict::Topic;
 /// and 3 `err` is told why, and `out` is as before, unless it did not take the whole text: then it
 /// took a beginning of it, and the status is 3. `file` tells why it could not be opened, where it
 /// was not. Where progress is asked for, `err` is told of it before.
-pub fn answer<H: Threads + Wait + Sync, R: Readable, W: Write, E: Write + Send>(
+pub fn answer<H: Threads + Wait + Sync, R: Readable, W: Output, E: Write + Send>(
     rt: &H,
     alloc: Global,
     question: &Question<'_>,
@@ -69,13 +70,18 @@ pub fn answer<H: Threads + Wait + Sync, R: Readable, W: Write, E: Write + Send>(
     };
     match written {
         Ok(fails) => u8::from(fails),
-        Err(fault) => told(question, &fault, err),
+        Err(fault) => told(question, &fault, out, err),
     }
 }
 
 /// Tells why there is no answer, and gives the status. A source that is refused in words is
-/// explained already.
-fn told<E: Write>(question: &Question<'_>, fault: &AnswerFault, err: &mut E) -> u8
+/// explained already; and who read an answer in words and has gone wants no word.
+fn told<W: Output, E: Write>(
+    question: &Question<'_>,
+    fault: &AnswerFault,
+    out: &W,
+    err: &mut E,
+) -> u8
     ensures status { IsStatusOf status_of fault.now result }
     ensures explained { is_in_words question.now.task.now ≡ true → is_of_source fault.now ≡ true
         → err.new ≡ err.old }
@@ -84,12 +90,15 @@ fn told<E: Write>(question: &Question<'_>, fault: &AnswerFault, err: &mut E) -> 
     if subject.is_some() && fault.is_of_source() {
         return fault.status();
     }
-    refuse(fault, subject, err)
+    match (subject, fault) {
+        (Some(subject), AnswerFault::Write) => tell_unwritten(fault, subject, out, err),
+        _ => refuse(fault, subject, err),
+    }
 }
 
 /// Writes what is found of the source in the file. Whether a schedule fails. A source that is
 /// refused is explained on `err` where refusals are told in words.
-fn written<H: Threads + Wait + Sync, R: Readable, W: Write, E: Write + Send>(
+fn written<H: Threads + Wait + Sync, R: Readable, W: Output, E: Write + Send>(
     rt: &H,
     alloc: Global,
     question: &Question<'_>,
@@ -163,7 +172,7 @@ fn explained<E: Write>(
 }
 
 /// Writes what was found of the text in the file of a path, and has the writer pass it on.
-fn tell<W: Write>(topic: Topic<'_>, finding: &Finding, out: &mut W) -> Result<(), AnswerFault>
+fn tell<W: Output>(topic: Topic<'_>, finding: &Finding, out: &mut W) -> Result<(), AnswerFault>
     ensures { Tells (W.contents out.old) (W.contents out.new)
         (finding_text topic.entry.path.now topic.entry.text.now topic.entry.breadth finding.now)
         result }

@@ -14,6 +14,7 @@ mod first_findings;
 mod listings;
 mod machines;
 mod merges;
+mod outputs;
 mod program;
 mod progress;
 mod runs;
@@ -27,4 +28,5 @@ pub use orders::{
     Bound, FileFault, Input, Opener, Order, Question, Reason, Refusal, Request, Task, command,
     input_of, refuse, words_of,
 };
+pub use outputs::{Output, Watched};
 pub use program::perform;

@@ -8,6 +8,7 @@ ghost use Rattle.cli.specs.Merges.{AreMergedIn, IsUnmerged};
 ghost use Rattle.cli.specs.Written.{Tells};
 
 use crate::faults::AnswerFault;
+use crate::outputs::{Output, tell_unwritten};
 use merging::{Merged, merge_parts, write_merged};
 use orders::{FileFault, Refusal, refuse};
 use std::alloc::Global;
@@ -18,7 +19,7 @@ use std::io::{BufReader, Read, Write};
 /// not be done. At 2 and 3 a line on `err` says why, and `out` is as before, unless it did not take
 /// the whole text: then it took a beginning of it, and the status is 3. `file` tells why it could
 /// not be opened, where it was not.
-pub fn merge_file<R: Read + Drop, W: Write, E: Write>(
+pub fn merge_file<R: Read + Drop, W: Output, E: Write>(
     alloc: Global,
     path: &str,
     file: Result<R, FileFault>,
@@ -33,7 +34,7 @@ pub fn merge_file<R: Read + Drop, W: Write, E: Write>(
     };
     match tell(&merged, out) {
         Ok(()) => u8::from(merged.fails()),
-        Err(fault) => refuse(&fault, Some(path), err),
+        Err(fault) => tell_unwritten(&fault, path, out, err),
     }
 }
 

@@ -9,6 +9,7 @@ use crate::answers::answer;
 use crate::faults::AnswerFault;
 use crate::file_counts::FileCounts;
 use crate::merges::merge_file;
+use crate::outputs::{Output, tell_unwritten};
 use command_words::VERSION;
 use orders::{Opener, Order, Question, Request, refuse};
 use std::alloc::Global;
@@ -24,7 +25,7 @@ use texts::write;
 /// it could not be done. At 2 and 3 `err` is told why, and `out` is as before, unless it did not
 /// take the whole answer: then it took a beginning of it. Of several files `out` is told last how
 /// many have which status.
-pub fn perform<H: Threads + Wait + Sync, O: Opener, W: Write, E: Write + Send>(
+pub fn perform<H: Threads + Wait + Sync, O: Opener, W: Output, E: Write + Send>(
     rt: &H,
     alloc: Global,
     request: Result<Request<'_>, u8>,
@@ -44,7 +45,7 @@ pub fn perform<H: Threads + Wait + Sync, O: Opener, W: Write, E: Write + Send>(
 }
 
 /// Writes the version on `out`, and gives the status: 0, or 3 where it was not written whole.
-fn tell_version<W: Write, E: Write>(out: &mut W, err: &mut E) -> u8
+fn tell_version<W: Output, E: Write>(out: &mut W, err: &mut E) -> u8
     ensures { IsVersionTold W.contents out.old out.new result }
 {
     if write(&("regtry ", VERSION, "\n"), out).is_err() {
@@ -58,7 +59,7 @@ fn tell_version<W: Write, E: Write>(out: &mut W, err: &mut E) -> u8
 
 /// Answers each file of an order in turn, tells of several how many were answered in which way, and
 /// gives the highest status.
-fn answer_each<H: Threads + Wait + Sync, O: Opener, W: Write, E: Write + Send>(
+fn answer_each<H: Threads + Wait + Sync, O: Opener, W: Output, E: Write + Send>(
     rt: &H,
     alloc: Global,
     order: &Order<'_>,
@@ -74,7 +75,7 @@ fn answer_each<H: Threads + Wait + Sync, O: Opener, W: Write, E: Write + Send>(
 }
 
 /// Answers each file of an order in turn, and counts them.
-fn answers_of<H: Threads + Wait + Sync, O: Opener, W: Write, E: Write + Send>(
+fn answers_of<H: Threads + Wait + Sync, O: Opener, W: Output, E: Write + Send>(
     rt: &H,
     alloc: Global,
     order: &Order<'_>,
@@ -103,17 +104,17 @@ fn answers_of<H: Threads + Wait + Sync, O: Opener, W: Write, E: Write + Send>(
 
 /// Writes how several files were answered, and gives the highest status, or 3 where that was not
 /// written whole. Of one file nothing is written.
-fn tell_counts<W: Write, E: Write>(counts: &FileCounts, out: &mut W, err: &mut E) -> u8
+fn tell_counts<W: Output, E: Write>(counts: &FileCounts, out: &mut W, err: &mut E) -> u8
     ensures { AreSummed W.contents out.old out.new counts.now result }
 {
     if counts.files <= 1 {
         return counts.worst;
     }
     if write(counts, out).is_err() {
-        return refuse(&AnswerFault::Write, Some(""), err);
+        return tell_unwritten(&AnswerFault::Write, "", out, err);
     }
     if out.flush().is_err() {
-        return refuse(&AnswerFault::Write, Some(""), err);
+        return tell_unwritten(&AnswerFault::Write, "", out, err);
     }
     counts.worst
 }

@@ -6,7 +6,7 @@ ghost use Rattle.std.specs.Prelude.{◌≡◌, Some, true};
 ghost use Rattle.orders.specs.Inputs.{is_standard};
 ghost use Rattle.orders.specs.declared.inputs.Input.TheVariants as input;
 
-use cli::{FileFault, Input, Opener, command, input_of, perform, words_of};
+use cli::{FileFault, Input, Opener, Watched, command, input_of, perform, words_of};
 use std::fs;
 use std::fs::File;
 use std::io::Stdin;
@@ -38,7 +38,7 @@ fn main(rt: HostRuntime) -> ExitCode {
         rt: &rt,
         standard: rt.stdin(),
     };
-    let (mut out, mut err) = (rt.stdout(), rt.stderr());
+    let (mut out, mut err) = (Watched::new(rt.stdout()), rt.stderr());
     let words = words_of(&rt);
     let request = command(&rt, &words, &system, &mut err);
     ExitCode::from(perform(&rt, rt.alloc(), request, &system, &mut out, &mut err))

@@ -3,7 +3,7 @@
 
 ghost use Rattle.std.specs.Prelude.{◌≡◌, Some};
 
-use cli::{FileFault, Opener, Refusal, Request, Task, command, perform};
+use cli::{FileFault, Opener, Output, Refusal, Request, Task, Watched, command, perform};
 use std::alloc::Global;
 use std::io;
 use std::io::Write;
@@ -58,6 +58,15 @@ const TELLING: [&str; 3] = [
     "regtry check FILE --crashes 1 --workers 2",
 ];
 
+/// Words whose answer is read by nobody, and what is told of that.
+const LEAVING: [(&str, &[u8]); 2] = [
+    ("regtry check FILE --length 2 --workers 1", b""),
+    (
+        "regtry explore FILE --length 2 --crashes 0 --workers 1 --cut 0 --room 0",
+        b"regtry: write\n",
+    ),
+];
+
 /// A file that is opened by each path.
 #[derive(Drop)]
 struct OneFile(&'static [u8]);
@@ -100,6 +109,36 @@ impl Write for Stuck {
     }
 }
 
+/// A writer whose reader has gone.
+#[derive(Drop)]
+struct Left;
+
+impl Write for Left {
+    fn write(&mut self, _buf: &[u8]) -> io::Result<usize> {
+        Err(io::Error::from(io::ErrorKind::BrokenPipe))
+    }
+
+    fn flush(&mut self) -> io::Result<()> {
+        Err(io::Error::from(io::ErrorKind::BrokenPipe))
+    }
+}
+
+impl Output for Closed {
+    ghost gone = { λ _. false };
+
+    fn has_gone(&self) -> bool {
+        false
+    }
+}
+
+impl Output for Stuck {
+    ghost gone = { λ _. false };
+
+    fn has_gone(&self) -> bool {
+        false
+    }
+}
+
 /// The list of these words.
 fn list_of(alloc: Global, words: Words) -> Result<Vec<&'static str>, Refusal> {
     let mut list = Vec::new(alloc);
@@ -113,7 +152,7 @@ fn list_of(alloc: Global, words: Words) -> Result<Vec<&'static str>, Refusal> {
 }
 
 /// The status of words on a file, where standard output and standard error are these.
-fn asked<H: Threads + Wait + Sync + AllocGlobal, W: Write, E: Write + Send>(
+fn asked<H: Threads + Wait + Sync + AllocGlobal, W: Output, E: Write + Send>(
     rt: &H,
     words: Words,
     file: &'static [u8],
@@ -127,7 +166,7 @@ fn asked<H: Threads + Wait + Sync + AllocGlobal, W: Write, E: Write + Send>(
 }
 
 /// Asserts that a fault of this writer is told.
-fn assert_fault_told<H: Abort + Threads + Wait + Sync + AllocGlobal, W: Write>(
+fn assert_fault_told<H: Abort + Threads + Wait + Sync + AllocGlobal, W: Output>(
     rt: &H,
     words: Words,
     out: &mut W,
@@ -151,6 +190,16 @@ fn output_that_is_not_taken_is_a_write_fault(rt: HostRuntime) {
 fn output_that_is_not_passed_on_is_a_write_fault(rt: HostRuntime) {
     for words in PRINTING {
         assert_fault_told(&rt, words, &mut Stuck);
+    }
+}
+
+#[test]
+fn a_reader_that_has_gone_is_told_by_the_status_alone(rt: HostRuntime) {
+    for (first, line) in LEAVING {
+        let mut err = Vec::new(rt.alloc());
+        let words = Words { first, last: None };
+        let status = asked(&rt, words, SPLITTER, &mut Watched::new(Left), &mut err);
+        assert!(rt; (status, err.as_slice()) == (3, line));
     }
 }
 

@@ -2,3 +2,5 @@ mod Beginnings
 mod BrokenChecks
 mod Causes
 mod GapRows
+mod NumbersEmitted
+mod VainPatterns

@@ -13,7 +13,7 @@ use Rattle.verdict.specs.Excesses.{first_excess}
 use Rattle.verdict.specs.Faults.{first_fault}
 use Rattle.verdict.specs.Gaps.{want_of}
 use Rattle.verdict.specs.ShellWords.{operand_text}
-use Rattle.verdict.specs.WayText.{excess_text, match_text, nowhere_text}
+use Rattle.verdict.specs.WayText.{excess_text, match_text, nowhere_text, shortfall_text}
 
 -- a process that took no step
 abbrev idle : End → ProcEnd
@@ -73,6 +73,16 @@ no_more_crashes = refl
 pub second_asks : excess_text 2 (Some 2) ≡ codes "Pattern 2 asks for more crashes than there may be: give a greater --crashes.\n"
 unfolding digits
 second_asks = refl
+
+pub second_in_vain : shortfall_text 2 (Some (record { pattern = 2; process = 1; asked = 2; most = 1 }))
+    ≡ codes "Pattern 2 cannot match: it asks for 2 numbers of process 1, which emits at most 1.\n"
+unfolding digits
+second_in_vain = refl
+
+pub emits_none : shortfall_text 1 (Some (record { pattern = 1; process = 0; asked = 1; most = 0 }))
+    ≡ codes "The pattern cannot match: it asks for 1 number of process 0, which emits none.\n"
+unfolding digits
+emits_none = refl
 
 pub path_as_it_stands : operand_text (codes "examples/in_order.reg") ≡ codes "examples/in_order.reg"
 path_as_it_stands = refl

@@ -1,6 +1,8 @@
 pub mod Breaches
 pub mod Demands
 pub mod Drawn
+pub mod EmissionExamples
+pub mod Emissions
 pub mod Examples
 pub mod Excesses
 pub mod FaultText
@@ -9,6 +11,7 @@ pub mod Gaps
 pub mod Listings
 pub mod Onsets
 pub mod ShellWords
+pub mod Shortfalls
 pub mod VerdictText
 pub mod Verdicts
 pub mod WayText

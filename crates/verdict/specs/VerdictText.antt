@@ -1,5 +1,5 @@
 -- Whether a source holds, in words.
-use Rattle.std.specs.Prelude.{ℕ, ◌==◌, Bool, false, if◌then◌else◌, List, [], ◌++◌, length, Option, Some, None, codes, decimal}
+use Rattle.std.specs.Prelude.{ℕ, ◌==◌, Bool, if◌then◌else◌, List, [], ◌++◌, length, Option, Some, None, codes, decimal}
 use Rattle.std.specs.List.{flat_map, list_any}
 use Rattle.regmodel.specs.declared.clauses.Subject.{Subject}
 use Rattle.regmodel.specs.declared.clauses.Subject.TheVariants.{Named, Done}

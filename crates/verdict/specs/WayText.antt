@@ -1,12 +1,13 @@
 -- Which schedule leads to an outcome that was looked for, in words.
-use Rattle.std.specs.Prelude.{ℕ, ◌==◌, Bool, false, if◌then◌else◌, List, [], ◌++◌, length, Option, Some, None, codes, decimal}
+use Rattle.std.specs.Prelude.{ℕ, ◌==◌, Bool, if◌then◌else◌, List, [], ◌++◌, length, Option, Some, None, codes, decimal}
 use Rattle.regmodel.specs.declared.outcomes.ProcEnd.{ProcEnd}
 use Rattle.texts.specs.OutcomeText.{outcome_text}
 use Rattle.drawing.specs.declared.breadths.Breadth.{Breadth}
 use Rattle.drawing.specs.DrawingText.{drawing_text}
 use Rattle.patterns.specs.PatternText.{pattern_text}
 use Rattle.patterns.specs.declared.matching.Match.{Match}
-use Rattle.verdict.specs.VerdictText.{bounds_text, letters_text, show_text}
+use Rattle.verdict.specs.VerdictText.{bounds_text, counted, letters_text, show_text}
+use Rattle.verdict.specs.declared.shortfalls.Shortfall.{Shortfall}
 use Rattle.verdict.specs.declared.ways.Discovery.{Discovery}
 use Rattle.verdict.specs.declared.ways.Way.{Way}
 
@@ -52,10 +53,23 @@ excess_text sought excess = elim excess [
   | None ↦ []
 ]
 
+-- how many numbers a process emits at most
+abbrev pub most_text : ℕ → List ℕ
+most_text most = if most == 0 then codes "none" else codes "at most " ++ decimal most
+
+-- which pattern asks for more numbers than a process emits, where one does
+abbrev pub shortfall_text : ℕ → Option Shortfall → List ℕ
+shortfall_text sought shortfall = elim shortfall [
+  | Some s ↦ pattern_told sought s.pattern ++ codes " cannot match: it asks for " ++ counted s.asked (codes "number") (codes "s") ++ codes " of process "
+      ++ decimal s.process ++ codes ", which emits " ++ most_text s.most ++ codes ".\n"
+  | None ↦ []
+]
+
 -- what is told of a source in the file of this path
 abbrev pub discovery_text : List ℕ → List ℕ → Breadth → Discovery → Bool → List ℕ
 discovery_text path text breadth discovery is_shortest =
     elim discovery.way [
       | Some way ↦ way_text path text breadth discovery.sought is_shortest way
       | None ↦ nowhere_text path discovery.sought discovery.least.length discovery.least.crashes ++ excess_text discovery.sought discovery.excess
+          ++ shortfall_text discovery.sought discovery.shortfall
     ]

@@ -5,13 +5,16 @@
 mod breaches;
 mod counts;
 mod demands;
+mod emissions;
 mod excesses;
 mod faults;
 mod gaps;
+pub mod laws;
 mod listings;
 mod onsets;
 mod reach;
 mod shell_words;
+mod shortfalls;
 mod show_commands;
 mod spellings;
 mod topics;
@@ -21,9 +24,11 @@ mod ways;
 
 pub use breaches::{Breach, Cause, Cut, Held, Verdict, breach_for, verdict_on};
 pub use demands::{Asked, Demands, Strictness, without_ended};
+pub use emissions::emissions_of;
 pub use faults::{FaultLine, ProcessFault, first_fault};
 pub use gaps::Gap;
 pub use listings::write_listing;
+pub use shortfalls::{Shortfall, found_in_vain};
 pub use spellings::Spelling;
 pub use topics::Topic;
 pub use verdict_text::write_verdict;

@@ -5,7 +5,8 @@ ghost use Rattle.texts.specs.Appending.{Wrote};
 ghost use Rattle.verdict.specs.WayText as spec;
 ghost use Rattle.verdict.specs.WayText.{discovery_text};
 
-use crate::counts::{Bounds, Letters};
+use crate::counts::{Bounds, Counted, Letters};
+use crate::shortfalls::Shortfall;
 use crate::show_commands::ShowCommand;
 use crate::topics::Topic;
 use crate::ways::{Discovery, Way};
@@ -87,6 +88,21 @@ impl Text for NoShorter {
     }
 }
 
+/// A pattern of so many, by its number; the only one without.
+#[derive(Clone, Copy)]
+struct Numbered(u64, u64);
+
+impl Text for Numbered {
+    ghost text = { λ n. spec.pattern_told n.0 n.1 };
+
+    fn put<W: Write>(&self, out: &mut W, block: &mut Block) -> Result<(), WriteFault> {
+        if self.0 == 1 {
+            return "The pattern".put(out, block);
+        }
+        ("Pattern ", self.1).put(out, block)
+    }
+}
+
 /// Which of so many patterns, by its number, asks for more crashes than there may be, where one
 /// does.
 #[derive(Clone, Copy)]
@@ -100,18 +116,55 @@ impl Text for Excess {
             return Ok(());
         };
         let asks = " asks for more crashes than there may be: give a greater --crashes.\n";
-        if self.0 == 1 {
-            return ("The pattern", asks).put(out, block);
+        (Numbered(self.0, number), asks).put(out, block)
+    }
+}
+
+/// How many numbers a process emits at most.
+#[derive(Clone, Copy)]
+struct Most(u64);
+
+impl Text for Most {
+    ghost text = { λ m. spec.most_text m.0 };
+
+    fn put<W: Write>(&self, out: &mut W, block: &mut Block) -> Result<(), WriteFault> {
+        if self.0 == 0 {
+            return "none".put(out, block);
         }
-        ("Pattern ", number, asks).put(out, block)
+        ("at most ", self.0).put(out, block)
+    }
+}
+
+/// Which of so many patterns asks for more numbers than a process emits, where one does.
+#[derive(Clone, Copy)]
+struct InVain(u64, Option<Shortfall>);
+
+impl Text for InVain {
+    ghost text = { λ v. spec.shortfall_text v.0 v.1 };
+
+    fn put<W: Write>(&self, out: &mut W, block: &mut Block) -> Result<(), WriteFault> {
+        let Some(shortfall) = self.1 else {
+            return Ok(());
+        };
+        let pattern = Numbered(self.0, shortfall.pattern);
+        let asked = Counted(shortfall.asked, "number", "s");
+        let asks = (
+            pattern,
+            " cannot match: it asks for ",
+            asked,
+            " of process ",
+        );
+        let most = Most(shortfall.most);
+        (asks, shortfall.process, ", which emits ", most, ".\n").put(out, block)
     }
 }
 
 /// Writes what was found of the source in the file of a path: the least schedule that leads to
 /// an outcome that was looked for, which of several patterns it matches, its drawing and the
 /// command that draws it again; or that none does, how far was looked, and whether a pattern asks
-/// for more crashes than there may be. Where the shortest one
-/// was asked for, that no shorter one does. After a fault the writer has taken a beginning of it.
+/// for more crashes than there may be, or for more numbers than a process emits. Where the shortest
+/// one was asked for, that no shorter one does. After a fault the writer has taken a beginning of
+/// it.
 pub fn write_discovery<W: Write>(
     topic: Topic<'_>,
     discovery: &Discovery,
@@ -153,7 +206,8 @@ pub fn write_discovery<W: Write>(
                 crashes: u64::from(discovery.least.crashes()),
             };
             let nowhere = (path, ": no schedule leads ", Nowhere(sought), bounds);
-            write(&(nowhere, Excess(sought, discovery.excess)), out)
+            let excess = Excess(sought, discovery.excess);
+            write(&(nowhere, excess, InVain(sought, discovery.shortfall)), out)
         }
     }
 }

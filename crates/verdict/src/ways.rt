@@ -1,14 +1,17 @@
 //! A schedule that leads to outcomes that were looked for.
 
-ghost use Rattle.std.specs.Prelude.{◌≡◌, ◌+◌, false, length, map, option_map};
+ghost use Rattle.std.specs.Prelude.{◌≡◌, ◌+◌, ◌≤◌, false, length, map, option_map};
 ghost use Rattle.report.specs.PlainReport.{IsPlainLeast};
 ghost use Rattle.patterns.specs.Matching.{IsFirstMatch, matches_none};
 ghost use Rattle.reglang.specs.Sources.{contents_of, source_programs};
+ghost use Rattle.regmodel.specs.declared.limits.TheConstants.{MOST_PROCESSES};
 ghost use Rattle.verdict.specs.Excesses.{first_excess};
+ghost use Rattle.verdict.specs.Shortfalls.{first_shortfall};
 ghost use Rattle.verdict.specs.Ways.{IsWayFor};
 
 use crate::breaches::drawing_of;
 use crate::excesses::first_excess;
+use crate::shortfalls::{Shortfall, first_shortfall};
 use drawing::Drawing;
 use machine::Machine;
 use patterns::{Match, Pattern, first_match};
@@ -41,20 +44,24 @@ pub struct Discovery {
     /// The number of the first pattern in which more processes have crashed than may crash, counted
     /// from 1: no outcome matches it.
     pub excess: Option<u64>,
+    /// The first pattern that asks for more numbers than a process emits: no outcome matches it.
+    pub shortfall: Option<Shortfall>,
     /// That schedule, drawn.
     pub way: Option<Way>,
 }
 
 /// The least schedule of a source whose outcome matches one of these patterns, drawn, where there
 /// is one, with the first of them that it matches. The machines, one a process, lead to its
-/// drawing. Takes no memory.
+/// drawing, and `most` tells how many numbers each process emits at most. Takes no memory.
 pub fn discovery_on(
     source: &Source,
     machines: Vec<Box<dyn Machine + Send>>,
     settings: Settings,
     patterns: &[Pattern],
+    most: &[usize],
     least: Least,
 ) -> Discovery
+    requires few { length most.now ≤ MOST_PROCESSES }
     requires machines { map program machines.items ≡ source_programs source.now }
     requires found { IsPlainLeast (source_programs source.now) settings.length settings.crashes
         (matches_none patterns.now) least }
@@ -62,6 +69,7 @@ pub fn discovery_on(
     ensures sought { result.sought ≡ length patterns.now }
     ensures excess { result.excess
         ≡ option_map (λ place. place + 1) (first_excess settings.crashes patterns.now) }
+    ensures shortfall { result.shortfall ≡ first_shortfall 1 most.now patterns.now }
     ensures way { IsWayFor (contents_of source.now) patterns.now least.least result.way }
 {
     the_first_refused_is_a_schedule();
@@ -85,6 +93,7 @@ pub fn discovery_on(
         least,
         sought: patterns.len() as u64,
         excess,
+        shortfall: first_shortfall(patterns, most),
         way,
     }
 }

@@ -1,0 +1,89 @@
+-- No outcome matches a pattern that asks for more numbers than a process emits.
+use Rattle.std.proofs.Common.{◌≡◌, ℕ, suc, ◌+◌, ◌≤◌, Bool, true, false, ◌&&◌, cond, List, [], ◌∷◌, Option, Some, None, refl, ap, ◌∙◌, arith, length, map}
+use Rattle.std.proofs.lemmas.Bool.{and_parts, ltb-true}
+use Rattle.std.specs.Prelude.{is_some, nat_lt, not}
+use Rattle.std.specs.List.{find, list_any, range_with_len}
+use Rattle.std.specs.Option.{option_map}
+use Rattle.regmodel.specs.Act.{act_of}
+use Rattle.regmodel.specs.Letters.{Schedule, is_crash_of}
+use Rattle.regmodel.specs.Outcomes.{end_of, outcome_of, proc_end}
+use Rattle.regmodel.specs.Program.{Program}
+use Rattle.regmodel.specs.Replies.{pending_after, pending_at, replies}
+use Rattle.regmodel.specs.Reply.{Replies}
+use Rattle.regmodel.specs.Summary.{first_refused}
+use Rattle.regmodel.specs.declared.accesses.Pending.{Pending}
+use Rattle.regmodel.specs.declared.accesses.Pending.TheVariants as pending
+use Rattle.regmodel.specs.declared.outcomes.End.TheVariants.{Crashed}
+use Rattle.regmodel.specs.declared.outcomes.ProcEnd.{ProcEnd}
+use Rattle.patterns.specs.Matching.{allows, matches, matches_none}
+use Rattle.patterns.specs.declared.standings.Standing.{Standing}
+use Rattle.patterns.specs.declared.standings.Standing.TheVariants as standing
+use Rattle.patterns.proofs.JustOneText.{just_allowed}
+use Rattle.verdict.specs.Emissions.{EmitsAtMost, most_emitted}
+use Rattle.verdict.specs.Shortfalls.{are_in_vain, asked_by, numbers_of, shortfall_in}
+use Rattle.verdict.specs.declared.shortfalls.Shortfall.{Shortfall}
+use Rattle.verdict.proofs.NumbersEmitted.{act_of-emits}
+
+-- how a process stands that emits at most so many numbers
+few_numbers : (most : ℕ) (p : Pending) (crashed : Bool) → EmitsAtMost most p → numbers_of (cond crashed Crashed (end_of p)) ≤ most
+few_numbers most p true h = omega arith
+few_numbers most (pending.Wants a) false h = omega arith
+few_numbers most (pending.Done numbers) false h = h
+few_numbers most (pending.Fault code) false h = omega arith
+
+-- a standing that allows it asks for no more than it has
+asks_no_more : (s : Standing) (end : ProcEnd) → allows s end ≡ true → asked_by s ≤ numbers_of end.fate
+asks_no_more standing.Any end h = omega arith
+asks_no_more standing.Done end h = omega arith
+asks_no_more (standing.Just own) end h = let same = ap (λ e. numbers_of e.fate) ((just_allowed own end).0 h) in omega (arith, same)
+
+-- one process, and those after it
+one_of_them : (most asked : ℕ) (allowed matched : Bool) (this others : Option Shortfall) (found : Shortfall) → (allowed ≡ true → asked ≤ most) → (others ≡ Some found → matched ≡ false)
+    → (b : Bool) → nat_lt most asked ≡ b → cond b this others ≡ Some found → allowed && matched ≡ false
+one_of_them most asked false matched this others found h k b e f = refl
+one_of_them most asked true matched this others found h k true e f = let enough = h refl in absurd (omega (arith, enough, ltb-true most asked e))
+one_of_them most asked true matched this others found h k false e f = k f
+
+-- programs that stand in a list of all from a place on
+abbrev StandFrom : List Program → ℕ → List Program → Type 0
+StandFrom all k rest = (j : ℕ) (s : Replies) → pending_at all (k + j) s ≡ pending_at rest j s
+
+none_from : (all : List Program) (w : Schedule) (rest : List Program) (k : ℕ) → StandFrom all k rest → (standings : List Standing) (number process : ℕ) (found : Shortfall)
+    → shortfall_in number process (map most_emitted rest) standings ≡ Some found → matches standings (map (proc_end all w) (range_with_len k (length rest))) ≡ false
+none_from all w [] k there standings number process found e = absurd (cc e)
+none_from all w (program ∷ rest) k there [] number process found e = absurd (cc e)
+none_from all w (program ∷ rest) k there (s ∷ standings) number process found e =
+    let most = most_emitted program in
+    let own = replies all w k in
+    let place : k ≡ k + 0 = omega arith in
+    let here : pending_at all k own ≡ act_of program own = ap (λ p. pending_at all p own) place ∙ there 0 own in
+    let emits : EmitsAtMost most (pending_after all w k) = rw here (act_of-emits program own) in
+    let few = few_numbers most (pending_after all w k) (list_any (is_crash_of k) w) emits in
+    let next : StandFrom all (k + 1) rest = λ j t. let further : (k + 1) + j ≡ k + suc j = omega arith in ap (λ p. pending_at all p t) further ∙ there (suc j) t in
+    one_of_them most (asked_by s) (allows s (proc_end all w k)) (matches standings (map (proc_end all w) (range_with_len (k + 1) (length rest)))) _ _ found
+    (λ allowed. let asks = asks_no_more s (proc_end all w k) allowed in omega (arith, asks, few))
+    (none_from all w rest (k + 1) next standings number (process + 1) found) (nat_lt most (asked_by s)) refl e
+
+pub none_matches : (programs : List Program) (w : Schedule) (number : ℕ) (pattern : List Standing) (found : Shortfall)
+    → shortfall_in number 0 (map most_emitted programs) pattern ≡ Some found → matches pattern (outcome_of programs w) ≡ false
+none_matches programs w number pattern found = none_from programs w programs 0 (λ j s. let same : 0 + j ≡ j = omega arith in ap (λ p. pending_at programs p s) same) pattern number 0 found
+
+-- ---- where each pattern does
+
+one_in_vain : (programs : List Program) (w : Schedule) (pattern : List Standing) (found : Option Shortfall) → shortfall_in 1 0 (map most_emitted programs) pattern ≡ found → is_some found ≡ true → matches pattern (outcome_of programs w) ≡ false
+one_in_vain programs w pattern None e some = absurd (cc some)
+one_in_vain programs w pattern (Some found) e some = none_matches programs w 1 pattern found e
+
+none_of_them : (programs : List Program) (w : Schedule) (patterns : List (List Standing)) → are_in_vain (map most_emitted programs) patterns ≡ true → list_any (λ pattern. matches pattern (outcome_of programs w)) patterns ≡ false
+none_of_them programs w [] h = refl
+none_of_them programs w (pattern ∷ patterns) h =
+    let found = shortfall_in 1 0 (map most_emitted programs) pattern in
+    let both = and_parts (is_some found) (are_in_vain (map most_emitted programs) patterns) h in
+    rw (one_in_vain programs w pattern found refl both.0) (none_of_them programs w patterns both.1)
+
+none_refused : (programs : List Program) (patterns : List (List Standing)) (schedules : List Schedule) → are_in_vain (map most_emitted programs) patterns ≡ true → find (λ w. not (matches_none patterns (outcome_of programs w))) schedules ≡ None
+none_refused programs patterns [] h = refl
+none_refused programs patterns (w ∷ schedules) h = rw (none_of_them programs w patterns h) (none_refused programs patterns schedules h)
+
+pub none_leads_there : (programs : List Program) (patterns : List (List Standing)) (schedules : List Schedule) → are_in_vain (map most_emitted programs) patterns ≡ true → first_refused programs (matches_none patterns) schedules ≡ None
+none_leads_there programs patterns schedules h = ap (option_map (λ w. (w, outcome_of programs w))) (none_refused programs patterns schedules h)

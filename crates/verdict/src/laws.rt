@@ -1,0 +1,37 @@
+//! Laws of what processes emit, as contracts of functions that do nothing.
+
+ghost use Rattle.std.specs.Prelude.{◌≡◌, ℕ, false, true, List, map, None, Some};
+ghost use Rattle.regmodel.specs.Act.{act_of};
+ghost use Rattle.regmodel.specs.Letters.{Schedule};
+ghost use Rattle.regmodel.specs.Outcomes.{outcome_of};
+ghost use Rattle.regmodel.specs.Program.{Program};
+ghost use Rattle.regmodel.specs.Reply.{Replies};
+ghost use Rattle.regmodel.specs.Summary.{first_refused};
+ghost use Rattle.patterns.specs.Matching.{matches, matches_none};
+ghost use Rattle.patterns.specs.declared.standings.Standing.{Standing};
+ghost use Rattle.verdict.specs.Emissions.{EmitsAtMost, most_emitted};
+ghost use Rattle.verdict.specs.Shortfalls.{are_in_vain, shortfall_in};
+ghost use Rattle.verdict.specs.declared.shortfalls.Shortfall.{Shortfall};
+
+/// A process that is done, whatever it was answered, has emitted no more numbers than its text
+/// lets it.
+pub fn a_process_emits_no_more_than_the_most()
+    ensures { (program : Program) (s : Replies)
+        → EmitsAtMost (most_emitted program) (act_of program s) }
+{}
+
+/// Where each pattern asks for more numbers than a process emits, no schedule leads to any of them.
+pub fn no_schedule_leads_in_vain()
+    ensures { (programs : List Program) (patterns : List (List Standing))
+        (schedules : List Schedule)
+        → are_in_vain (map most_emitted programs) patterns ≡ true
+        → first_refused programs (matches_none patterns) schedules ≡ None }
+{}
+
+/// No schedule leads to a pattern that asks for more numbers than a process emits.
+pub fn no_outcome_matches_a_shortfall()
+    ensures { (programs : List Program) (w : Schedule) (number : ℕ) (pattern : List Standing)
+        (found : Shortfall)
+        → shortfall_in number 0 (map most_emitted programs) pattern ≡ Some found
+        → matches pattern (outcome_of programs w) ≡ false }
+{}
