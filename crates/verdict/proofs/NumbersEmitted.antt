@@ -9,9 +9,9 @@ use Rattle.regmodel.specs.Reply.{Reply, Replies, value_of}
 use Rattle.regmodel.specs.Values.{Env, start_env, Place, InVar, InCell, expr_value, operand_value, and_then, below_or_fault, target_place, store, store_from}
 use Rattle.regmodel.specs.declared.faults.TheConstants.{TOO_MANY_NUMBERS, TOO_MANY_TURNS}
 use Rattle.regmodel.specs.declared.limits.TheConstants.{MOST_NUMBERS, MOST_TURNS}
-use Rattle.regmodel.specs.declared.programs.Expr.{Expr}
-use Rattle.regmodel.specs.declared.programs.Expr.TheVariants.{One, Two}
-use Rattle.regmodel.specs.declared.programs.Operand.TheVariants as operand
+use Rattle.regmodel.specs.declared.statements.Expr.{Expr}
+use Rattle.regmodel.specs.declared.statements.Expr.TheVariants.{One, Two}
+use Rattle.regmodel.specs.declared.statements.Operand.TheVariants as operand
 use Rattle.verdict.specs.Emissions.{EmitsAtMost, most_before, most_emitted, most_from, most_turns}
 
 -- a flow keeps to a limit, where at most so many numbers are emitted after it
