@@ -4,17 +4,18 @@ use Rattle.explorer.proofs.GrownLists.{All-before}
 use Rattle.cli.specs.Understanding.{resumed_of_all}
 use Rattle.cli.proofs.searches.discovered.Goals as goal
 
-pub returns-in_ok-new-clause-found : goal.returns-in_ok-new-clause-found
-returns-in_ok-new-clause-found g c =
+pub returns-clause-found : goal.returns-clause-found
+returns-clause-found g c =
     let patterns = c.as_slice.ensures.value in
     let fit = rw (patterns, ← c.processes.ensures.value) at (sym c.misfit.ensures ∙ c.in_default.is) in
+    let told = c.as_slice-patterns.ensures.value in
     rw c.in_ok-new.ensures.ok (record {
       source = contents_of c.args.run.now.spelling.source.now;
       spelled = c.spells.ensures;
       fit = fit;
       least_is = rw c.discovery_on-discovery.ensures.least c.in_ok-least.ensures.found;
-      sought = rw patterns at c.discovery_on-discovery.ensures.sought;
-      excess = rw patterns at c.discovery_on-discovery.ensures.excess;
-      shortfall = rw (patterns, c.in_ok-most.ensures) at c.discovery_on-discovery.ensures.shortfall;
-      way = rw c.discovery_on-discovery.ensures.least (rw patterns at c.discovery_on-discovery.ensures.way);
+      sought = rw told at c.discovery_on-discovery.ensures.sought;
+      excess = rw told at c.discovery_on-discovery.ensures.excess;
+      shortfall = rw (told, c.as_slice-most.ensures.value, c.in_ok-most.ensures) at c.discovery_on-discovery.ensures.shortfall;
+      way = rw c.discovery_on-discovery.ensures.least (rw told at c.discovery_on-discovery.ensures.way);
     })

@@ -7,4 +7,4 @@ pub returns-in-Ok-clause-found : goal.returns-in-Ok-clause-found
 returns-in-Ok-clause-found g c = rw (c.whole-job.ensures, c.as_slice-patterns.ensures.value) at c.in-Ok.ensures.least
 
 pub returns-in-Some-clause-found : goal.returns-in-Some-clause-found
-returns-in-Some-clause-found g c = rw c.as_slice-patterns.ensures.value at c.found_in_vain.ensures
+returns-in-Some-clause-found g c = rw c.as_slice-patterns.ensures.value at c.in-Some.ensures
