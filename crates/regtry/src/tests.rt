@@ -1,7 +1,7 @@
 //! What no run of the program shows: writers that take nothing or pass nothing on, and what the
 //! words ask for.
 
-ghost use Rattle.std.specs.Prelude.{◌≡◌, Some};
+ghost use Rattle.std.specs.Prelude.{◌≡◌, Some, false};
 
 use cli::{FileFault, Opener, Output, Refusal, Request, Task, Watched, command, perform};
 use std::alloc::Global;
