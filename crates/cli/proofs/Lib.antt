@@ -4,7 +4,6 @@ mod Steps
 mod CountedFiles
 mod CutOffsFound
 mod CutVerdicts
-mod FilesRead
 mod LengthsTried
 mod ShortestFound
 mod SearchesFound

@@ -4,5 +4,3 @@ mod DueSpaces
 mod RowFacts
 mod RegistersRead
 mod TextParts
-mod StatementsPassed
-mod ProcessStops

@@ -4,8 +4,8 @@ ghost use Rattle.drawing.specs.DrawingText.{drawing_text};
 
 use crate::breadths::Breadth;
 use crate::drawings::Drawing;
-use crate::labels::Labels;
 use crate::layout::{columns_shown, widths_of};
+use crate::names::Names;
 use crate::tables::Table;
 use std::io::Write;
 use texts::{Block, Text, WriteFault};
@@ -19,10 +19,9 @@ use texts::{Block, Text, WriteFault};
 pub struct Drawn<'a> {
     /// The drawing.
     pub drawing: &'a Drawing,
-    /// The text of the source, whose comments may give its registers names, and whose lines may be
-    /// told.
+    /// The text of the source, whose comments may give its registers names.
     pub text: &'a [u8],
-    /// How broad it may be, and which columns it has.
+    /// How broad it may be.
     pub breadth: Breadth<'a>,
 }
 
@@ -30,12 +29,11 @@ impl Text for Drawn<'_> {
     ghost text = { λ d. drawing_text d.breadth d.text.now d.drawing.now };
 
     fn put<W: Write>(&self, out: &mut W, block: &mut Block) -> Result<(), WriteFault> {
-        let Breadth { room, lines } = self.breadth;
-        let labels = Labels::told(self.text, self.drawing.start().len(), lines);
-        let widths = widths_of(&labels, self.drawing);
-        let columns = columns_shown(self.drawing, &widths, room);
+        let names = Names::told(self.text, self.drawing.start().len());
+        let widths = widths_of(&names, self.drawing);
+        let columns = columns_shown(self.drawing, &widths, self.breadth);
         let table = Table {
-            labels: &labels,
+            names: &names,
             drawing: self.drawing,
             widths: widths.as_slice(),
             columns: columns.as_slice(),

@@ -2,7 +2,6 @@ pub mod BlockEnds
 pub mod Blocks
 pub mod CellLists
 pub mod KeptStates
-pub mod NumberedBlocks
 pub mod PaddedValues
 pub mod PastReplies
 pub mod Places
@@ -12,5 +11,3 @@ pub mod SparseValues
 pub mod StandingNumbers
 pub mod StoppedPrograms
 pub mod TestBits
-pub mod WalkedAccesses
-pub mod WalkedBlocks

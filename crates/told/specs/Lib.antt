@@ -1,4 +1,3 @@
 pub mod ByteExamples
 pub mod Bytes
 pub mod Numbers
-pub mod Wholes
