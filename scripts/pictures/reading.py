@@ -5,12 +5,13 @@ import shlex
 import subprocess
 from pathlib import Path
 
-HEAD = re.compile(r"(?m)^step  process 0\b.*$")
+HEAD = re.compile(r"(?m)^step  (?:line  )?process 0\b.*$")
 # What a step does: its word, its register, and a value, or of a scan the last register or how many they are.
 ACT = re.compile(r"(write|read|scan|crash)(?: (\S+)(?: (=|\.\.))? (\S+)(?: =[ \d]*)?)?(?:, [df][ \w]*)?")
 CLAIM = re.compile(r": a schedule of \d+ letters? (fails|leads to)(?:, and no shorter one)?(:? .*)")
 SINCE = re.compile(r"(?m)^It fails( from step (\d+) on)\.$")
-SHOW = re.compile(r"(?m)^regtry show (?:-- )?(.+)$")
+# Behind an empty line and the words by which the program was called: the file and the schedule.
+SHOW = re.compile(r"(?m)(?<=\n\n)(?!left out: )\S.*? show (?:-- )?(.+)$")
 NOTE = re.compile(r"(?m)^(?:At its end process|left out: )[^;\n]*")
 # A comment line that gives a process a name, in the form of one that gives a register one.
 NAME = re.compile(r"(?m)^ *# +process +(\d+): +([!-~]{1,16}) *$")
@@ -75,6 +76,8 @@ class Run:
         lines = drawing[HEAD.search(drawing).start() :].splitlines()
         starts = [it.start() for it in re.finditer(r"process \d+|\S+", lines[0])]
         columns = [slice(*it) for it in zip(starts, [*starts[1:], None])]
+        # The column of lines that --lines asks for says nothing of what is drawn here.
+        columns[1:2] = [it for it in columns[1:2] if not lines[0].startswith("step  line  ")]
         heads, *rows = [[line[it].strip() for it in columns] for line in lines]
         first, last = len(re.findall(r"process \d", lines[0])) + 1, [it[0] for it in rows + [[""]]].index("")
         self.ends = rows[last][1:first] if rows[last:] else [""]

@@ -35,6 +35,21 @@ def hurt(dice, parts, others):
     return [*parts[:place], *instead, *parts[place + 1 :]]
 
 
+def spread(dice, folder, parts):
+    """The words and the standard input by which these parts are merged that stand, one or more, in files, of which one may be that."""
+    words, given = ["merge"], b""
+    standard = dice.randrange(2 * len(parts) + 1)
+    while parts:
+        count = dice.randint(1, len(parts))
+        text, parts = b"".join(parts[:count]), parts[count:]
+        if len(words) - 1 == standard:
+            words, given = [*words, "-"], text
+        else:
+            words = [*words, f"parts-{len(words)}"]
+            (folder / words[-1]).write_bytes(text)
+    return words, given
+
+
 def faults_of_parts(dice, folder, settings, alone):
     """What is wrong with the parts of an exploration that answers so, merged, and merged where one of them is hurt."""
     count, more = dice.randint(1, 9), dice.choice([(), ("--least",)])
@@ -49,13 +64,18 @@ def faults_of_parts(dice, folder, settings, alone):
     answer = run(folder, ["merge", "-"], b"".join(parts))
     if answer != wanted:
         yield f"{count} parts at cut {shared['cut']} are merged to {answer}, and the whole is {wanted}"
+    words, given = spread(dice, folder, parts)
+    answer = run(folder, words, given)
+    if answer != wanted:
+        yield f"{count} parts at cut {shared['cut']}, {words}, are merged to {answer}, and the whole is {wanted}"
     others = [
         part for _, part, _ in parts_of(dice, folder, {**shared, "cut": shared["cut"] + 1}, count + 1, more)
     ]
-    answer = run(folder, ["merge", "-"], b"".join(hurt(dice, parts, others)))
+    words, given = spread(dice, folder, hurt(dice, parts, others))
+    answer = run(folder, words, given)
     yield from faults_of(answer)
     if answer[0] != 2:
-        yield f"parts of which one is hurt are merged to {answer}"
+        yield f"parts of which one is hurt, {words}, are merged to {answer}"
     given = bytearray(b"".join(parts))
     given[dice.randrange(len(given))] = dice.randrange(256)
     yield from faults_of(run(folder, ["merge", "-"], bytes(given)))

@@ -10,7 +10,9 @@ PROGRAM = TOP / "crates" / "regtry" / "out" / "regtry"
 def run(folder, words, given=b""):
     """The status of the program, negative by a signal and None where it did not end, and what it printed; it is given these bytes."""
     try:
-        ran = subprocess.run([PROGRAM, *words], cwd=folder, input=given, capture_output=True, timeout=60)
+        ran = subprocess.run(
+            ["regtry", *words], executable=PROGRAM, cwd=folder, input=given, capture_output=True, timeout=60
+        )
     except subprocess.TimeoutExpired:
         return None, b"", b""
     return ran.returncode, ran.stdout, ran.stderr

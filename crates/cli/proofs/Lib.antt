@@ -4,6 +4,7 @@ mod Steps
 mod CountedFiles
 mod CutOffsFound
 mod CutVerdicts
+mod FilesRead
 mod LengthsTried
 mod ShortestFound
 mod SearchesFound

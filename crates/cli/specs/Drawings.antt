@@ -12,4 +12,4 @@ pub record IsDrawingOf (w : List Letter) (text : List ℕ) (picture : Picture) :
   pub source : Contents
   pub spelled : Spells text source
   pub schedule : IsSchedule (programs_in source) MOST_CRASHES w
-  pub picture_is : IsPictureOf (programs_in source) source.registers w picture
+  pub picture_is : IsPictureOf source w picture

@@ -6,7 +6,7 @@ use Rattle.texts.specs.Appending.{Writes}
 use Rattle.command_words.specs.declared.TheConstants.{VERSION}
 use Rattle.cli.specs.Answers.{IsAnswered, IsRefusedWith}
 use Rattle.cli.specs.FileCounts.{counts_text, no_counts, with_one_more}
-use Rattle.cli.specs.Merges.{AreMergedIn}
+use Rattle.cli.specs.Merges.{IsMergePerformed}
 use Rattle.cli.specs.Written.{HasBeginning}
 use Rattle.cli.specs.declared.file_counts.FileCounts.{FileCounts}
 use Rattle.orders.specs.declared.orders.Order as orders
@@ -19,23 +19,23 @@ use Rattle.orders.specs.declared.tasks.Task.{Task}
 abbrev pub version_text : List ℕ
 version_text = codes "regtry " ++ VERSION.now ++ codes "\n"
 
--- a file is answered, or refused for a reason, with this status; one that could not
--- be opened is refused
+-- a file is answered, or refused for a reason, with this status, by a program that was called by
+-- these words; one that could not be opened is refused
 pub record IsAnsweredOrRefused {W R : Type 0} (contents : W → Option (List ℕ)) (remaining : R → Option (List ℕ)) (fails : R → Refusal → Type 0)
-    (path : List ℕ) (asked : Task) (breadth : Breadth) (file : Option R) (old new : W) (status : ℕ) : Type 0 where
+    (program path : List ℕ) (asked : Task) (breadth : Breadth) (file : Option R) (old new : W) (status : ℕ) : Type 0 where
   pub no_file : IsNone file → status ≡ 2
-  pub answered : status ≤ 1 → IsAnswered path asked breadth (option_and_then remaining file) (contents old) (contents new) status
-  pub refused : 2 ≤ status → IsRefusedWith contents remaining fails (λ why. ⊤) path asked breadth file old new status
+  pub answered : status ≤ 1 → IsAnswered program path asked breadth (option_and_then remaining file) (contents old) (contents new) status
+  pub refused : 2 ≤ status → IsRefusedWith contents remaining fails (λ why. ⊤) program path asked breadth file old new status
   pub status_is : status ≤ 3
 
 -- the file of one more path, which is opened so, is answered or refused, and counted; what is
 -- counted stands beside what the writer holds
 pub record IsNext {W R : Type 0} (contents : W → Option (List ℕ)) (remaining : R → Option (List ℕ)) (fails : R → Refusal → Type 0)
-    (opens : List ℕ → Option R → Type 0) (asked : Task) (breadth : Breadth) (before : W × FileCounts) (path : List ℕ) (after : W × FileCounts) : Type 0 where
+    (opens : List ℕ → Option R → Type 0) (program : List ℕ) (asked : Task) (breadth : Breadth) (before : W × FileCounts) (path : List ℕ) (after : W × FileCounts) : Type 0 where
   pub file : Option R
   pub opened : opens path file
   pub status : ℕ
-  pub done : IsAnsweredOrRefused contents remaining fails path asked breadth file before.0 after.0 status
+  pub done : IsAnsweredOrRefused contents remaining fails program path asked breadth file before.0 after.0 status
   pub counted : after.1 ≡ with_one_more before.1 status
 
 -- of several files it is written how they were answered, and the status is the highest, or 3 where
@@ -51,7 +51,7 @@ pub record AreAnswered {W R : Type 0} (contents : W → Option (List ℕ)) (rema
     (opens : List ℕ → Option R → Type 0) (order : orders.Order) (old new : W) (status : ℕ) : Type 0 where
   pub between : W
   pub counts : FileCounts
-  pub answered : FoldsTo (IsNext contents remaining fails opens order.task order.breadth)
+  pub answered : FoldsTo (IsNext contents remaining fails opens order.program.now order.task order.breadth)
       (old, no_counts) (map (λ path. path.now) order.paths.items) (between, counts)
   pub summed : AreSummed contents between new counts status
 
@@ -60,19 +60,12 @@ pub record IsVersionTold {W : Type 0} (contents : W → Option (List ℕ)) (old 
   pub told : status ≡ 0 → Writes (contents old) (contents new) version_text None
   pub cut_short : status ≢ 0 → (status ≡ 3) × HasBeginning (contents old) (contents new) version_text
 
--- the parts in the file of a path, which is opened so, are merged, or not for a
--- reason, with this status
-pub record IsMergePerformed {W R : Type 0} (contents : W → Option (List ℕ)) (remaining : R → Option (List ℕ)) (opens : List ℕ → Option R → Type 0)
-    (path : List ℕ) (old new : W) (status : ℕ) : Type 0 where
-  pub file : Option R
-  pub opened : opens path file
-  pub done : AreMergedIn contents remaining file old new status
-
 -- words that were refused have the status of their refusal, and nothing is done; else the version
--- is written, their files are answered, or the parts in their file are merged
+-- is written, their files are answered, or the parts in their files are merged
 abbrev pub IsPerformed : {W R : Type 0} → (W → Option (List ℕ)) → (R → Option (List ℕ)) → (R → Refusal → Type 0)
     → (List ℕ → Option R → Type 0) → Result Request ℕ → W → W → ℕ → Type 0
 IsPerformed contents remaining fails opens (Err refused) old new status = (new ≡ old) × (status ≡ refused)
 IsPerformed contents remaining fails opens (Ok Version) old new status = IsVersionTold contents old new status
 IsPerformed contents remaining fails opens (Ok (Order order)) old new status = AreAnswered contents remaining fails opens order old new status
-IsPerformed contents remaining fails opens (Ok (Merge path)) old new status = IsMergePerformed contents remaining opens path.now old new status
+IsPerformed contents remaining fails opens (Ok (Merge paths)) old new status =
+    IsMergePerformed contents remaining opens (map (λ path. path.now) paths.items) old new status

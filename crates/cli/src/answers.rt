@@ -48,21 +48,22 @@ pub fn answer<H: Threads + Wait + Sync, R: Readable, W: Output, E: Write + Send>
         → IsReportWritten effort.settings (option_and_then R.remaining (result_ok file))
         (W.contents out.old) (W.contents out.new) result }
     ensures answered { result ≤ 1
-        → IsAnswered question.now.path.now question.now.task.now question.now.breadth
-        (option_and_then R.remaining (result_ok file)) (W.contents out.old) (W.contents out.new)
-        result }
+        → IsAnswered question.now.program.now question.now.path.now question.now.task.now
+        question.now.breadth (option_and_then R.remaining (result_ok file)) (W.contents out.old)
+        (W.contents out.new) result }
     ensures refused { 2 ≤ result
         → IsRefusedWith W.contents R.remaining R.fails
         (λ fault. question.now.progress ≡ false → is_in_words question.now.task.now ≡ true
         → IsTold question.now.path.now (option_and_then R.remaining (result_ok file)) fault
         (E.contents err.old) (E.contents err.new))
-        question.now.path.now question.now.task.now question.now.breadth (result_ok file) out.old
-        out.new result }
+        question.now.program.now question.now.path.now question.now.task.now question.now.breadth
+        (result_ok file) out.old out.new result }
     ensures silent { result ≡ 2 → out.new ≡ out.old }
     ensures cut_short { result ≡ 3
         → (out.new ≡ out.old)
-        ⊎ IsCutShort question.now.path.now question.now.task.now question.now.breadth
-        (option_and_then R.remaining (result_ok file)) (W.contents out.old) (W.contents out.new) }
+        ⊎ IsCutShort question.now.program.now question.now.path.now question.now.task.now
+        question.now.breadth (option_and_then R.remaining (result_ok file)) (W.contents out.old)
+        (W.contents out.new) }
 {
     let written = match file {
         Ok(file) => written(rt, alloc, question, file, out, err),
@@ -107,11 +108,12 @@ fn written<H: Threads + Wait + Sync, R: Readable, W: Output, E: Write + Send>(
     err: &mut E,
 ) -> Result<bool, AnswerFault>
     ensures answered { IfOk result
-        (λ fails. IsAnswered question.now.path.now question.now.task.now question.now.breadth
-        (R.remaining file) (W.contents out.old) (W.contents out.new) (if fails then 1 else 0)) }
+        (λ fails. IsAnswered question.now.program.now question.now.path.now question.now.task.now
+        question.now.breadth (R.remaining file) (W.contents out.old) (W.contents out.new)
+        (if fails then 1 else 0)) }
     ensures refused { IfErr result
-        (IsUnanswered W.contents R.remaining R.fails question.now.path.now question.now.task.now
-        question.now.breadth (Some file) out.old out.new) }
+        (IsUnanswered W.contents R.remaining R.fails question.now.program.now question.now.path.now
+        question.now.task.now question.now.breadth (Some file) out.old out.new) }
     ensures told { IfErr result (λ fault. question.now.progress ≡ false
         → is_in_words question.now.task.now ≡ true
         → IsTold question.now.path.now (R.remaining file) fault (E.contents err.old)
@@ -123,6 +125,7 @@ fn written<H: Threads + Wait + Sync, R: Readable, W: Output, E: Write + Send>(
         Err(fault) => return Err(explained(question, text.as_slice(), fault, err)),
     };
     let topic = Topic {
+        program: question.program.as_bytes(),
         path: question.path.as_bytes(),
         text: text.as_slice(),
         breadth: question.breadth,
@@ -174,8 +177,8 @@ fn explained<E: Write>(
 /// Writes what was found of the text in the file of a path, and has the writer pass it on.
 fn tell<W: Output>(topic: Topic<'_>, finding: &Finding, out: &mut W) -> Result<(), AnswerFault>
     ensures { Tells (W.contents out.old) (W.contents out.new)
-        (finding_text topic.entry.path.now topic.entry.text.now topic.entry.breadth finding.now)
-        result }
+        (finding_text topic.entry.program.now topic.entry.path.now topic.entry.text.now
+        topic.entry.breadth finding.now) result }
 {
     if finding.write(topic, out).is_err() {
         return Err(AnswerFault::Write);

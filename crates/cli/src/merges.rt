@@ -1,51 +1,78 @@
-//! The parts of an exploration that are in a file, merged.
+//! The parts of an exploration that are in some files, merged.
 
-ghost use Rattle.std.specs.Prelude.{IfErr, IfOk, IsSome, OnOk, option_and_then};
+ghost use Rattle.std.specs.Prelude.{IfErr, IfOk, List, OnOk, Option, map, ℕ};
 ghost use Rattle.std.specs.Result.{result_ok};
-ghost use Rattle.merging.specs.Merged.{IsMergedOf};
 ghost use Rattle.merging.specs.MergedText.{merged_text};
-ghost use Rattle.cli.specs.Merges.{AreMergedIn, IsUnmerged};
+ghost use Rattle.merging.specs.Mergers.{HoldsSome, HoldsTexts};
+ghost use Rattle.cli.specs.Merges.{AreAllRead, IsFileRead, IsMergePerformed, IsUnreadFor};
 ghost use Rattle.cli.specs.Written.{Tells};
 
 use crate::faults::AnswerFault;
 use crate::outputs::{Output, tell_unwritten};
-use merging::{Merged, merge_parts, write_merged};
-use orders::{FileFault, Refusal, refuse};
+use merging::{MergeFault, Merged, Merger, write_merged};
+use orders::{FileFault, Opener, Refusal, refuse};
 use std::alloc::Global;
 use std::io::{BufReader, Read, Write};
 
-/// Merges the parts in the file, and writes what they tell together. The status is 0 where that is
-/// done, but 1 where a schedule fails; 2 where the file or its parts are refused; 3 where it could
-/// not be done. At 2 and 3 a line on `err` says why, and `out` is as before, unless it did not take
-/// the whole text: then it took a beginning of it, and the status is 3. `file` tells why it could
-/// not be opened, where it was not.
-pub fn merge_file<R: Read + Drop, W: Output, E: Write>(
+/// Of what is told where several files are merged and none of them is at fault.
+const TOGETHER: &str = "all files together";
+
+/// Merges the parts in the files of these paths, which `opener` opens one after another, and writes
+/// what they tell together. The status is 0 where that is done, but 1 where a schedule fails; 2
+/// where a file or parts are refused; 3 where it could not be done. At 2 and 3 a line on `err` says
+/// why, and names the file at fault, if one is; `out` is as before, unless it did not take the
+/// whole text: then it took a beginning of it, and the status is 3.
+pub fn merge_files<O: Opener, W: Output, E: Write>(
     alloc: Global,
-    path: &str,
-    file: Result<R, FileFault>,
+    paths: &[&str],
+    opener: &O,
     out: &mut W,
     err: &mut E,
 ) -> u8
-    ensures { AreMergedIn W.contents R.remaining (result_ok file) out.old out.new result }
+    ensures { IsMergePerformed W.contents O.Reader.remaining (O.opens opener.now)
+        (map (λ path. path.now) paths.now) out.old out.new result }
 {
-    let merged = match merged_in(alloc, file) {
-        Ok(merged) => merged,
-        Err(fault) => return refuse(&fault, Some(path), err),
-    };
-    match tell(&merged, out) {
-        Ok(()) => u8::from(merged.fails()),
-        Err(fault) => tell_unwritten(&fault, path, out, err),
+    let whole = whole_of(paths);
+    let mut merger = Merger::none();
+    for path in paths {
+        if let Err(fault) = read_file(alloc, &mut merger, opener.open(path)) {
+            return refuse(&fault, Some(subject_of(&fault, path, whole)), err);
+        }
+    }
+    write_all(merger, whole, out, err)
+}
+
+/// Of what is told where no file is at fault: the file, where it is the only one.
+fn whole_of<'a>(paths: &[&'a str]) -> &'a str {
+    match paths {
+        [path] => path,
+        _ => TOGETHER,
     }
 }
 
-/// What the parts in the file tell together.
-fn merged_in<R: Read + Drop>(
+/// Of what a refusal tells that was met in the file of a path: of all files, where more schedules
+/// were tried than can be counted.
+fn subject_of<'a>(fault: &AnswerFault, path: &'a str, whole: &'a str) -> &'a str {
+    match fault {
+        AnswerFault::Merge(MergeFault::TooMany) => whole,
+        _ => path,
+    }
+}
+
+/// Reads the parts in a file behind those that were read before. `file` tells why it could not be
+/// opened, where it was not. After an error it is not known what is held.
+fn read_file<R: Read + Drop>(
     alloc: Global,
+    merger: &mut Merger,
     file: Result<R, FileFault>,
-) -> Result<Merged, AnswerFault>
-    ensures merged { IfOk result (IsMergedOf (option_and_then R.remaining (result_ok file))) }
-    ensures there { OnOk result (IsSome (result_ok file)) }
-    ensures refused { IfErr result (IsUnmerged R.remaining (result_ok file)) }
+) -> Result<(), AnswerFault>
+    requires some { HoldsSome merger.old }
+    ensures some { OnOk result (HoldsSome merger.new) }
+    ensures read { OnOk result
+        (IsFileRead R.remaining (result_ok file) merger.old merger.new) }
+    ensures refused { IfErr result
+        (λ fault. (texts : List (Option (List ℕ))) → HoldsTexts texts merger.old
+        → IsUnreadFor R.remaining texts (result_ok file) fault) }
 {
     let file = match file {
         Ok(file) => file,
@@ -54,9 +81,25 @@ fn merged_in<R: Read + Drop>(
     let Ok(reader) = BufReader::new(alloc, file) else {
         return Err(AnswerFault::Refused(Refusal::Memory));
     };
-    match merge_parts(alloc, reader) {
-        Ok(merged) => Ok(merged),
+    match merger.read(alloc, reader) {
+        Ok(()) => Ok(()),
         Err(fault) => Err(AnswerFault::Merge(fault)),
+    }
+}
+
+/// Writes what the parts in all files tell together, and gives the status. Where some are missing,
+/// it is told of the whole.
+fn write_all<W: Output, E: Write>(merger: Merger, whole: &str, out: &mut W, err: &mut E) -> u8
+    ensures { (texts : List (Option (List ℕ))) → HoldsTexts texts merger
+        → AreAllRead W.contents texts out.old out.new result }
+{
+    let merged = match merger.into_merged() {
+        Ok(merged) => merged,
+        Err(fault) => return refuse(&AnswerFault::Merge(fault), Some(whole), err),
+    };
+    match tell(&merged, out) {
+        Ok(()) => u8::from(merged.fails()),
+        Err(fault) => tell_unwritten(&fault, whole, out, err),
     }
 }
 

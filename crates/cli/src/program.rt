@@ -8,7 +8,7 @@ ghost use Rattle.cli.specs.Performing.{AreAnswered, AreSummed, IsNext, IsPerform
 use crate::answers::answer;
 use crate::faults::AnswerFault;
 use crate::file_counts::FileCounts;
-use crate::merges::merge_file;
+use crate::merges::merge_files;
 use crate::outputs::{Output, tell_unwritten};
 use command_words::VERSION;
 use orders::{Opener, Order, Question, Request, refuse};
@@ -39,7 +39,7 @@ pub fn perform<H: Threads + Wait + Sync, O: Opener, W: Output, E: Write + Send>(
     match request {
         Ok(Request::Order(order)) => answer_each(rt, alloc, &order, opener, out, err),
         Ok(Request::Version) => tell_version(out, err),
-        Ok(Request::Merge(path)) => merge_file(alloc, path, opener.open(path), out, err),
+        Ok(Request::Merge(paths)) => merge_files(alloc, paths.as_slice(), opener, out, err),
         Err(status) => status,
     }
 }
@@ -84,13 +84,14 @@ fn answers_of<H: Threads + Wait + Sync, O: Opener, W: Output, E: Write + Send>(
     err: &mut E,
 ) -> FileCounts
     ensures { FoldsTo
-        (IsNext W.contents O.Reader.remaining O.Reader.fails (O.opens opener.now) order.now.task
-        order.now.breadth)
+        (IsNext W.contents O.Reader.remaining O.Reader.fails (O.opens opener.now)
+        order.now.program.now order.now.task order.now.breadth)
         (out.old, no_counts) (map (λ path. path.now) order.now.paths.items) (out.new, result) }
 {
     let mut counts = FileCounts::none();
     for path in order.paths.as_slice() {
         let question = Question {
+            program: order.program,
             path,
             task: &order.task,
             breadth: order.breadth,

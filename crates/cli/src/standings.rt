@@ -1,7 +1,7 @@
 //! Where one schedule leads, and what it does on its way.
 
 ghost use Rattle.std.specs.Prelude.{◌≡◌, ◌<◌, length, map};
-ghost use Rattle.reglang.specs.Sources.{source_programs, registers_of};
+ghost use Rattle.reglang.specs.Sources.{contents_of, registers_of, source_programs};
 ghost use Rattle.drawing.specs.Pictures.{IsPictureOf};
 ghost use Rattle.cli.specs.Standings.{IsFollowed, IsHindranceAt, IsStandingAfter};
 
@@ -62,10 +62,10 @@ pub fn drawing_of(
 ) -> Result<Drawing, RefusedLetter>
     requires { map program machines.items ≡ source_programs source.now }
     ensures { IsFollowed (source_programs source.now) schedule.now
-        (IsPictureOf (source_programs source.now) (registers_of source.now) schedule.now) result }
+        (IsPictureOf (contents_of source.now) schedule.now) result }
 {
     let mut world = World::new(machines, source.registers(), MOST_CRASHES);
-    match draw(&mut world, schedule) {
+    match draw(&mut world, source, schedule) {
         Ok(drawing) => Ok(drawing),
         Err(bad) => Err(refused_at(&world.outcome(), schedule, bad)),
     }

@@ -22,7 +22,7 @@ bounds = any_text (codes "length") ∷ any_text (codes "crashes") ∷ any_text (
 abbrev pub check_words : List Rule
 check_words = several (codes "FILE") ∷ bounds ++ flag (codes "allow-faults")
     ∷ flag (codes "shortest") ∷ flag (codes "outcomes") ∷ any_text (codes "width")
-    ∷ flag (codes "text") ∷ flag (codes "progress") ∷ []
+    ∷ flag (codes "lines") ∷ flag (codes "text") ∷ flag (codes "progress") ∷ []
 
 -- of `explore`
 abbrev pub explore_words : List Rule
@@ -35,11 +35,12 @@ explore_words = needed (codes "FILE") ∷ needed_number (codes "length")
 -- of `find`
 abbrev pub find_words : List Rule
 find_words = needed (codes "FILE") ∷ several (codes "PATTERN") ∷ bounds ++ flag (codes "shortest")
-    ∷ any_text (codes "width") ∷ flag (codes "text") ∷ flag (codes "progress") ∷ []
+    ∷ any_text (codes "width") ∷ flag (codes "lines") ∷ flag (codes "text") ∷ flag (codes "progress")
+    ∷ []
 
 -- of `merge`
 abbrev pub merge_words : List Rule
-merge_words = needed (codes "FILE") ∷ []
+merge_words = several (codes "FILE") ∷ []
 
 -- of `replay`
 abbrev pub replay_words : List Rule
@@ -48,7 +49,7 @@ replay_words = needed (codes "FILE") ∷ needed (codes "SCHEDULE") ∷ []
 -- of `show`
 abbrev pub show_words : List Rule
 show_words = needed (codes "FILE") ∷ needed (codes "SCHEDULE") ∷ flag (codes "all")
-    ∷ any_text (codes "registers") ∷ any_text (codes "width") ∷ []
+    ∷ any_text (codes "registers") ∷ any_text (codes "width") ∷ flag (codes "lines") ∷ []
 
 -- the subcommands, by their names
 abbrev pub subcommands : List Shape

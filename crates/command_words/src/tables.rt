@@ -101,6 +101,7 @@ const CHECK: &[Word] = &[
         help: "Print all outcomes as well, as explore does",
     },
     WIDTH,
+    LINES,
     TEXT,
     PROGRESS,
 ];
@@ -170,6 +171,7 @@ const FIND: &[Word] = &[
         help: "Tell the least of the shortest schedules that lead there, in place of the least of all: lengths are tried from 0 on, up to --length",
     },
     WIDTH,
+    LINES,
     TEXT,
     PROGRESS,
 ];
@@ -177,8 +179,8 @@ const FIND: &[Word] = &[
 /// The words of `merge`.
 const MERGE: &[Word] = &[Word {
     name: "FILE",
-    kind: Kind::Needed,
-    help: "The parts, as explore --part prints them, one after another in any order, or - for standard input",
+    kind: Kind::Several,
+    help: "Parts, as explore --part prints them, one or more in each file and in any order, or - for standard input",
 }];
 
 /// The words of `replay`.
@@ -199,6 +201,7 @@ const SHOW: &[Word] = &[
         help: "Draw these registers alone, however long the lines become: numbers from 0 to 63 and ranges of them, as 0,3-5",
     },
     WIDTH,
+    LINES,
 ];
 
 /// What the help says of a source.
@@ -252,6 +255,13 @@ const WIDTH: Word = Word {
     name: "width",
     kind: Kind::Text("N"),
     help: "How long a line of a drawing may become, as far as leaving out registers helps: 1 to 65536 [default: 80 for up to two processes, else 132]",
+};
+
+/// The flag that asks for a column of lines, for a check, a search and a drawing.
+const LINES: Word = Word {
+    name: "lines",
+    kind: Kind::Flag,
+    help: "Draw a column with the line of the source on which each letter's statement stands",
 };
 
 /// The flag that asks for interpreters.

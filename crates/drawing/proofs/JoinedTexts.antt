@@ -4,10 +4,10 @@ use Rattle.std.proofs.lemmas.List.{append-nil}
 use Rattle.texts.specs.Appending.{Puts}
 use Rattle.texts.proofs.Appending.{after_text, fault_before}
 use Rattle.drawing.specs.Cells.{joined}
-use Rattle.drawing.specs.declared.breadths.Breadth.{Breadth}
-use Rattle.drawing.specs.DrawingText.{gap_before, gap_past, named_text, table_text}
+use Rattle.drawing.specs.declared.breadths.Room.{Room}
+use Rattle.drawing.specs.DrawingText.{gap_before, gap_past, labelled_text, table_text}
 use Rattle.drawing.specs.Layout.{columns_shown, widths}
-use Rattle.drawing.specs.Names.{Names}
+use Rattle.drawing.specs.Labels.{Labels}
 use Rattle.drawing.specs.Pictures.{Picture}
 
 pub joined-more : (f : ℕ → List ℕ) (n : ℕ) → joined f (n + 1) ≡ joined f n ++ f n
@@ -38,5 +38,5 @@ fault-in f n count {old = old} {new = new} {kept = kept} {left = left} {code = c
     subst (λ (text : List ℕ). Puts old kept new left text (Some code)) (sym parts) (fault_before (after_text before here) (joined (λ i. f (n + 1 + i)) rest))
 
 -- the table of its own widths is the drawing
-pub table-drawn : (breadth : Breadth) (names : Names) (picture : Picture) (wide columns : List ℕ) → wide ≡ widths names picture → columns ≡ columns_shown picture wide breadth → table_text names picture wide columns ≡ named_text breadth names picture
-table-drawn breadth names picture wide columns made shown = ap (table_text names picture wide) shown ∙ ap (λ ws. table_text names picture ws (columns_shown picture ws breadth)) made
+pub table-drawn : (room : Room) (labels : Labels) (picture : Picture) (wide columns : List ℕ) → wide ≡ widths labels picture → columns ≡ columns_shown picture wide room → table_text labels picture wide columns ≡ labelled_text room labels picture
+table-drawn room labels picture wide columns made shown = ap (table_text labels picture wide) shown ∙ ap (λ ws. table_text labels picture ws (columns_shown picture ws room)) made

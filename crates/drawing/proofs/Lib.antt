@@ -4,3 +4,5 @@ mod DueSpaces
 mod RowFacts
 mod RegistersRead
 mod TextParts
+mod StatementsPassed
+mod ProcessStops

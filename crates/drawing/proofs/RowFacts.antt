@@ -1,18 +1,22 @@
 -- What rows tell.
-use Rattle.std.proofs.Common.{◌≡◌, ℕ, ◌+◌, ◌<◌, ◌==◌, not, List, [], ◌∷◌, ◌++◌, get_or, length, length-append, take, ap, sym, subst, ◌∙◌, append_assoc, arith}
+use Rattle.std.proofs.Common.{◌≡◌, ℕ, ◌+◌, ◌<◌, ◌==◌, not, List, [], ◌∷◌, ◌++◌, Option, Some, get_or, length, length-append, take, ap, sym, subst, ◌∙◌, append_assoc, arith}
 use Rattle.std.proofs.lemmas.List.{append-nil, take_more}
 use Rattle.std.proofs.lemmas.List.FromFn.{length-map-range_with_len}
 use Rattle.regmodel.specs.declared.letters.Letter.{Letter}
 use Rattle.regmodel.specs.declared.outcomes.ProcEnd.{ProcEnd}
-use Rattle.regmodel.specs.Letters.{Schedule}
+use Rattle.regmodel.specs.Letters.{Schedule, process_of}
+use Rattle.regmodel.specs.Wanted.{wanted_after}
+use Rattle.reglang.specs.Contents.{Contents, programs_in}
 use Rattle.regmodel.specs.Outcomes.{outcome_of}
 use Rattle.regmodel.specs.Program.{Program}
 use Rattle.regmodel.specs.Replies.{value_after}
 use Rattle.world.specs.Registers.{values_after}
+use Rattle.drawing.specs.declared.drawings.Deed.{Deed}
 use Rattle.drawing.specs.declared.drawings.Held.{Held}
 use Rattle.drawing.specs.declared.drawings.Row.{Row}
-use Rattle.drawing.specs.Pictures.{AreRowsOf, IsPictureOf, IsRowOf, Picture}
+use Rattle.drawing.specs.Pictures.{AreRowsOf, IsPictureOf, IsRowOf, Picture, deed_by}
 use Rattle.drawing.specs.Registers.{all_held, held_after}
+use Rattle.drawing.specs.Stops.{stops_after}
 use Rattle.regmodel.proofs.NumberedLists.{at_place}
 
 -- how many values there are
@@ -41,28 +45,30 @@ pub number-told : (w v : List Letter) (a : Letter) (n : ℕ) → w ≡ v ++ a �
 number-told w v a n went told = omega (arith, told, ap length went, length-append v (a ∷ []))
 
 -- the row of a last letter comes last
-pub rows-more : (ps : List Program) (n : ℕ) (before w : Schedule) (rows : List Row) (a : Letter) (row : Row) → AreRowsOf ps n before w rows → IsRowOf ps n (before ++ w) a row → AreRowsOf ps n before (w ++ a ∷ []) (rows ++ row ∷ [])
-rows-more ps n before [] [] a row h last = (rw (append-nil before) at last, tt)
-rows-more ps n before [] (r ∷ rows) a row h last = absurd h
-rows-more ps n before (b ∷ w) [] a row h last = absurd h
-rows-more ps n before (b ∷ w) (r ∷ rows) a row h last = (h.0, rows-more ps n (before ++ b ∷ []) w rows a row h.1 (rw (append_assoc before (b ∷ []) w) last))
+pub rows-more : (source : Contents) (before w : Schedule) (rows : List Row) (a : Letter) (row : Row) → AreRowsOf source before w rows → IsRowOf source (before ++ w) a row → AreRowsOf source before (w ++ a ∷ []) (rows ++ row ∷ [])
+rows-more source before [] [] a row h last = (rw (append-nil before) at last, tt)
+rows-more source before [] (r ∷ rows) a row h last = absurd h
+rows-more source before (b ∷ w) [] a row h last = absurd h
+rows-more source before (b ∷ w) (r ∷ rows) a row h last = (h.0, rows-more source (before ++ b ∷ []) w rows a row h.1 (rw (append_assoc before (b ∷ []) w) last))
 
 -- the letters so far are one more of a schedule
 pub letters-more : (w v items s : List Letter) (i : ℕ) (d : Letter) → w ≡ v ++ get_or items i d ∷ [] → v ≡ take i s → items ≡ s → i < length s → w ≡ take (i + 1) s
 letters-more w v items s i d ew ev es lt = ew ∙ (ap (λ u. u ++ get_or items i d ∷ []) ev ∙ (ap (λ xs. take i s ++ get_or xs i d ∷ []) es ∙ sym (take_more s i d lt)))
 
--- the rows of programs and registers that have stayed the same, with the row of one letter more
-pub rows-past : (ps qs : List Program) (n m : ℕ) (v w : Schedule) (rows more : List Row) (a : Letter) (row : Row) → qs ≡ ps → m ≡ n → w ≡ v ++ a ∷ [] → more ≡ rows ++ row ∷ [] → AreRowsOf ps n [] v rows → IsRowOf qs m v a row → AreRowsOf ps n [] w more
-rows-past ps qs n m v w rows more a row same count went pushed before last =
-    let there = subst (λ (k : ℕ). IsRowOf qs k v a row) count last in
-    let here = subst (λ (rs : List Program). IsRowOf rs n v a row) same there in
-    rw (went, pushed) (rows-more ps n [] v rows a row before here)
+-- the rows so far, with the row of one letter more
+pub rows-past : (source : Contents) (v w : Schedule) (rows more : List Row) (a : Letter) (row : Row) → w ≡ v ++ a ∷ [] → more ≡ rows ++ row ∷ [] → AreRowsOf source [] v rows → IsRowOf source v a row → AreRowsOf source [] w more
+rows-past source v w rows more a row went pushed before last = rw (went, pushed) (rows-more source [] v rows a row before last)
+
+-- what a letter does, by programs that have stayed the same
+pub deed-same : (ps qs : List Program) (v : Schedule) (a : Letter) (did : Deed) → qs ≡ ps → deed_by (value_after qs v) a (wanted_after qs v (process_of a)) ≡ Some did → deed_by (value_after ps v) a (wanted_after ps v (process_of a)) ≡ Some did
+deed-same ps qs v a did same told = subst (λ (rs : List Program). deed_by (value_after rs v) a (wanted_after rs v (process_of a)) ≡ Some did) same told
 
 -- the picture of the parts
-pub picture-whole : (ps qs : List Program) (n : ℕ) (v w : Schedule) (picture : Picture) (start : List Held) (rows : List Row) (ends : List ProcEnd) → picture ≡ record { start = start; rows = rows; ends = ends } → qs ≡ ps → v ≡ w → start ≡ all_held ps n [] [] → AreRowsOf ps n [] v rows → ends ≡ outcome_of qs v → IsPictureOf ps n w picture
-picture-whole ps qs n v w picture start rows ends parts same went held told ended =
+pub picture-whole : (source : Contents) (qs : List Program) (v w : Schedule) (picture : Picture) (start : List Held) (rows : List Row) (ends : List ProcEnd) (stops : List (Option ℕ)) → picture ≡ record { start = start; rows = rows; ends = ends; stops = stops } → qs ≡ programs_in source → v ≡ w → start ≡ all_held (programs_in source) source.registers [] [] → AreRowsOf source [] v rows → ends ≡ outcome_of qs v → stops ≡ stops_after source v → IsPictureOf source w picture
+picture-whole source qs v w picture start rows ends stops parts same went held told ended stopped =
     rw parts (record {
       start = held;
-      rows = subst (λ (u : Schedule). AreRowsOf ps n [] u rows) went told;
-      ends = ended ∙ (ap (λ rs. outcome_of rs v) same ∙ ap (outcome_of ps) went);
+      rows = subst (λ (u : Schedule). AreRowsOf source [] u rows) went told;
+      ends = ended ∙ (ap (λ rs. outcome_of rs v) same ∙ ap (outcome_of (programs_in source)) went);
+      stops = stopped ∙ ap (stops_after source) went;
     })

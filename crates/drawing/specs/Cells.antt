@@ -13,6 +13,7 @@ use Rattle.drawing.specs.declared.drawings.Deed.{Deed}
 use Rattle.drawing.specs.declared.drawings.Deed.TheVariants.{Read, Write, Scan, Crash}
 use Rattle.drawing.specs.declared.drawings.Held.{Held}
 use Rattle.drawing.specs.declared.drawings.Row.{Row}
+use Rattle.drawing.specs.Labels.{Labels, letter_line}
 use Rattle.drawing.specs.Names.{Names, name_at}
 use Rattle.drawing.specs.Pictures.{Picture}
 
@@ -116,12 +117,25 @@ line_of line.Start = Start
 line_of (line.Row row) = Letter row.now
 line_of line.End = End
 
--- a line in the column of the letters' numbers
-abbrev pub number_cell : Line → List ℕ
-number_cell Head = codes "step"
-number_cell Start = codes "0"
-number_cell (Letter row) = decimal row.number
-number_cell End = []
+-- what parts the number of a letter from that of a line, so that this stands below its head
+abbrev pub gap_behind : ℕ → List ℕ
+gap_behind number = if nat_lt number 10 then codes "     " else codes "    "
+
+-- the number of a line behind that of a letter
+abbrev pub behind_number : ℕ → ℕ → List ℕ
+behind_number number line = gap_behind number ++ decimal line
+
+-- the line with the statement that took a letter, where that is to be told of a text and there is one
+abbrev pub line_beside : Option (List ℕ) → Row → List ℕ
+line_beside (Some text) row = text_at (behind_number row.number) (letter_line text row)
+line_beside None row = []
+
+-- a line in the column of the letters' numbers, and in that of the lines of their statements, where these are to be told
+abbrev pub number_cell : Option (List ℕ) → Line → List ℕ
+number_cell lines Head = if is_some lines then codes "step  line" else codes "step"
+number_cell lines Start = codes "0"
+number_cell lines (Letter row) = decimal row.number ++ line_beside lines row
+number_cell lines End = []
 
 -- a line in the column of process p: what the letter did, where it is one of p, and by its last one how p came to its end; then how p stands
 abbrev pub process_cell : Names → Picture → ℕ → Line → List ℕ
@@ -138,12 +152,12 @@ register_cell names start r (Letter row) = text_at held_text (slice_get row.regi
 register_cell names start r End = []
 
 -- the text of a line in a column
-abbrev pub line_cell : Names → Picture → Line → ℕ → List ℕ
-line_cell names picture line column =
-    if column == 0 then number_cell line else
-    (if nat_le column (length picture.ends) then process_cell names picture (column - 1) line
-    else register_cell names picture.start (column - 1 - length picture.ends) line)
+abbrev pub line_cell : Labels → Picture → Line → ℕ → List ℕ
+line_cell labels picture line column =
+    if column == 0 then number_cell labels.lines line else
+    (if nat_le column (length picture.ends) then process_cell labels.names picture (column - 1) line
+    else register_cell labels.names picture.start (column - 1 - length picture.ends) line)
 
 -- the text at a line and a column
-abbrev pub cell_text : Names → Picture → ℕ → ℕ → List ℕ
-cell_text names picture line column = line_cell names picture (line_at picture line) column
+abbrev pub cell_text : Labels → Picture → ℕ → ℕ → List ℕ
+cell_text labels picture line column = line_cell labels picture (line_at picture line) column

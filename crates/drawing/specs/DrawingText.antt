@@ -1,10 +1,11 @@
 -- The text of a drawing.
 use Rattle.std.specs.Prelude.{ℕ, zero, suc, ◌+◌, ◌-◌, ◌==◌, List, [], ◌++◌, length, codes, decimal, if◌then◌else◌, get_or}
 use Rattle.drawing.specs.declared.breadths.Breadth.{Breadth}
+use Rattle.drawing.specs.declared.breadths.Room.{Room}
 use Rattle.drawing.specs.declared.layout.TheConstants.{PARTING}
 use Rattle.drawing.specs.Cells.{cell_text, joined}
 use Rattle.drawing.specs.Layout.{columns_shown, line_count, widths}
-use Rattle.drawing.specs.Names.{Names, register_names}
+use Rattle.drawing.specs.Labels.{Labels, labels_of}
 use Rattle.drawing.specs.Pictures.{Picture}
 
 -- so many spaces
@@ -38,25 +39,25 @@ abbrev pub width_at : List ℕ → List ℕ → ℕ → ℕ
 width_at wide columns place = get_or wide (get_or columns place 0) 0
 
 -- the text of a line in the column at a place
-abbrev pub text_at : Names → Picture → List ℕ → ℕ → ℕ → List ℕ
-text_at names picture columns line place = cell_text names picture line (get_or columns place 0)
+abbrev pub text_at : Labels → Picture → List ℕ → ℕ → ℕ → List ℕ
+text_at labels picture columns line place = cell_text labels picture line (get_or columns place 0)
 
 -- a line of a drawing in these columns, each of its width
-abbrev pub table_line : Names → Picture → List ℕ → List ℕ → ℕ → List ℕ
-table_line names picture wide columns line = line_text (width_at wide columns) (text_at names picture columns line) (length columns)
+abbrev pub table_line : Labels → Picture → List ℕ → List ℕ → ℕ → List ℕ
+table_line labels picture wide columns line = line_text (width_at wide columns) (text_at labels picture columns line) (length columns)
 
 -- its lines
-abbrev pub table_lines : Names → Picture → List ℕ → List ℕ → List ℕ
-table_lines names picture wide columns = joined (table_line names picture wide columns) (line_count picture)
+abbrev pub table_lines : Labels → Picture → List ℕ → List ℕ → List ℕ
+table_lines labels picture wide columns = joined (table_line labels picture wide columns) (line_count picture)
 
 -- its text: the lines, and how many registers are left out
-abbrev pub table_text : Names → Picture → List ℕ → List ℕ → List ℕ
-table_text names picture wide columns = table_lines names picture wide columns ++ left_out_text (length wide - length columns) (length picture.start)
+abbrev pub table_text : Labels → Picture → List ℕ → List ℕ → List ℕ
+table_text labels picture wide columns = table_lines labels picture wide columns ++ left_out_text (length wide - length columns) (length picture.start)
 
--- the text of a drawing that may be so broad, with these names of registers
-abbrev pub named_text : Breadth → Names → Picture → List ℕ
-named_text breadth names picture = table_text names picture (widths names picture) (columns_shown picture (widths names picture) breadth)
+-- the text of a drawing that has so much room, with these labels
+abbrev pub labelled_text : Room → Labels → Picture → List ℕ
+labelled_text room labels picture = table_text labels picture (widths labels picture) (columns_shown picture (widths labels picture) room)
 
--- the same with the names that the text of a source gives them
+-- the text of a drawing that may be so broad, with what the text of a source tells
 abbrev pub drawing_text : Breadth → List ℕ → Picture → List ℕ
-drawing_text breadth text picture = named_text breadth (register_names text (length picture.start)) picture
+drawing_text breadth text picture = labelled_text breadth.room (labels_of text (length picture.start) breadth.lines) picture

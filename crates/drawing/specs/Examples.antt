@@ -1,28 +1,39 @@
 -- Worked examples: the definitions compute.
-use Rattle.std.specs.Prelude.{◌≡◌, ℕ, true, false, [], ◌∷◌, ◌++◌, map, refl, None, Some, codes}
+use Rattle.std.specs.Prelude.{◌≡◌, ℕ, Bool, true, false, [], ◌∷◌, ◌++◌, map, refl, None, Some, codes}
 use Rattle.std.specs.Fmt.{digits}
 use Rattle.regmodel.specs.declared.letters.Letter.TheVariants.{Run, Crash}
 use Rattle.regmodel.specs.declared.outcomes.End.TheVariants as end
+use Rattle.regmodel.specs.declared.statements.Expr.TheVariants.{One}
+use Rattle.regmodel.specs.declared.statements.Operand.TheVariants as operand
+use Rattle.regmodel.specs.declared.statements.Target.TheVariants as target
+use Rattle.regmodel.specs.Program.{Assign, Emit, Read, Stop, Write}
 use Rattle.regmodel.specs.Wanted.{wanted_after}
 use Rattle.regmodel.specs.Examples.{scans_two, two_writers, writer_and_reader}
 use Rattle.regmodel.specs.Replies.{value_after}
+use Rattle.reglang.specs.Contents.{Contents, Text}
 use Rattle.drawing.specs.declared.drawings.Deed.TheVariants as deed
 use Rattle.drawing.specs.declared.drawings.Held.{Held}
 use Rattle.drawing.specs.declared.drawings.Row.{Row}
 use Rattle.drawing.specs.Cells.{row_text}
 use Rattle.drawing.specs.Choices.{is_told, tells_registers}
-use Rattle.drawing.specs.declared.breadths.Breadth.TheVariants.{Places, Usual, Whole}
+use Rattle.drawing.specs.declared.breadths.Breadth.{Breadth}
+use Rattle.drawing.specs.declared.breadths.Room.TheVariants.{Places, Usual, Whole}
 use Rattle.drawing.specs.DrawingText.{drawing_text, left_out_text}
 use Rattle.drawing.specs.Layout.{columns_shown}
 use Rattle.drawing.specs.Names.{name_in, register_names}
 use Rattle.drawing.specs.Pictures.{IsPictureOf, Picture, deed_by}
 use Rattle.drawing.specs.Registers.{all_held}
+use Rattle.drawing.specs.Stops.{stop_of, stops_after}
 
 abbrev kept : ℕ → Held
 kept value = record { value = value; changed = false }
 
 abbrev changed_to : ℕ → Held
 changed_to value = record { value = value; changed = true }
+
+-- as broad as usual, with lines of statements or without
+abbrev usual : Bool → Breadth
+usual lines = record { room = Usual; lines = lines }
 
 -- ---- what letters do
 
@@ -40,28 +51,39 @@ first_register_changed = refl
 
 -- ---- a writer and a reader
 
+-- the same as a source
+abbrev writes_and_reads : Contents
+writes_and_reads = record {
+  registers = 1;
+  processes = Text (Write (operand.Number 0) (One (operand.Number 5)) Stop)
+      ∷ Text (Read (target.Var 0) (operand.Number 0) (Emit (One (operand.Var 0)) Stop)) ∷ [];
+  clauses = [];
+}
+
 abbrev both : Picture
 both = record {
   start = kept 0 ∷ [];
   rows =
-      record { number = 1; process = 0; deed = deed.Write 0 5; registers = record { items = changed_to 5 ∷ [] } }
-      ∷ record { number = 2; process = 1; deed = deed.Read 0 5; registers = record { items = kept 5 ∷ [] } } ∷ [];
+      record { number = 1; process = 0; deed = deed.Write 0 5; statement = Some 0; registers = record { items = changed_to 5 ∷ [] } }
+      ∷ record { number = 2; process = 1; deed = deed.Read 0 5; statement = Some 0; registers = record { items = kept 5 ∷ [] } } ∷ [];
   ends =
       record { started = true; fate = end.Done (record { items = [] }) }
       ∷ record { started = true; fate = end.Done (record { items = 5 ∷ [] }) } ∷ [];
+  stops = None ∷ None ∷ [];
 }
 
-pub picture_of_both : IsPictureOf writer_and_reader 1 (Run 0 ∷ Run 1 ∷ []) both
+pub picture_of_both : IsPictureOf writes_and_reads (Run 0 ∷ Run 1 ∷ []) both
 picture_of_both = record {
   start = refl;
   rows = (
-    record { number = refl; process = refl; deed = refl; registers_are = refl },
-    (record { number = refl; process = refl; deed = refl; registers_are = refl }, tt),
+    record { number = refl; process = refl; deed = refl; registers = refl; statement = refl },
+    (record { number = refl; process = refl; deed = refl; registers = refl; statement = refl }, tt),
   );
   ends = refl;
+  stops = refl;
 }
 
-pub text_of_both : drawing_text Usual [] both ≡
+pub text_of_both : drawing_text (usual false) [] both ≡
     codes "step  process 0        process 1           r0\n"
     ++ codes "0                                          0\n"
     ++ codes "1     write 0 5, done                      5*\n"
@@ -69,6 +91,22 @@ pub text_of_both : drawing_text Usual [] both ≡
     ++ codes "      done             done 5\n"
 unfolding digits
 text_of_both = refl
+
+-- ---- at which statement processes stop
+
+-- one process has no statement, the other one stands at its second
+abbrev stands_at_its_second : Contents
+stands_at_its_second = record {
+  registers = 2;
+  processes = Text Stop ∷ Text (Assign (target.Var 0) (One (operand.Number 5)) (Write (operand.Number 0) (One (operand.Var 0)) Stop)) ∷ [];
+  clauses = [];
+}
+
+pub no_statement_and_its_second : stops_after stands_at_its_second [] ≡ None ∷ Some 1 ∷ []
+no_statement_and_its_second = refl
+
+pub a_use_line_is_the_only_one : stop_of None [] ≡ Some 0
+a_use_line_is_the_only_one = refl
 
 -- ---- names of registers
 
@@ -82,7 +120,7 @@ turn_is_named = refl
 pub seventeen_bytes_are_no_name : name_in (codes "0:") (codes "# register 0: seventeen_letters") ≡ None
 seventeen_bytes_are_no_name = refl
 
-pub text_with_a_name : drawing_text Usual (codes "# register 0: flag\n") both ≡
+pub text_with_a_name : drawing_text (usual false) (codes "# register 0: flag\n") both ≡
     codes "step  process 0           process 1              flag\n"
     ++ codes "0                                                0\n"
     ++ codes "1     write flag 5, done                         5*\n"
@@ -91,14 +129,25 @@ pub text_with_a_name : drawing_text Usual (codes "# register 0: flag\n") both �
 unfolding digits
 text_with_a_name = refl
 
+-- ---- lines of statements
+
+pub text_with_lines : drawing_text (usual true) (codes "registers 1\nprocess\n write 0 5\nend\n#line 19\nprocess\n read v0 0\nend\n") both ≡
+    codes "step  line  process 0        process 1           r0\n"
+    ++ codes "0                                                0\n"
+    ++ codes "1     3     write 0 5, done                      5*\n"
+    ++ codes "2     20                     read 0 = 5, done 5  5\n"
+    ++ codes "            done             done 5\n"
+unfolding digits
+text_with_lines = refl
+
 -- ---- a fault
 
 -- a process that scans two registers and names then one that is not there
 abbrev scan_row : Row
-scan_row = record { number = 1; process = 0; deed = deed.Scan 1 2; registers = record { items = kept 0 ∷ kept 7 ∷ kept 12 ∷ [] } }
+scan_row = record { number = 1; process = 0; deed = deed.Scan 1 2; statement = Some 0; registers = record { items = kept 0 ∷ kept 7 ∷ kept 12 ∷ [] } }
 
 abbrev faulty : Picture
-faulty = record { start = kept 0 ∷ kept 7 ∷ kept 12 ∷ []; rows = scan_row ∷ []; ends = record { started = true; fate = end.Fault 2 } ∷ [] }
+faulty = record { start = kept 0 ∷ kept 7 ∷ kept 12 ∷ []; rows = scan_row ∷ []; ends = record { started = true; fate = end.Fault 2 } ∷ []; stops = Some 1 ∷ [] }
 
 pub a_scan_and_a_fault_are_told : row_text [] faulty scan_row ≡ codes "scan 1 2 = 7 12, fault 2"
 unfolding digits
@@ -112,16 +161,17 @@ a_scan_from_a_named_register = refl
 
 -- a process that reads the last but one of four registers, and writes 5 into the last one
 abbrev read_row : Row
-read_row = record { number = 1; process = 0; deed = deed.Read 2 0; registers = record { items = kept 0 ∷ kept 0 ∷ kept 0 ∷ kept 0 ∷ [] } }
+read_row = record { number = 1; process = 0; deed = deed.Read 2 0; statement = Some 0; registers = record { items = kept 0 ∷ kept 0 ∷ kept 0 ∷ kept 0 ∷ [] } }
 
 abbrev write_row : Row
-write_row = record { number = 2; process = 0; deed = deed.Write 3 5; registers = record { items = kept 0 ∷ kept 0 ∷ kept 0 ∷ changed_to 5 ∷ [] } }
+write_row = record { number = 2; process = 0; deed = deed.Write 3 5; statement = Some 1; registers = record { items = kept 0 ∷ kept 0 ∷ kept 0 ∷ changed_to 5 ∷ [] } }
 
 abbrev last_two : Picture
 last_two = record {
   start = kept 0 ∷ kept 0 ∷ kept 0 ∷ kept 0 ∷ [];
   rows = read_row ∷ write_row ∷ [];
   ends = record { started = true; fate = end.Done (record { items = [] }) } ∷ [];
+  stops = None ∷ [];
 }
 
 -- in columns of width 30 two fit beside the letter's number: that of the process, and that of the register which is written

@@ -1,14 +1,14 @@
 -- How wide the columns of a drawing are, and how many are shown.
 use Rattle.std.specs.Prelude.{ℕ, zero, suc, ◌+◌, ◌-◌, ◌==◌, Bool, true, false, ◌&&◌, ◌||◌, List, filter, length, map, max, nat_le, nat_lt, if◌then◌else◌, get_or}
 use Rattle.std.specs.List.{list_any, range_with_len}
-use Rattle.drawing.specs.declared.breadths.Breadth.{Breadth}
-use Rattle.drawing.specs.declared.breadths.Breadth.TheVariants.{Chosen, Places, Usual, Whole}
+use Rattle.drawing.specs.declared.breadths.Room.{Room}
+use Rattle.drawing.specs.declared.breadths.Room.TheVariants.{Chosen, Places, Usual, Whole}
 use Rattle.drawing.specs.declared.layout.TheConstants.{NARROW, PARTING, WIDE}
 use Rattle.drawing.specs.Cells.{cell_text}
 use Rattle.drawing.specs.Choices.{is_told}
 use Rattle.drawing.specs.declared.drawings.Deed.{Deed}
 use Rattle.drawing.specs.declared.drawings.Deed.TheVariants.{Read, Write, Scan, Crash}
-use Rattle.drawing.specs.Names.{Names}
+use Rattle.drawing.specs.Labels.{Labels}
 use Rattle.drawing.specs.Pictures.{Picture}
 
 -- the greatest of f 0, f 1 and so on, n of them; 0 where there is none
@@ -25,12 +25,12 @@ abbrev pub column_count : Picture → ℕ
 column_count picture = 1 + length picture.ends + length picture.start
 
 -- a column is as wide as its widest text
-abbrev pub width_of : Names → Picture → ℕ → ℕ
-width_of names picture column = greatest (λ line. length (cell_text names picture line column)) (line_count picture)
+abbrev pub width_of : Labels → Picture → ℕ → ℕ
+width_of labels picture column = greatest (λ line. length (cell_text labels picture line column)) (line_count picture)
 
 -- the width of each column
-abbrev pub widths : Names → Picture → List ℕ
-widths names picture = map (width_of names picture) (range_with_len 0 (column_count picture))
+abbrev pub widths : Labels → Picture → List ℕ
+widths labels picture = map (width_of labels picture) (range_with_len 0 (column_count picture))
 
 -- how many columns stand in any case: those of the letters' numbers and of the processes
 abbrev pub fixed_columns : Picture → ℕ
@@ -90,16 +90,16 @@ abbrev pub has_room : Picture → List ℕ → ℕ → ℕ → Bool
 has_room picture wide column places = nat_le (end_with picture wide column) (places + PARTING)
 
 -- whether the column of a register is shown: there is room for it, or all are shown, or just this one and others are asked for
-abbrev pub is_asked : Picture → List ℕ → ℕ → Breadth → Bool
+abbrev pub is_asked : Picture → List ℕ → ℕ → Room → Bool
 is_asked picture wide column Usual = has_room picture wide column (usual_places (length picture.ends))
 is_asked picture wide column (Places places) = has_room picture wide column places
 is_asked picture wide column Whole = true
 is_asked picture wide column (Chosen text) = is_told text.now (column - fixed_columns picture)
 
 -- whether a column is shown: it stands in any case, or is that of a register which is asked for
-abbrev pub is_shown : Picture → List ℕ → Breadth → ℕ → Bool
-is_shown picture wide breadth column = nat_lt column (fixed_columns picture) || is_asked picture wide column breadth
+abbrev pub is_shown : Picture → List ℕ → Room → ℕ → Bool
+is_shown picture wide room column = nat_lt column (fixed_columns picture) || is_asked picture wide column room
 
 -- the columns that are shown
-abbrev pub columns_shown : Picture → List ℕ → Breadth → List ℕ
-columns_shown picture wide breadth = filter (is_shown picture wide breadth) (range_with_len 0 (length wide))
+abbrev pub columns_shown : Picture → List ℕ → Room → List ℕ
+columns_shown picture wide room = filter (is_shown picture wide room) (range_with_len 0 (length wide))

@@ -2,7 +2,11 @@ pub mod Cells
 pub mod Choices
 pub mod DrawingText
 pub mod Examples
+pub mod Labels
 pub mod Layout
 pub mod Names
 pub mod Pictures
 pub mod Registers
+pub mod StatementLineExamples
+pub mod StatementLines
+pub mod Stops

@@ -13,6 +13,7 @@ use Rattle.regmodel.specs.Program.{Program}
 use Rattle.regmodel.specs.Replies.{value_after}
 use Rattle.regmodel.specs.Reply.{Replies}
 use Rattle.regmodel.specs.Schedules.{IsSchedule}
+use Rattle.reglang.specs.Contents.{Contents, programs_in}
 use Rattle.world.specs.declared.BadLetter.{BadLetter}
 use Rattle.world.specs.declared.World.{World}
 use Rattle.world.specs.Sound.{IsSameWorld, budget_of, letters_of, register_count_of, world_programs}
@@ -22,12 +23,15 @@ use Rattle.drawing.specs.declared.drawings.Deed.TheVariants as deed
 use Rattle.drawing.specs.declared.drawings.Held.{Held}
 use Rattle.drawing.specs.declared.drawings.Row.{Row}
 use Rattle.drawing.specs.Registers.{all_held}
+use Rattle.drawing.specs.Stops.{stop_after, stops_after}
 
--- what registers hold before the first letter, a row a letter, and how each process stands after the last
+-- what registers hold before the first letter, a row a letter, how each process stands after the last, and at which of its statements it
+-- stops then
 pub record Picture : Type 0 where
   pub start : List Held
   pub rows : List Row
   pub ends : List ProcEnd
+  pub stops : List (Option ℕ)
 
 -- what a letter does, where `values` tells what registers hold before it, beside the access that its process wants; a run of a
 -- process that wants none does nothing
@@ -38,35 +42,40 @@ deed_by values (letter.Run p) (Some (access.Scan first count)) = Some (deed.Scan
 deed_by values (letter.Run p) None = None
 deed_by values (letter.Crash p) wanted = Some deed.Crash
 
--- the row of a letter that comes after `before`
-pub record IsRowOf (programs : List Program) (registers : ℕ) (before : Schedule) (letter : Letter) (row : Row) : Type 0 where
+-- the row of a letter that comes after `before`, with the statement at which its process stands before it
+pub record IsRowOf (source : Contents) (before : Schedule) (letter : Letter) (row : Row) : Type 0 where
   pub number : row.number ≡ length before + 1
   pub process : row.process ≡ process_of letter
-  pub deed : deed_by (value_after programs before) letter (wanted_after programs before (process_of letter)) ≡ Some row.deed
-  pub registers_are : row.registers.items ≡ all_held programs registers before (before ++ letter ∷ [])
+  pub deed : deed_by (value_after (programs_in source) before) letter (wanted_after (programs_in source) before (process_of letter)) ≡ Some row.deed
+  pub registers : row.registers.items ≡ all_held (programs_in source) source.registers before (before ++ letter ∷ [])
+  pub statement : row.statement ≡ stop_after source before (process_of letter)
 
 -- a row for each letter of `later`, which comes after `before`
-abbrev pub AreRowsOf : List Program → ℕ → Schedule → Schedule → List Row → Type 0
-AreRowsOf programs registers before [] [] = Unit {0}
-AreRowsOf programs registers before [] (row ∷ rows) = ⊥
-AreRowsOf programs registers before (letter ∷ later) [] = ⊥
-AreRowsOf programs registers before (letter ∷ later) (row ∷ rows) =
-    IsRowOf programs registers before letter row
-    × AreRowsOf programs registers (before ++ letter ∷ []) later rows
+abbrev pub AreRowsOf : Contents → Schedule → Schedule → List Row → Type 0
+AreRowsOf source before [] [] = Unit {0}
+AreRowsOf source before [] (row ∷ rows) = ⊥
+AreRowsOf source before (letter ∷ later) [] = ⊥
+AreRowsOf source before (letter ∷ later) (row ∷ rows) = IsRowOf source before letter row × AreRowsOf source (before ++ letter ∷ []) later rows
 
--- what is drawn of a schedule over so many registers
-pub record IsPictureOf (programs : List Program) (registers : ℕ) (w : Schedule) (picture : Picture) : Type 0 where
-  pub start : picture.start ≡ all_held programs registers [] []
-  pub rows : AreRowsOf programs registers [] w picture.rows
-  pub ends : picture.ends ≡ outcome_of programs w
+-- what is drawn of a schedule of a source
+pub record IsPictureOf (source : Contents) (w : Schedule) (picture : Picture) : Type 0 where
+  pub start : picture.start ≡ all_held (programs_in source) source.registers [] []
+  pub rows : AreRowsOf source [] w picture.rows
+  pub ends : picture.ends ≡ outcome_of (programs_in source) w
+  pub stops : picture.stops ≡ stops_after source w
 
--- the same world was led along a schedule, which was drawn; or it stands before the first letter that is not possible
+-- a world of the processes of a source, over its registers
+pub record IsWorldOf {I : Type 0} {V : I → Type 0} (program : ((i : I) × V i) → Program) (world : World I V) (source : Contents) : Type 0 where
+  pub programs : world_programs program world ≡ programs_in source
+  pub registers : register_count_of world ≡ source.registers
+
+-- the same world was led along a schedule of a source, which was drawn; or it stands before the first letter that is not possible
 pub record Draws {I : Type 0} {V : I → Type 0}
     (program : ((i : I) × V i) → Program) (rest : ((i : I) × V i) → Replies → Pending)
-    (resumed : ((i : I) × V i) → List ℕ → Replies → Pending) (old new : World I V) (w : Schedule)
+    (resumed : ((i : I) × V i) → List ℕ → Replies → Pending) (source : Contents) (old new : World I V) (w : Schedule)
     (result : Result Picture BadLetter) : Type 0 where
   pub same : IsSameWorld program rest resumed old new
   pub schedule : IfOk result (λ drawing. IsSchedule (world_programs program old) (budget_of old) w)
-  pub drawn : IfOk result (IsPictureOf (world_programs program old) (register_count_of old) w)
+  pub drawn : IfOk result (IsPictureOf source w)
   pub ok : OnOk result (letters_of new ≡ w)
   pub refused : IfErr result (IsStopped (world_programs program old) (budget_of old) w (letters_of new))

@@ -13,6 +13,9 @@ pub(crate) const MOST_CELL_BYTES: usize = 848;
 /// The most bytes of a number.
 const MOST_DIGITS: usize = 10;
 
+/// The most bytes of the number of a line.
+const MOST_LINE_DIGITS: usize = 20;
+
 /// The text of a cell. A clause sees its bytes.
 #[derive(Drop)]
 pub(crate) struct Cell {
@@ -63,5 +66,14 @@ impl Cell {
     {
         let mut buffer = Buffer::new();
         self.with(buffer.format(number).as_bytes())
+    }
+
+    /// The same with the digits of the number of a line last.
+    pub(crate) fn with_line(self, line: u64) -> Cell
+        requires { length self + MOST_LINE_DIGITS ≤ MOST_CELL_BYTES }
+        ensures { result ≡ self ++ decimal line }
+    {
+        let mut buffer = Buffer::new();
+        self.with(buffer.format(line).as_bytes())
     }
 }

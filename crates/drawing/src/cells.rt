@@ -1,6 +1,6 @@
 //! The texts of a drawing, cell by cell.
 
-ghost use Rattle.std.specs.Prelude.{◌≡◌, ◌≤◌, ◌<◌, ◌+◌, ◌++◌, codes, decimal, length};
+ghost use Rattle.std.specs.Prelude.{◌≡◌, ◌≤◌, ◌<◌, ◌+◌, ◌++◌, codes, decimal, length, option_map};
 ghost use Rattle.std.specs.List.{list_any};
 ghost use Rattle.texts.specs.OutcomeText.{end_text, fate_text};
 ghost use Rattle.drawing.specs.Cells as texts;
@@ -8,6 +8,7 @@ ghost use Rattle.drawing.specs.Layout.{column_count, line_count};
 
 use crate::cell_bytes::{Cell, MOST_CELL_BYTES};
 use crate::drawings::{Deed, Drawing, Held, Row};
+use crate::labels::{Labels, line_of};
 use crate::names::{MOST_NAME_BYTES, Names};
 use regmodel::{End, ProcEnd};
 
@@ -190,16 +191,53 @@ enum Line<'a> {
     End,
 }
 
-/// The text of a line in the column of the letters' numbers.
-fn number_cell(line: Line<'_>) -> Cell
-    ensures { result ≡ texts.number_cell (texts.line_of line.entry) }
+/// The text of a line in the column of the letters' numbers, and in that of the lines of their
+/// statements, where these are to be told.
+fn number_cell(labels: &Labels<'_>, line: Line<'_>) -> Cell
+    ensures { result ≡ texts.number_cell labels.now.lines (texts.line_of line.entry) }
 {
     match line {
-        Line::Head => Cell::new().with(b"step"),
+        Line::Head => numbers_head(labels.lines()),
         Line::Start => Cell::new().with(b"0"),
-        Line::Row(row) => Cell::new().with_number(u32::from(row.number)),
+        Line::Row(row) => letter_cell(labels.lines(), row),
         Line::End => Cell::new(),
     }
+}
+
+/// The head of the column of the letters' numbers, and of that of lines, where these are to be told
+/// of a text.
+fn numbers_head(lines: Option<&[u8]>) -> Cell
+    ensures { result ≡ texts.number_cell (option_map (λ text. text.now) lines.entry) texts.Head }
+{
+    match lines {
+        Some(_) => Cell::new().with(b"step  line"),
+        None => Cell::new().with(b"step"),
+    }
+}
+
+/// The number of a letter, and the line of a text with its statement, where that is to be told.
+fn letter_cell(lines: Option<&[u8]>, row: &Row) -> Cell
+    ensures { result ≡ decimal row.now.number
+        ++ texts.line_beside (option_map (λ text. text.now) lines.entry) row.now }
+{
+    let number = Cell::new().with_number(u32::from(row.number));
+    let Some(text) = lines else {
+        return number;
+    };
+    match line_of(text, row) {
+        Some(line) => number
+            .with(gap_behind(row.number).as_bytes())
+            .with_line(line),
+        None => number,
+    }
+}
+
+/// What parts the number of a letter from that of a line, so that this stands below its head.
+fn gap_behind(number: u8) -> &'static str
+    ensures text { result.now ≡ texts.gap_behind number }
+    ensures short { length result.now ≤ 5 }
+{
+    if number < 10 { "     " } else { "    " }
 }
 
 impl Drawing {
@@ -233,17 +271,17 @@ impl Drawing {
     }
 
     /// The text at a line and a column.
-    pub(crate) fn cell(&self, names: &Names<'_>, line: usize, column: u8) -> Cell
-        ensures { result ≡ texts.cell_text names.now self.now line column }
+    pub(crate) fn cell(&self, labels: &Labels<'_>, line: usize, column: u8) -> Cell
+        ensures { result ≡ texts.cell_text labels.now self.now line column }
     {
         let line = self.line_at(line);
         let processes = self.outcome().ends().len() as u8;
         if column == 0 {
-            number_cell(line)
+            number_cell(labels, line)
         } else if column <= processes {
-            self.process_cell(names, line, column - 1)
+            self.process_cell(labels.names(), line, column - 1)
         } else {
-            self.register_cell(names, line, column - 1 - processes)
+            self.register_cell(labels.names(), line, column - 1 - processes)
         }
     }
 

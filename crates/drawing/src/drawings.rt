@@ -1,6 +1,6 @@
 //! What is drawn of a schedule.
 
-ghost use Rattle.std.specs.Prelude.{◌≡◌, ◌≤◌, length};
+ghost use Rattle.std.specs.Prelude.{◌≡◌, ◌≤◌, None, get_or, length};
 
 use arrayvec::ArrayVec;
 use regmodel::Outcome;
@@ -21,7 +21,15 @@ pub enum Deed {
 }
 
 impl Deed {
+    ghost use Rattle.drawing.specs.Labels as labels;
     ghost use Rattle.drawing.specs.Layout as layout;
+
+    /// Whether its process crashed.
+    pub(crate) fn is_crash(self) -> bool
+        ensures { result ≡ labels.is_crash self }
+    {
+        matches!(self, Deed::Crash)
+    }
 
     /// Whether it wrote into a register.
     pub(crate) fn writes(self, register: usize) -> bool
@@ -66,17 +74,21 @@ pub struct Row {
     pub process: u8,
     /// What the letter did.
     pub deed: Deed,
+    /// The number of the statement of the process's own text at which it stood before it, counted
+    /// from 0; that of a use line is 0.
+    pub statement: Option<usize>,
     /// What each register holds after it, registers from 0.
     pub registers: ArrayVec<Held, 64>,
 }
 
 /// What is drawn of a schedule: what each register holds before its first letter, a row a letter,
-/// and how each process stands after the last one.
+/// how each process stands after the last one, and at which of its statements it stops then.
 #[derive(Debug, Drop)]
 pub struct Drawing {
     start: ArrayVec<Held, 64>,
     rows: ArrayVec<Row, 64>,
     outcome: Outcome,
+    stops: ArrayVec<Option<usize>, 8>,
 }
 
 impl Model for Drawing {
@@ -86,7 +98,12 @@ impl Model for Drawing {
 
     ghost Value = { Picture };
 
-    ghost view = { λ d. record { start = d.start.items; rows = d.rows.items; ends = d.outcome } };
+    ghost view = { λ d. record {
+      start = d.start.items;
+      rows = d.rows.items;
+      ends = d.outcome;
+      stops = d.stops.items;
+    } };
 
     ghost invariant = { λ d. length d.outcome ≤ MOST_PROCESSES };
 }
@@ -100,14 +117,21 @@ impl Drawing {
         start: ArrayVec<Held, 64>,
         rows: ArrayVec<Row, 64>,
         outcome: Outcome,
+        stops: ArrayVec<Option<usize>, 8>,
     ) -> Drawing
         requires { length outcome ≤ MOST_PROCESSES }
-        ensures { result ≡ record { start = start.items; rows = rows.items; ends = outcome } }
+        ensures { result ≡ record {
+          start = start.items;
+          rows = rows.items;
+          ends = outcome;
+          stops = stops.items;
+        } }
     {
         Drawing {
             start,
             rows,
             outcome,
+            stops,
         }
     }
 
@@ -130,5 +154,17 @@ impl Drawing {
         ensures { result.now ≡ self.now.ends }
     {
         &self.outcome
+    }
+
+    /// The number of the statement of its own text at which a process stops at the end, counted
+    /// from 0: the one that wants an access, halts or is at fault; 0 where it is a use line. None
+    /// where it has come past its last one, or is not there.
+    pub fn stop_of(&self, p: u8) -> Option<usize>
+        ensures { result ≡ get_or self.now.stops p None }
+    {
+        match self.stops.get(usize::from(p)) {
+            Some(stop) => *stop,
+            None => None,
+        }
     }
 }

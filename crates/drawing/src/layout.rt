@@ -3,11 +3,11 @@
 ghost use Rattle.std.specs.Prelude.{◌≡◌, ◌≤◌, ◌<◌, ◌*◌, ◌^◌, All, IfSome, length};
 ghost use Rattle.drawing.specs.Layout as layout;
 
-use crate::breadths::Breadth;
+use crate::breadths::Room;
 use crate::cells::MOST_COLUMNS;
 use crate::choices::is_told;
 use crate::drawings::Drawing;
-use crate::names::Names;
+use crate::labels::Labels;
 use arrayvec::ArrayVec;
 
 /// How many spaces part two columns.
@@ -23,25 +23,25 @@ pub(crate) const WIDE: usize = 132;
 pub(crate) type Widths = ArrayVec<u16, MOST_COLUMNS>;
 
 /// How wide the column is: as wide as its widest text.
-fn width_of(names: &Names<'_>, drawing: &Drawing, column: u8) -> u16
-    ensures { result ≡ layout.width_of names.now drawing.now column }
+fn width_of(labels: &Labels<'_>, drawing: &Drawing, column: u8) -> u16
+    ensures { result ≡ layout.width_of labels.now drawing.now column }
 {
     let mut width = 0;
     for line in 0..drawing.lines() {
-        let long = drawing.cell(names, line, column).bytes().len() as u16;
+        let long = drawing.cell(labels, line, column).bytes().len() as u16;
         width = width.max(long);
     }
     width
 }
 
 /// How wide each column is.
-pub(crate) fn widths_of(names: &Names<'_>, drawing: &Drawing) -> Widths
-    ensures widths { result.items ≡ layout.widths names.now drawing.now }
+pub(crate) fn widths_of(labels: &Labels<'_>, drawing: &Drawing) -> Widths
+    ensures widths { result.items ≡ layout.widths labels.now drawing.now }
     ensures each { length result.items ≡ layout.column_count drawing.now }
 {
     let mut widths = Widths::new();
     for column in 0..drawing.columns() {
-        widths.push(width_of(names, drawing, column as u8));
+        widths.push(width_of(labels, drawing, column as u8));
     }
     widths
 }
@@ -107,20 +107,18 @@ fn end_with(drawing: &Drawing, widths: &Widths, column: usize) -> usize
 }
 
 /// Whether a column is shown.
-fn is_shown(drawing: &Drawing, widths: &Widths, breadth: Breadth<'_>, column: usize) -> bool
-    ensures { result ≡ layout.is_shown drawing.now widths.now.items breadth.entry column }
+fn is_shown(drawing: &Drawing, widths: &Widths, room: Room<'_>, column: usize) -> bool
+    ensures { result ≡ layout.is_shown drawing.now widths.now.items room.entry column }
 {
     let fixed = fixed_columns(drawing);
     if column < fixed {
         return true;
     }
-    match breadth {
-        Breadth::Usual => { end_with(drawing, widths, column) <= usual_places(fixed - 1) + PARTING }
-        Breadth::Places(places) => {
-            end_with(drawing, widths, column) <= places as usize + PARTING
-        }
-        Breadth::Whole => true,
-        Breadth::Chosen(text) => is_told(text.as_bytes(), column - fixed),
+    match room {
+        Room::Usual => { end_with(drawing, widths, column) <= usual_places(fixed - 1) + PARTING }
+        Room::Places(places) => { end_with(drawing, widths, column) <= places as usize + PARTING }
+        Room::Whole => true,
+        Room::Chosen(text) => is_told(text.as_bytes(), column - fixed),
     }
 }
 
@@ -137,15 +135,15 @@ fn usual_places(processes: usize) -> usize
 pub(crate) fn columns_shown(
     drawing: &Drawing,
     widths: &Widths,
-    breadth: Breadth<'_>,
+    room: Room<'_>,
 ) -> ArrayVec<u8, MOST_COLUMNS>
     requires { length widths.now.items ≡ layout.column_count drawing.now }
-    ensures value { result.items ≡ layout.columns_shown drawing.now widths.now.items breadth.entry }
+    ensures value { result.items ≡ layout.columns_shown drawing.now widths.now.items room.entry }
     ensures there { All (λ column. column < length widths.now.items) result.items }
 {
     let mut shown = ArrayVec::new();
     for column in 0..widths.len() {
-        if is_shown(drawing, widths, breadth, column) {
+        if is_shown(drawing, widths, room, column) {
             shown.push(column as u8);
         }
     }

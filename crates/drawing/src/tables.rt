@@ -7,14 +7,14 @@ ghost use Rattle.drawing.specs.declared.cells.TheConstants.{MOST_COLUMNS};
 use crate::cells::MOST_COLUMNS;
 use crate::drawings::Drawing;
 use crate::gaps::{Placed, gap_past};
-use crate::names::Names;
+use crate::labels::Labels;
 use std::io::Write;
 use texts::{Block, Text, WriteFault};
 
 /// A drawing in these columns, rising, each of its width.
 #[derive(Clone, Copy)]
 pub(crate) struct Table<'a> {
-    pub(crate) names: &'a Names<'a>,
+    pub(crate) labels: &'a Labels<'a>,
     pub(crate) drawing: &'a Drawing,
     pub(crate) widths: &'a [u16],
     pub(crate) columns: &'a [u8],
@@ -25,7 +25,7 @@ pub(crate) struct Table<'a> {
 
 /// The lines, and how many registers are left out.
 impl Text for Table<'_> {
-    ghost text = { λ t. table_text t.names.now t.drawing.now t.widths.now t.columns.now };
+    ghost text = { λ t. table_text t.labels.now t.drawing.now t.widths.now t.columns.now };
 
     fn put<W: Write>(&self, out: &mut W, block: &mut Block) -> Result<(), WriteFault> {
         let left_out = LeftOut {
@@ -61,7 +61,7 @@ impl Text for LeftOut {
 struct Lines<'a>(Table<'a>);
 
 impl Text for Lines<'_> {
-    ghost text = { λ l. table_lines l.0.names.now l.0.drawing.now l.0.widths.now l.0.columns.now };
+    ghost text = { λ l. table_lines l.0.labels.now l.0.drawing.now l.0.widths.now l.0.columns.now };
 
     fn put<W: Write>(&self, out: &mut W, block: &mut Block) -> Result<(), WriteFault> {
         let table = self.0;
@@ -80,7 +80,7 @@ struct TableLine<'a> {
 }
 
 impl Text for TableLine<'_> {
-    ghost text = { λ l. table_line l.table.names.now l.table.drawing.now l.table.widths.now
+    ghost text = { λ l. table_line l.table.labels.now l.table.drawing.now l.table.widths.now
         l.table.columns.now l.line };
 
     fn put<W: Write>(&self, out: &mut W, block: &mut Block) -> Result<(), WriteFault> {
@@ -89,7 +89,7 @@ impl Text for TableLine<'_> {
         let mut gap = 0;
         for place in 0..table.columns.len() {
             let column = table.columns[place];
-            let cell = table.drawing.cell(table.names, self.line, column);
+            let cell = table.drawing.cell(table.labels, self.line, column);
             Placed { gap, cell: &cell }.put(out, block)?;
             gap = gap_past(gap, widths[usize::from(column)], &cell);
         }

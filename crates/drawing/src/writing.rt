@@ -4,8 +4,8 @@ ghost use Rattle.drawing.specs.DrawingText.{drawing_text};
 
 use crate::breadths::Breadth;
 use crate::drawings::Drawing;
+use crate::labels::Labels;
 use crate::layout::{columns_shown, widths_of};
-use crate::names::Names;
 use crate::tables::Table;
 use std::io::Write;
 use texts::{Block, Text, WriteFault};
@@ -19,9 +19,10 @@ use texts::{Block, Text, WriteFault};
 pub struct Drawn<'a> {
     /// The drawing.
     pub drawing: &'a Drawing,
-    /// The text of the source, whose comments may give its registers names.
+    /// The text of the source, whose comments may give its registers names, and whose lines may be
+    /// told.
     pub text: &'a [u8],
-    /// How broad it may be.
+    /// How broad it may be, and which columns it has.
     pub breadth: Breadth<'a>,
 }
 
@@ -29,11 +30,12 @@ impl Text for Drawn<'_> {
     ghost text = { λ d. drawing_text d.breadth d.text.now d.drawing.now };
 
     fn put<W: Write>(&self, out: &mut W, block: &mut Block) -> Result<(), WriteFault> {
-        let names = Names::told(self.text, self.drawing.start().len());
-        let widths = widths_of(&names, self.drawing);
-        let columns = columns_shown(self.drawing, &widths, self.breadth);
+        let Breadth { room, lines } = self.breadth;
+        let labels = Labels::told(self.text, self.drawing.start().len(), lines);
+        let widths = widths_of(&labels, self.drawing);
+        let columns = columns_shown(self.drawing, &widths, room);
         let table = Table {
-            names: &names,
+            labels: &labels,
             drawing: self.drawing,
             widths: widths.as_slice(),
             columns: columns.as_slice(),

@@ -63,8 +63,8 @@ impl Finding {
     /// Writes what was found of the text in the file of a path.
     pub fn write<W: Write>(&self, topic: Topic<'_>, out: &mut W) -> Result<(), WriteFault>
         ensures { Wrote W.contents out.old out.new
-            (finding_text topic.entry.path.now topic.entry.text.now topic.entry.breadth self.now)
-            result }
+            (finding_text topic.entry.program.now topic.entry.path.now topic.entry.text.now
+            topic.entry.breadth self.now) result }
     {
         match self {
             Finding::Verdict(verdict, is_shortest) => {
@@ -89,7 +89,11 @@ impl Finding {
                     text: topic.text,
                     breadth: topic.breadth,
                 };
-                write(&(drawn, FaultLine(first_fault(drawing.outcome()))), out)
+                let fault = FaultLine {
+                    text: topic.text,
+                    fault: first_fault(topic.text, drawing),
+                };
+                write(&(drawn, fault), out)
             }
         }
     }

@@ -2,6 +2,7 @@ pub mod BlockEnds
 pub mod Blocks
 pub mod CellLists
 pub mod KeptStates
+pub mod NumberedBlocks
 pub mod PaddedValues
 pub mod PastReplies
 pub mod Places
@@ -11,3 +12,5 @@ pub mod SparseValues
 pub mod StandingNumbers
 pub mod StoppedPrograms
 pub mod TestBits
+pub mod WalkedAccesses
+pub mod WalkedBlocks

@@ -10,5 +10,8 @@ pub mod Runs
 pub mod Same
 pub mod Sparse
 pub mod Standings
+pub mod StopExamples
+pub mod Stops
 pub mod Stores
 pub mod Telling
+pub mod Walks

@@ -17,17 +17,20 @@ ghost use Rattle.machine.specs.Telling.{Tells};
 
 mod emitted;
 mod interp;
+mod numbering;
 mod resume;
 mod rows;
 mod run;
 mod sparse;
 mod standings;
 mod states;
+mod stops;
 mod values;
 
 pub use interp::Interp;
 use regmodel::{Pending, Reply};
 pub use sparse::put_sparse;
+pub use stops::stops_at;
 pub use told::Told;
 
 /// A program in progress, known by its program and by its rest: what is pending after each list of

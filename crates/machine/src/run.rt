@@ -68,7 +68,7 @@ pub enum BlockExit {
 }
 
 /// Evaluates the expression, then stores its value.
-fn assign(target: Target, value: &Expr, store: &mut Store) -> Result<StmtExit, u8>
+pub fn assign(target: Target, value: &Expr, store: &mut Store) -> Result<StmtExit, u8>
     ensures { (n : ℕ) (fs : List Frame)
         → StmtRuns result n fs (Assign target value.now) (env_of store.old) (env_of store.new) }
 {
@@ -93,7 +93,7 @@ fn register(operand: Operand, registers: u32, store: &Store) -> Result<u8, u8>
 }
 
 /// A read up to its access: first the register, then the place where the reply is to be stored.
-fn read(to: Target, from: Operand, registers: u32, store: &Store) -> Result<StmtExit, u8>
+pub fn read(to: Target, from: Operand, registers: u32, store: &Store) -> Result<StmtExit, u8>
     requires { registers ≤ MOST_REGISTERS }
     ensures { ComesTo result registers (Read to from) (env_of store.now) }
 {
@@ -103,7 +103,7 @@ fn read(to: Target, from: Operand, registers: u32, store: &Store) -> Result<Stmt
 }
 
 /// A write up to its access: first the register, then the value.
-fn write(to: Operand, value: &Expr, registers: u32, store: &Store) -> Result<StmtExit, u8>
+pub fn write(to: Operand, value: &Expr, registers: u32, store: &Store) -> Result<StmtExit, u8>
     requires { registers ≤ MOST_REGISTERS }
     ensures { ComesTo result registers (Write to value.now) (env_of store.now) }
 {
@@ -116,7 +116,7 @@ fn write(to: Operand, value: &Expr, registers: u32, store: &Store) -> Result<Stm
 }
 
 /// A scan up to its access.
-fn scan(cell: u32, first: u32, count: u32, registers: u32) -> StmtExit
+pub fn scan(cell: u32, first: u32, count: u32, registers: u32) -> StmtExit
     requires small { registers ≤ MOST_REGISTERS }
     requires fits { IsTrue (scan_fits registers cell first count) }
     ensures { (env : Env) → ComesTo (Ok result) registers (Scan cell first count) env }
@@ -129,7 +129,7 @@ fn scan(cell: u32, first: u32, count: u32, registers: u32) -> StmtExit
 }
 
 /// Appends a number to those of the process; a fault where there are as many as may be.
-fn emit(value: &Expr, store: &mut Store) -> Result<StmtExit, u8>
+pub fn emit(value: &Expr, store: &mut Store) -> Result<StmtExit, u8>
     ensures { (n : ℕ) (fs : List Frame)
         → StmtRuns result n fs (Emit value.now) (env_of store.old) (env_of store.new) }
 {

@@ -1,3 +1,5 @@
 pub mod AllParts
 pub mod Marks
 pub mod OnePartMore
+pub mod Reading
+pub mod TextParts

@@ -1,13 +1,17 @@
 -- Worked examples of parts that are joined: the definitions compute.
 use Rattle.std.proofs.Common.{◌≡◌, ℕ, true, false, [], ◌∷◌, refl, None, Some, arith}
+use Rattle.std.specs.List.{flat_map}
 use Rattle.regmodel.specs.declared.letters.Letter.TheVariants.{Run}
 use Rattle.regmodel.specs.Examples.{started}
+use Rattle.part_texts.specs.PartText.{part_text}
 use Rattle.part_texts.specs.declared.parts.Found.TheVariants as found
+use Rattle.part_texts.specs.declared.parts.PartReport.{PartReport}
 use Rattle.merging.specs.Merged.{AreJoined, IsToldBy}
-use Rattle.merging.specs.Mergers.{numbers_marked}
+use Rattle.merging.specs.Joined.{numbers_marked}
 use Rattle.merging.specs.declared.faults.Misfit.TheVariants.{Count}
 use Rattle.merging.specs.declared.merged.Merged.TheVariants.{Least}
 use Rattle.part_texts.specs.PlainHead.{PlainHead}
+use Rattle.merging.specs.Texts.{AreOfTexts, IsKnownTextOf}
 use Rattle.merging.specs.Unjoined.{DifferIn}
 
 -- of four parts the first and the third are there
@@ -32,3 +36,14 @@ told_of_head number count cut = refl
 -- a first part of four and one of five differ in how many parts there are
 pub count_differs : DifferIn Count (head 1 4 3) (head 2 5 3)
 count_differs e = absurd (omega (arith, e))
+
+-- two parts stand in the first text, and one in the second
+pub three_in_two : (p q r : PartReport) → AreOfTexts IsKnownTextOf
+    (Some (flat_map part_text (p ∷ q ∷ [])) ∷ Some (flat_map part_text (r ∷ [])) ∷ []) (p ∷ q ∷ r ∷ [])
+three_in_two p q r = (
+  p ∷ q ∷ [],
+  r ∷ [],
+  refl,
+  record { bytes = refl; some = omega arith },
+  (r ∷ [], [], refl, record { bytes = refl; some = omega arith }, refl),
+)

@@ -1,5 +1,8 @@
 pub mod Examples
+pub mod Joined
 pub mod Merged
 pub mod MergedText
 pub mod Mergers
+pub mod Texts
 pub mod Unjoined
+pub mod Unmerged

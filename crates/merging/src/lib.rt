@@ -2,14 +2,14 @@
 #![tactic(auto)]
 
 mod faults;
+mod joined;
 mod merged;
 mod mergers;
-mod merging;
 mod missing;
 mod writing;
 
 pub use faults::{MergeFault, Misfit};
 pub use merged::Merged;
-pub use merging::merge_parts;
+pub use mergers::Merger;
 pub use missing::Missing;
 pub use writing::write_merged;

@@ -7,7 +7,8 @@ use Rattle.clap.specs.Words.{one_text}
 use Rattle.clap.specs.declared.parser.matches.Found.{Found}
 use Rattle.drawing.specs.Choices.{tells_registers}
 use Rattle.drawing.specs.declared.breadths.Breadth.{Breadth}
-use Rattle.drawing.specs.declared.breadths.Breadth.TheVariants.{Chosen, Places, Usual, Whole}
+use Rattle.drawing.specs.declared.breadths.Room.{Room}
+use Rattle.drawing.specs.declared.breadths.Room.TheVariants.{Chosen, Places, Usual, Whole}
 use Rattle.orders.specs.Flags.{IsFlagTold}
 use Rattle.orders.specs.NumberTexts.{IsNumberText}
 use Rattle.orders.specs.declared.bounds.TheConstants.{CACHE}
@@ -69,7 +70,7 @@ abbrev pub width : Bound
 width = Width
 
 -- how broad a text for the width allows a drawing to be: as usual where there is none, or so many places
-abbrev pub IsWidthTold : Option (List ℕ) → Breadth → Type 0
+abbrev pub IsWidthTold : Option (List ℕ) → Room → Type 0
 IsWidthTold text Whole = ⊥
 IsWidthTold text (Chosen registers) = ⊥
 IsWidthTold text Usual = text ≡ None
@@ -80,12 +81,17 @@ abbrev pub registers_told : Found → Option (List ℕ)
 registers_told found = first_value found (codes "registers")
 
 -- how broad the words allow a drawing to be: whole, or with the registers that they tell, or as their width tells
-abbrev pub IsBreadthTold : Found → Breadth → Type 0
-IsBreadthTold found Whole = IsFlagTold (one_text found (codes "all")) true
-IsBreadthTold found (Chosen text) =
+abbrev pub IsRoomTold : Found → Room → Type 0
+IsRoomTold found Whole = IsFlagTold (one_text found (codes "all")) true
+IsRoomTold found (Chosen text) =
     IsFlagTold (one_text found (codes "all")) false × (registers_told found ≡ Some text.now) × (tells_registers text.now ≡ true)
-IsBreadthTold found breadth =
-    IsFlagTold (one_text found (codes "all")) false × (registers_told found ≡ None) × IsWidthTold (one_text found (codes "width")) breadth
+IsRoomTold found room =
+    IsFlagTold (one_text found (codes "all")) false × (registers_told found ≡ None) × IsWidthTold (one_text found (codes "width")) room
+
+-- how broad they allow it to be, and whether they ask for a column of lines
+pub record IsBreadthTold (found : Found) (breadth : Breadth) : Type 0 where
+  pub room : IsRoomTold found breadth.room
+  pub lines : IsFlagTold (one_text found (codes "lines")) breadth.lines
 
 -- the text for the registers to draw tells none
 pub record AreNoRegisters (found : Found) (r : Refusal) : Type 0 where
@@ -100,5 +106,5 @@ pub record IsNoWidth (found : Found) (r : Refusal) : Type 0 where
   pub none : IsNoBound (one_text found (name_of width)) width MOST_WIDTH
 
 -- why no drawing can be so broad
-abbrev pub IsBreadthRefused : Found → Refusal → Type 0
-IsBreadthRefused found r = AreNoRegisters found r ⊎ IsNoWidth found r
+abbrev pub IsRoomRefused : Found → Refusal → Type 0
+IsRoomRefused found r = AreNoRegisters found r ⊎ IsNoWidth found r

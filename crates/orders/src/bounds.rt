@@ -11,7 +11,7 @@ use crate::options::has_flag;
 use crate::ranges::{Bound, MOST_WIDTH};
 use crate::refusals::Refusal;
 use clap::ArgMatches;
-use drawing::{Breadth, tells_registers};
+use drawing::{Breadth, Room, tells_registers};
 use regmodel::Settings;
 use regmodel::limits::{MOST_LETTERS, MOST_WORKERS};
 use std::thread;
@@ -68,20 +68,30 @@ pub(crate) fn bounds_of(
     }
 }
 
-/// How broad the words allow a drawing to be: whole, or with some registers alone, or so many
-/// places, or as usual.
+/// How broad the words allow a drawing to be, and which columns they ask for.
 pub(crate) fn breadth_of<'a>(words: &ArgMatches<'a>) -> Result<Breadth<'a>, Refusal>
     ensures ok { IfOk result (spec.IsBreadthTold (found_of words.now)) }
-    ensures err { IfErr result (spec.IsBreadthRefused (found_of words.now)) }
+    ensures err { IfErr result (spec.IsRoomRefused (found_of words.now)) }
+{
+    let room = room_of(words)?;
+    let lines = has_flag(words, "lines");
+    Ok(Breadth { room, lines })
+}
+
+/// How broad the words allow a drawing to be: whole, or with some registers alone, or so many
+/// places, or as usual.
+fn room_of<'a>(words: &ArgMatches<'a>) -> Result<Room<'a>, Refusal>
+    ensures ok { IfOk result (spec.IsRoomTold (found_of words.now)) }
+    ensures err { IfErr result (spec.IsRoomRefused (found_of words.now)) }
 {
     if has_flag(words, "all") {
-        return Ok(Breadth::Whole);
+        return Ok(Room::Whole);
     }
     let Some(text) = words.get_str("registers") else {
         return width_of(words);
     };
     if tells_registers(text.as_bytes()) {
-        Ok(Breadth::Chosen(text))
+        Ok(Room::Chosen(text))
     } else {
         Err(Refusal::Registers)
     }
@@ -89,13 +99,13 @@ pub(crate) fn breadth_of<'a>(words: &ArgMatches<'a>) -> Result<Breadth<'a>, Refu
 
 /// How broad the words allow a drawing to be that do not choose registers: so many places, or as
 /// usual.
-fn width_of<'a>(words: &ArgMatches<'a>) -> Result<Breadth<'a>, Refusal>
+fn width_of<'a>(words: &ArgMatches<'a>) -> Result<Room<'a>, Refusal>
     ensures ok { IfOk result (spec.IsWidthTold (one_text (found_of words.now) (codes "width"))) }
     ensures err { IfErr result (spec.IsNoWidth (found_of words.now)) }
 {
     match words.try_get_one::<u32>("width") {
-        Ok(Some(places)) if 1 <= places && places <= MOST_WIDTH => Ok(Breadth::Places(places)),
-        Ok(None) => Ok(Breadth::Usual),
+        Ok(Some(places)) if 1 <= places && places <= MOST_WIDTH => Ok(Room::Places(places)),
+        Ok(None) => Ok(Room::Usual),
         _ => Err(Refusal::Bound(Bound::Width)),
     }
 }

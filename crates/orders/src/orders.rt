@@ -1,10 +1,10 @@
 //! What the words of the command line ask for.
 
-ghost use Rattle.std.specs.Prelude.{◌≡◌, ◌≤◌, ◌⊎◌, Err, IfErr, IfOk, map, ℕ};
+ghost use Rattle.std.specs.Prelude.{◌≡◌, ◌≤◌, ◌⊎◌, Err, IfErr, IfOk, codes, map, ℕ};
 ghost use Rattle.clap.specs.Words.{found_of, one_text};
 ghost use Rattle.orders.specs.Bounds.{IsBoundRefused};
-ghost use Rattle.orders.specs.Orders.{IsCheck, IsEffortTold, IsExploration, IsFindRefused, IsFindTold, IsReplay, IsSettingRefused, IsShow, texts_told, word_told};
-ghost use Rattle.orders.specs.Requests.{IsOrderTold, IsRequestBy, IsRequestOf, IsTaskTold};
+ghost use Rattle.orders.specs.Orders.{IsCheck, IsEffortTold, IsExploration, IsFindRefused, IsFindTold, IsReplay, IsSettingRefused, IsShow, texts_at, texts_told, word_told};
+ghost use Rattle.orders.specs.Requests.{IsOrderTold, IsRequestBy, IsRequestOf, IsTaskTold, program_told};
 ghost use Rattle.regmodel.specs.declared.limits.TheConstants.{MOST_WORKERS};
 ghost use Rattle.orders.specs.Inputs.{IsStandardText};
 ghost use Rattle.orders.specs.PatternTexts.{IsStandardUnread};
@@ -39,6 +39,8 @@ const CACHE_SETTING: u8 = 7;
 /// What is asked for.
 #[derive(Debug, Drop)]
 pub struct Order<'a> {
+    /// The words by which the program was called, as they are to be typed in a shell.
+    pub program: &'a str,
     /// The files that hold sources, in the order in which they are named: one, but for a check
     /// any number of them.
     pub paths: Vec<&'a str>,
@@ -57,8 +59,8 @@ pub enum Request<'a> {
     Version,
     /// To do something with files.
     Order(Order<'a>),
-    /// To merge the parts of an exploration that are in this file.
-    Merge(&'a str),
+    /// To merge the parts of an exploration that are in these files.
+    Merge(Vec<&'a str>),
 }
 
 /// Reads the words of the command line, the program's name first. Where they are refused, also
@@ -83,7 +85,7 @@ pub fn command<'a, H: Threads + AllocGlobal, S: AsStr, O: Opener, E: Write>(
         Err(refusal) => return Err(refuse(refusal, None, err)),
     };
     match matches_of(rt.alloc(), words) {
-        Ok(matches) => request_of(rt, &matches, opener, err),
+        Ok(matches) => request_of(rt, program_of(words), &matches, opener, err),
         Err(error) if matches!(error.kind(), ErrorKind::DisplayVersion) => Ok(Request::Version),
         Err(error) => {
             let _ = if matches!(error.kind(), ErrorKind::UnknownArgument) {
@@ -96,29 +98,40 @@ pub fn command<'a, H: Threads + AllocGlobal, S: AsStr, O: Opener, E: Write>(
     }
 }
 
+/// The first of the words, by which the program was called; its name where there is none.
+fn program_of<'a, S: AsStr>(words: &'a [S]) -> &'a str
+    ensures { result.now ≡ program_told (map S.text words.entry.now) }
+{
+    match words.first() {
+        Some(word) => word.as_str(),
+        None => "regtry",
+    }
+}
+
 /// What words that clap took ask for. Where they are refused, it prints why.
 fn request_of<'a, H: Threads + AllocGlobal, O: Opener, E: Write>(
     rt: &H,
+    program: &'a str,
     matches: &ArgMatches<'a>,
     opener: &O,
     err: &mut E,
 ) -> Result<Request<'a>, u8>
     ensures ok { IfOk result (λ request. (processors : ℕ) × (processors ≤ MOST_WORKERS)
-        × IsRequestBy (IsStandardText (O.opens opener.now) O.Reader.remaining) processors
-        matches.now request) }
+        × IsRequestBy (IsStandardText (O.opens opener.now) O.Reader.remaining) program.now
+        processors matches.now request) }
     ensures err { IfErr result (λ status. (status ≡ 2) ⊎ (status ≡ 3)) }
 {
     let Some((name, words)) = matches.subcommand() else {
         return Err(2);
     };
     if name == "merge" {
-        return match words.get_str("FILE") {
-            Some(path) => Ok(Request::Merge(path)),
-            None => Err(2),
+        return match paths_of(rt.alloc(), words) {
+            Ok(paths) => Ok(Request::Merge(paths)),
+            Err(refusal) => Err(refuse(&refusal, Some(""), err)),
         };
     }
     let processors = processors(rt);
-    match order_of(rt.alloc(), processors, name, words, opener) {
+    match order_of(rt.alloc(), program, processors, name, words, opener) {
         Ok(order) => Ok(Request::Order(order)),
         Err(refusal) => {
             let subject = match name {
@@ -133,25 +146,36 @@ fn request_of<'a, H: Threads + AllocGlobal, O: Opener, E: Write>(
 /// The order of the words behind the name of a subcommand.
 fn order_of<'a, O: Opener>(
     alloc: Global,
+    program: &'a str,
     processors: ProcessorCount,
     name: &str,
     words: &ArgMatches<'a>,
     opener: &O,
 ) -> Result<Order<'a>, Refusal>
     ensures { IfOk result
-        (IsOrderTold (IsStandardText (O.opens opener.now) O.Reader.remaining) processors.number
-        name.now (found_of words.now)) }
+        (IsOrderTold (IsStandardText (O.opens opener.now) O.Reader.remaining) program.now
+        processors.number name.now (found_of words.now)) }
 {
     let breadth = breadth_of(words)?;
     let task = task_of(alloc, processors, name, words, opener)?;
     let progress = has_flag(words, "progress");
+    let paths = paths_of(alloc, words)?;
+    Ok(Order {
+        program,
+        paths,
+        task,
+        breadth,
+        progress,
+    })
+}
+
+/// The files that the words name, in their order.
+fn paths_of<'a>(alloc: Global, words: &ArgMatches<'a>) -> Result<Vec<&'a str>, Refusal>
+    ensures { IfOk result (λ paths. map (λ path. path.now) paths.items
+        ≡ texts_at (codes "FILE") (found_of words.now)) }
+{
     match Vec::from_slice(alloc, words.get_strs("FILE").unwrap_or(&[])) {
-        Ok(paths) => Ok(Order {
-            paths,
-            task,
-            breadth,
-            progress,
-        }),
+        Ok(paths) => Ok(paths),
         Err(_) => Err(Refusal::Memory),
     }
 }

@@ -88,6 +88,8 @@ impl Task {
 /// What is asked of one file.
 #[derive(Clone, Copy, Debug)]
 pub struct Question<'a> {
+    /// The words by which the program was called.
+    pub program: &'a str,
     /// The file that holds the source.
     pub path: &'a str,
     /// What to do with it.

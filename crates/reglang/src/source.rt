@@ -67,10 +67,10 @@ impl Source {
     ghost use Rattle.std.specs.Prelude.{Some, IfOk, slice_get};
     ghost use Rattle.regmodel.specs.OfProg.{program_of};
     ghost use Rattle.regmodel.specs.Limits.{IsWithin};
-    ghost use Rattle.std.specs.Prelude.{map};
+    ghost use Rattle.std.specs.Prelude.{map, option_map};
     ghost use Rattle.reglang.specs.Contents.{IsSourceWithin};
     ghost use Rattle.reglang.specs.Bodies.{body_of};
-    ghost use Rattle.reglang.specs.Sources.{IsUseOf, body_at, check_lines_of, contents_of, contents_with, registers_of};
+    ghost use Rattle.reglang.specs.Sources.{IsUseOf, body_at, check_lines_of, contents_of, contents_with, own_program_at, registers_of};
     ghost use Rattle.reglang.specs.Sources.{source_programs};
 
     /// The source of these processes and clauses, which stand on these lines.
@@ -150,6 +150,18 @@ impl Source {
         match &self.processes[p] {
             Process::Use(kind) => Some(kind),
             Process::Text(_) => None,
+        }
+    }
+
+    /// The program of process p, counted from 0, where it has statements of its own. None where it
+    /// is a use line, or not there.
+    pub fn own_prog(&self, p: usize) -> Option<&Prog>
+        ensures { option_map (λ prog. program_of prog.now) result
+            ≡ own_program_at (contents_of self.now) p }
+    {
+        match self.processes.as_slice().get(p) {
+            Some(Process::Text(prog)) => Some(prog),
+            Some(Process::Use(_)) | None => None,
         }
     }
 

@@ -1,3 +1,4 @@
 pub mod ByteExamples
 pub mod Bytes
 pub mod Numbers
+pub mod Wholes

@@ -1,19 +1,20 @@
 //! Numbers told one behind another.
 
-ghost use Rattle.std.specs.Prelude.{◌≡◌, ◌+◌, ◌≤◌, ◌∷◌, [], ◌++◌, IfSome, IsSome, length, take};
-ghost use Rattle.std.specs.List.{flat_map};
+ghost use Rattle.std.specs.Prelude.{◌≡◌, ◌+◌, ◌<◌, ◌≤◌, ◌∷◌, [], ◌++◌, IfSome, IsSome, length, take, true};
+ghost use Rattle.told.specs.declared.bytes.TheConstants.{SMALL};
 ghost use Rattle.told.specs.declared.limits.TheConstants.{MOST_BYTES};
 ghost use Rattle.told.specs.declared.numbers.TheConstants.{FEW};
-ghost use Rattle.told.specs.Bytes.{bytes_of, numbers_of, size_of};
+ghost use Rattle.told.specs.Bytes.{numbers_of, size_of};
+ghost use Rattle.told.specs.Wholes.{AreWhole, EndAlone};
 
-use crate::bytes::{FOUR, PAIR, pair};
+use crate::bytes::{ALONE, FOUR, LARGE, SMALL, TWO, both, pair};
 use crate::limits::MOST_BYTES;
 
 /// How many bytes are copied at once where there are no more.
 const FEW: usize = 16;
 
-/// Numbers told one behind another, in at most 128 bytes: a number takes one below 254, three below
-/// 65536, and else five.
+/// Numbers told one behind another, in at most 128 bytes: a number below 15 takes one, which it may
+/// share with the next one if that is below 15, too; any other below 3840 takes two, and else five.
 #[derive(Clone, Copy)]
 pub struct Told {
     /// The bytes of the numbers; those behind them hold what they held.
@@ -22,13 +23,17 @@ pub struct Told {
     size: u32,
     /// How many numbers they tell.
     count: u32,
+    /// Whether it is known that the last byte is of one small number, so that another may share it.
+    is_open: bool,
     ghost room: { size ≤ MOST_BYTES },
-    ghost whole: { flat_map bytes_of (numbers_of (take size bytes)) ≡ take size bytes },
+    ghost whole: { AreWhole (take size bytes) },
+    ghost fits: { size ≤ size_of (numbers_of (take size bytes)) },
     ghost counted: { count ≡ length (numbers_of (take size bytes)) },
+    ghost last: { is_open ≡ true → EndAlone (take size bytes) },
 }
 
 impl Told {
-    ghost use Rattle.told.specs.Numbers.{numbers_in};
+    ghost use Rattle.told.specs.Numbers.{bytes_in, numbers_in};
 
     /// No number.
     pub fn new() -> Told
@@ -38,6 +43,7 @@ impl Told {
             bytes: [0; MOST_BYTES],
             size: 0,
             count: 0,
+            is_open: false,
         }
     }
 
@@ -47,6 +53,7 @@ impl Told {
     {
         self.size = 0;
         self.count = 0;
+        self.is_open = false;
     }
 
     /// How many numbers there are.
@@ -59,7 +66,7 @@ impl Told {
     /// The bytes of the numbers.
     pub fn bytes(&self) -> &[u8]
         ensures numbers { numbers_of result.now ≡ numbers_in self.now }
-        ensures whole { result.now ≡ flat_map bytes_of (numbers_in self.now) }
+        ensures bytes { result.now ≡ bytes_in self.now }
     {
         &self.bytes[..self.size as usize]
     }
@@ -70,23 +77,61 @@ impl Told {
             (λ _. numbers_in self.new ≡ numbers_in self.old ++ number ∷ []) }
         ensures room { size_of (numbers_in self.old ++ number ∷ []) ≤ MOST_BYTES → IsSome result }
     {
-        if number >= PAIR {
-            if number < 0x1_0000 {
-                let [lower, upper] = pair(number);
-                return self.put_bytes(&[PAIR as u8, lower, upper], 1);
-            }
-            let [a, b] = pair(number & 0xffff);
-            let [c, d] = pair(number >> 16);
-            return self.put_bytes(&[FOUR as u8, a, b, c, d], 1);
+        if number >= SMALL {
+            return self.put_large(number);
         }
+        if self.is_open {
+            self.join(number);
+            return Some(());
+        }
+        self.put_alone(number)
+    }
+
+    /// Puts a small number behind the others, into the byte of the last one.
+    fn join(&mut self, number: u32)
+        requires small { number < SMALL }
+        requires open { self.old.is_open ≡ true }
+        ensures { numbers_in self.new ≡ numbers_in self.old ++ number ∷ [] }
+    {
+        let last = self.size as usize - 1;
+        let first = u32::from(self.bytes[last]) - ALONE;
+        self.bytes[last] = both(first, number);
+        self.count += 1;
+        self.is_open = false;
+    }
+
+    /// Puts a small number behind the others, in a byte of its own.
+    fn put_alone(&mut self, number: u32) -> Option<()>
+        requires { number < SMALL }
+        ensures behind { IfSome result
+            (λ _. numbers_in self.new ≡ numbers_in self.old ++ number ∷ []) }
+        ensures room { size_of (numbers_in self.old ++ number ∷ []) ≤ MOST_BYTES → IsSome result }
+    {
         let end = self.size as usize;
         if end >= MOST_BYTES {
             return None;
         }
-        self.bytes[end] = number as u8;
+        self.bytes[end] = (ALONE + number) as u8;
         self.size = end as u32 + 1;
         self.count += 1;
+        self.is_open = true;
         Some(())
+    }
+
+    /// Puts a number that is not small behind the others.
+    fn put_large(&mut self, number: u32) -> Option<()>
+        requires { SMALL ≤ number }
+        ensures behind { IfSome result
+            (λ _. numbers_in self.new ≡ numbers_in self.old ++ number ∷ []) }
+        ensures room { size_of (numbers_in self.old ++ number ∷ []) ≤ MOST_BYTES → IsSome result }
+    {
+        if number < LARGE {
+            let [lower, upper] = pair(number);
+            return self.put_bytes(&[TWO as u8 + upper, lower], 1);
+        }
+        let [a, b] = pair(number & 0xffff);
+        let [c, d] = pair(number >> 16);
+        self.put_bytes(&[FOUR as u8, a, b, c, d], 1)
     }
 
     /// Puts these numbers behind the others. None where their bytes have no room; some of them may
@@ -114,7 +159,9 @@ impl Told {
             self.put_few(other);
             return Some(());
         }
-        self.put_bytes(other.bytes(), other.count)
+        self.put_bytes(other.bytes(), other.count)?;
+        self.is_open = other.is_open;
+        Some(())
     }
 
     /// The same where the other one has few bytes. So many are copied without a call: those behind
@@ -128,12 +175,16 @@ impl Told {
         self.bytes[start..start + FEW].copy_from_slice(&other.bytes[..FEW]);
         self.size += other.size;
         self.count += other.count;
+        self.is_open = other.is_open;
     }
 
-    /// Puts the bytes of so many numbers behind the others, where there is room for them.
+    /// Puts the bytes of so many numbers behind the others, where there is room for them. What
+    /// comes next shares none of them.
     fn put_bytes(&mut self, bytes: &[u8], count: u32) -> Option<()>
-        requires whole { flat_map bytes_of (numbers_of bytes.now) ≡ bytes.now }
+        requires whole { AreWhole bytes.now }
+        requires fits { length bytes.now ≤ size_of (numbers_of bytes.now) }
         requires count { count ≡ length (numbers_of bytes.now) }
+        ensures bytes { IfSome result (λ _. bytes_in self.new ≡ bytes_in self.old ++ bytes.now) }
         ensures behind { IfSome result
             (λ _. numbers_in self.new ≡ numbers_in self.old ++ numbers_of bytes.now) }
         ensures room { size_of (numbers_in self.old ++ numbers_of bytes.now) ≤ MOST_BYTES
@@ -147,6 +198,7 @@ impl Told {
         self.bytes[start..end].copy_from_slice(bytes);
         self.size = end as u32;
         self.count += count;
+        self.is_open = false;
         Some(())
     }
 }

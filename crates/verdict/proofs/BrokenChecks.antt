@@ -17,6 +17,7 @@ use Rattle.world.specs.Stops.{IsStopped}
 use Rattle.world.specs.declared.BadLetter.{BadLetter}
 use Rattle.verdict.specs.Breaches.{IsBrokenLine}
 use Rattle.verdict.specs.Demands.{breaks}
+use Rattle.verdict.specs.EmptyRanges.{is_empty_at, is_empty_range}
 
 first_there : (t : Bool) (i n place : ℕ) → nat_lt i n ≡ t → Some place ≡ cond t (Some i) None → place < n
 first_there true i n place h e = let same : place ≡ i = cc in subst (λ k. k < n) (sym same) (ltb-true i n h)
@@ -38,8 +39,8 @@ pub line_of_each : (text : List ℕ) (clauses : List Clause) (i : ℕ) → AreCh
 line_of_each text clauses i checks inside = is_within _ (check_lines text) i (slice_get (check_lines text) i) refl (own_line text clauses i checks inside)
 
 -- the line of the first clause asked that is broken
-pub broken_line_is : (text : List ℕ) (clauses : List Clause) (asks : Bool) (ends : List ProcEnd) (place line : ℕ) → Some place ≡ position (breaks asks ends) clauses → slice_get (check_lines text) place ≡ Some line → AreChecksOf text clauses → IsBrokenLine text clauses asks ends line
-broken_line_is text clauses asks ends place line first number checks =
+pub broken_line_is : (text : List ℕ) (clauses : List Clause) (asks : Bool) (ends : List ProcEnd) (place line : ℕ) (is_empty : Bool) → is_empty ≡ is_empty_at clauses place → Some place ≡ position (breaks asks ends) clauses → slice_get (check_lines text) place ≡ Some line → AreChecksOf text clauses → IsBrokenLine text clauses asks ends line is_empty
+broken_line_is text clauses asks ends place line is_empty empty first number checks =
     let own = get_or clauses place clause.NoFault in
     let inside = place_there (breaks asks ends) clauses place first in
     record {
@@ -48,6 +49,7 @@ broken_line_is text clauses asks ends place line first number checks =
       number = number;
       clause = own;
       broken = slice_get-get_or clauses place clause.NoFault inside;
+      empty = empty ∙ ap (λ found. elim found [ Some own ↦ is_empty_range own | None ↦ false ]) (slice_get-get_or clauses place clause.NoFault inside);
       says = subst (λ told. MatchOption told ⊥ (ChecksAt text own)) number (own_line text clauses place checks inside);
     }
 

@@ -8,18 +8,18 @@ use Rattle.regmodel.specs.declared.outcomes.End.TheVariants.{Done, Fault, Crashe
 use Rattle.regmodel.specs.declared.outcomes.ProcEnd.{ProcEnd}
 use Rattle.regmodel.specs.Judging.{is_faulty, meets, meets_all}
 use Rattle.verdict.specs.Demands.{breaks, clauses_asked, is_ended, meets_demands}
-use Rattle.verdict.specs.Faults.{first_fault}
+use Rattle.verdict.specs.Faults.{first_fault, first_fault_from}
 
-faultless_from : (p : ℕ) (started : Bool) (fate : End) (ends : List ProcEnd) → (first_fault (p + 1) ends ≡ None → list_any is_faulty ends ≡ false) → first_fault p (record { started = started; fate = fate } ∷ ends) ≡ None → list_any is_faulty (record { started = started; fate = fate } ∷ ends) ≡ false
-faultless_from p started (Done numbers) ends later e = later e
-faultless_from p started (Fault code) ends later e = absurd cc
-faultless_from p started Crashed ends later e = later e
-faultless_from p started Running ends later e = later e
+faultless_from : (text : List ℕ) (stops : List (Option ℕ)) (p : ℕ) (started : Bool) (fate : End) (ends : List ProcEnd) → (first_fault_from text stops (p + 1) ends ≡ None → list_any is_faulty ends ≡ false) → first_fault_from text stops p (record { started = started; fate = fate } ∷ ends) ≡ None → list_any is_faulty (record { started = started; fate = fate } ∷ ends) ≡ false
+faultless_from text stops p started (Done numbers) ends later e = later e
+faultless_from text stops p started (Fault code) ends later e = absurd cc
+faultless_from text stops p started Crashed ends later e = later e
+faultless_from text stops p started Running ends later e = later e
 
 -- no process is at fault where none is the lowest one
-faultless : (p : ℕ) (ends : List ProcEnd) → first_fault p ends ≡ None → list_any is_faulty ends ≡ false
-faultless p [] e = refl
-faultless p (end ∷ ends) e = faultless_from p end.started end.fate ends (faultless (p + 1) ends) e
+faultless : (text : List ℕ) (stops : List (Option ℕ)) (p : ℕ) (ends : List ProcEnd) → first_fault_from text stops p ends ≡ None → list_any is_faulty ends ≡ false
+faultless text stops p [] e = refl
+faultless text stops p (end ∷ ends) e = faultless_from text stops p end.started end.fate ends (faultless text stops (p + 1) ends) e
 
 either : (met allows faulty : Bool) → met ≡ true → faulty ≡ false → (met && (allows || not faulty)) ≡ false → ⊥
 either true true faulty m f h = absurd cc
@@ -28,8 +28,8 @@ either true false true m f h = absurd cc
 either false allows faulty m f h = absurd cc
 
 -- an outcome that is refused breaks a clause, or has a lowest process at fault
-pub some_cause : (clauses : List Clause) (allows : Bool) (ends : List ProcEnd) → first_fault 0 ends ≡ None → meets_all clauses ends ≡ true → meets_demands clauses allows ends ≡ false → ⊥
-some_cause clauses allows ends none met refused = either (meets_all clauses ends) allows (list_any is_faulty ends) met (faultless 0 ends none) refused
+pub some_cause : (text : List ℕ) (stops : List (Option ℕ)) (clauses : List Clause) (allows : Bool) (ends : List ProcEnd) → first_fault text stops ends ≡ None → meets_all clauses ends ≡ true → meets_demands clauses allows ends ≡ false → ⊥
+some_cause text stops clauses allows ends none met refused = either (meets_all clauses ends) allows (list_any is_faulty ends) met (faultless text stops 0 ends none) refused
 
 met : (own : Bool) (n : ℕ) (later : Option ℕ) (others : Bool) → cond (not own) (Some n) later ≡ None → (later ≡ None → others ≡ true) → (own && others) ≡ true
 met true n later others none rest = rest none

@@ -1,5 +1,5 @@
 -- Worked examples of what a check demands, of checks that are vacuous, of faults and patterns in words, and of paths in a shell.
-use Rattle.std.specs.Prelude.{◌≡◌, true, false, [], ◌∷◌, None, Some, codes, refl}
+use Rattle.std.specs.Prelude.{◌≡◌, ℕ, List, true, false, [], ◌∷◌, None, Some, codes, refl}
 use Rattle.std.specs.Fmt.{digits}
 use Rattle.regmodel.specs.declared.clauses.Clause.TheVariants as clause
 use Rattle.regmodel.specs.declared.clauses.Subject.TheVariants as subject
@@ -8,7 +8,8 @@ use Rattle.regmodel.specs.declared.outcomes.End.TheVariants as end
 use Rattle.regmodel.specs.declared.outcomes.ProcEnd.{ProcEnd}
 use Rattle.patterns.specs.declared.standings.Standing.TheVariants.{Any, Done, Just}
 use Rattle.verdict.specs.Demands.{clauses_asked, meets_demands}
-use Rattle.verdict.specs.FaultText.{reason_text}
+use Rattle.verdict.specs.EmptyRanges.{is_empty_range}
+use Rattle.verdict.specs.FaultText.{fault_line, reason_text}
 use Rattle.verdict.specs.Excesses.{first_excess}
 use Rattle.verdict.specs.Faults.{first_fault}
 use Rattle.verdict.specs.Gaps.{want_of}
@@ -37,6 +38,13 @@ not_asked_to_end = refl
 pub asked_for_no_fault : meets_demands (clauses_asked false (clause.Ended ∷ clause.NoFault ∷ [])) true (idle (end.Fault 2) ∷ []) ≡ false
 asked_for_no_fault = refl
 
+-- no number is from 5 to 3, and one is from 3 to 3
+pub from_five_to_three : is_empty_range (clause.Within 5 3) ≡ true
+from_five_to_three = refl
+
+pub three_alone : is_empty_range (clause.Within 3 3) ≡ false
+three_alone = refl
+
 -- a process is done in the second outcome, but none has a name
 pub nameless : want_of clause.Distinct ((idle end.Crashed ∷ []) ∷ (idle (end.Done (record { items = [] })) ∷ []) ∷ []) ≡ Some subject.Named
 nameless = refl
@@ -47,11 +55,21 @@ done_once = refl
 pub never_done : want_of clause.SelfSeen ((idle end.Crashed ∷ []) ∷ (idle end.Running ∷ []) ∷ []) ≡ Some subject.Done
 never_done = refl
 
-pub second_of_three : first_fault 0 (idle end.Crashed ∷ idle (end.Fault 2) ∷ idle (end.Fault 3) ∷ []) ≡ Some (record { process = 1; code = 2 })
+-- two processes with a statement each, as a text that a tool made
+abbrev made : List ℕ
+made = codes "registers 1\nprocess\nhalt\nend\n#line 7 \"a.m4\"\nprocess\n write 9 0\nend\n"
+
+pub second_of_three : first_fault made (Some 0 ∷ Some 0 ∷ Some 1 ∷ []) (idle end.Crashed ∷ idle (end.Fault 2) ∷ idle (end.Fault 3) ∷ [])
+    ≡ Some (record { process = 1; code = 2; line = Some 7 })
 second_of_three = refl
 
-pub none_at_fault : first_fault 0 (idle end.Running ∷ []) ≡ None
+pub none_at_fault : first_fault made (Some 0 ∷ []) (idle end.Running ∷ []) ≡ None
 none_at_fault = refl
+
+pub at_a_line_of_another_file : fault_line made (Some (record { process = 1; code = 2; line = Some 7 }))
+    ≡ codes "At its end process 1 is at fault at line 8 of a.m4: it names a register or a cell that is not there.\n"
+unfolding digits
+at_a_line_of_another_file = refl
 
 pub in_words : reason_text 4 ≡ codes "it emits a ninth number"
 in_words = refl

@@ -1,6 +1,7 @@
 -- Which process is at fault, in words.
 use Rattle.std.specs.Prelude.{ℕ, ◌==◌, if◌then◌else◌, List, [], ◌++◌, Option, Some, None, codes, decimal}
 use Rattle.regmodel.specs.declared.faults.TheConstants.{NO_PLACE, NO_VALUE, TOO_MANY_TURNS}
+use Rattle.verdict.specs.OriginText.{origin_text}
 use Rattle.verdict.specs.declared.faults.ProcessFault.{ProcessFault}
 
 -- why a process is at fault with this code
@@ -10,10 +11,14 @@ reason_text code =
     (if code == NO_PLACE then codes "it names a register or a cell that is not there" else
     (if code == TOO_MANY_TURNS then codes "it repeats more than 99 times" else codes "it emits a ninth number"))
 
--- that a process is at fault, and why
-abbrev pub fault_text : ProcessFault → List ℕ
-fault_text fault = codes "process " ++ decimal fault.process ++ codes " is at fault: " ++ reason_text fault.code
+-- on which line of a text, where that is known
+abbrev pub at_line_text : List ℕ → Option ℕ → List ℕ
+at_line_text text line = elim line [ Some number ↦ codes " at " ++ origin_text text number | None ↦ [] ]
+
+-- that a process of the source that a text spells is at fault, where and why
+abbrev pub fault_text : List ℕ → ProcessFault → List ℕ
+fault_text text fault = codes "process " ++ decimal fault.process ++ codes " is at fault" ++ at_line_text text fault.line ++ codes ": " ++ reason_text fault.code
 
 -- that it is so at the end of a schedule, where a process is at fault
-abbrev pub fault_line : Option ProcessFault → List ℕ
-fault_line fault = elim fault [ Some f ↦ codes "At its end " ++ fault_text f ++ codes ".\n" | None ↦ [] ]
+abbrev pub fault_line : List ℕ → Option ProcessFault → List ℕ
+fault_line text fault = elim fault [ Some f ↦ codes "At its end " ++ fault_text text f ++ codes ".\n" | None ↦ [] ]

@@ -3,6 +3,7 @@ pub mod Demands
 pub mod Drawn
 pub mod EmissionExamples
 pub mod Emissions
+pub mod EmptyRanges
 pub mod Examples
 pub mod Excesses
 pub mod FaultText
@@ -10,6 +11,7 @@ pub mod Faults
 pub mod Gaps
 pub mod Listings
 pub mod Onsets
+pub mod OriginText
 pub mod ShellWords
 pub mod Shortfalls
 pub mod VerdictText

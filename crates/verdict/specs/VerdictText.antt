@@ -12,9 +12,10 @@ use Rattle.reglang.specs.Lines.{without_indent}
 use Rattle.reglang.specs.Checks.{line_at}
 use Rattle.drawing.specs.declared.breadths.Breadth.{Breadth}
 use Rattle.drawing.specs.DrawingText.{drawing_text}
-use Rattle.explanations.specs.Origins.{line_told, path_told}
 use Rattle.explanations.specs.Shown.{shown}
+use Rattle.verdict.specs.EmptyRanges.{empty_text}
 use Rattle.verdict.specs.FaultText.{fault_line, fault_text}
+use Rattle.verdict.specs.OriginText.{origin_text}
 use Rattle.verdict.specs.ShellWords.{operand_text}
 use Rattle.verdict.specs.declared.breaches.Breach.{Breach}
 use Rattle.verdict.specs.declared.breaches.Cause.{Cause}
@@ -43,19 +44,14 @@ letters_text n = counted n (codes "letter") (codes "s")
 abbrev pub crashes_text : ℕ → List ℕ
 crashes_text n = if n == 0 then codes "no crashes" else counted n (codes "crash") (codes "es")
 
--- the file that a line comes from, where a line before it tells another one than that of the text
-abbrev pub of_file_text : List ℕ → List ℕ
-of_file_text path = if length path == 0 then [] else codes " of " ++ path
-
 -- a check line without its indent, and where it comes from
 abbrev pub check_text : List ℕ → ℕ → List ℕ
-check_text text line =
-    without_indent (shown (line_at line text)) ++ codes " (line " ++ decimal (line_told text line) ++ of_file_text (path_told [] text line) ++ codes ")"
+check_text text line = without_indent (shown (line_at line text)) ++ codes " (" ++ origin_text text line ++ codes ")"
 
--- the check line that is broken, and the process at fault beside it; or that process alone
+-- the check line that is broken, that no number is in its range, where none is, and the process at fault beside it; or that process alone
 abbrev pub cause_text : List ℕ → Cause → List ℕ
-cause_text text (Check line fault) = check_text text line ++ codes "\n" ++ fault_line fault
-cause_text text (Fault fault) = fault_text fault ++ codes "\n"
+cause_text text (Check line is_empty fault) = check_text text line ++ codes "\n" ++ empty_text is_empty ++ fault_line text fault
+cause_text text (Fault fault) = fault_text text fault ++ codes "\n"
 
 -- that a schedule fails; and that no shorter one does, where the shortest one was asked for
 abbrev pub fails_text : Bool → List ℕ
@@ -78,26 +74,26 @@ abbrev pub failing_text : List ℕ → List ℕ → Bool → ℕ → Cause → O
 failing_text path text is_shortest letters cause onset =
     path ++ codes ": a schedule of " ++ letters_text letters ++ fails_text is_shortest ++ cause_text text cause ++ onset_text onset ++ codes "\n"
 
--- the command that draws a schedule, as it is to be typed in a shell
-abbrev pub show_text : List ℕ → Schedule → List ℕ
-show_text path w = codes "\nregtry show " ++ operand_text path ++ codes " '" ++ schedule_text w ++ codes "'\n"
+-- the command that draws a schedule, as it is to be typed in a shell, behind the words by which the program was called
+abbrev pub show_text : List ℕ → List ℕ → Schedule → List ℕ
+show_text program path w = codes "\n" ++ program ++ codes " show " ++ operand_text path ++ codes " '" ++ schedule_text w ++ codes "'\n"
 
 -- that a schedule fails and why, the schedule as a drawing that may be so broad, and the command that draws it again
-abbrev pub breach_text : List ℕ → List ℕ → Breadth → Bool → Breach → List ℕ
-breach_text path text breadth is_shortest breach =
+abbrev pub breach_text : List ℕ → List ℕ → List ℕ → Breadth → Bool → Breach → List ℕ
+breach_text program path text breadth is_shortest breach =
     failing_text path text is_shortest (length breach.schedule) breach.cause breach.onset
     ++ drawing_text breadth text breach.drawing
-    ++ show_text path breach.schedule
+    ++ show_text program path breach.schedule
 
 -- that a schedule is cut off, what it breaks, and the command that draws it
-abbrev pub cut_text : List ℕ → List ℕ → Cut → List ℕ
-cut_text path text cut =
+abbrev pub cut_text : List ℕ → List ℕ → List ℕ → Cut → List ℕ
+cut_text program path text cut =
     codes "\nA schedule of " ++ letters_text (length cut.schedule) ++ codes " is cut off, with a process still running: " ++ cause_text text cut.cause
-    ++ show_text path cut.schedule
+    ++ show_text program path cut.schedule
 
 -- the same, where one is told beside another schedule that fails
-abbrev pub beside_text : List ℕ → List ℕ → Option Cut → List ℕ
-beside_text path text cut = elim cut [ Some c ↦ cut_text path text c | None ↦ [] ]
+abbrev pub beside_text : List ℕ → List ℕ → List ℕ → Option Cut → List ℕ
+beside_text program path text cut = elim cut [ Some c ↦ cut_text program path text c | None ↦ [] ]
 
 -- whether schedules were cut off: some process still wants an access after as many letters as there may be
 abbrev pub is_cut_off : Findings → Bool
@@ -163,7 +159,9 @@ abbrev pub held_text : List ℕ → List ℕ → Reach → Asked → List Gap �
 held_text path text reach asked gaps =
     holding_text path reach ++ asked_text asked ++ gaps_text text gaps ++ caution_text reach.cut_off reach.length
 
--- what is told of a source in the file of this path, where the least failing schedule was asked for, or the shortest one
-abbrev pub verdict_text : List ℕ → List ℕ → Breadth → Bool → Verdict → List ℕ
-verdict_text path text breadth is_shortest (Fails breach cut) = breach_text path text breadth is_shortest breach ++ beside_text path text cut
-verdict_text path text breadth is_shortest (Holds held) = held_text path text (reach_of held.exploration) held.asked held.gaps.items
+-- what a program that was called by these words tells of a source in the file of this path, where the least failing schedule was asked for, or the
+-- shortest one
+abbrev pub verdict_text : List ℕ → List ℕ → List ℕ → Breadth → Bool → Verdict → List ℕ
+verdict_text program path text breadth is_shortest (Fails breach cut) =
+    breach_text program path text breadth is_shortest breach ++ beside_text program path text cut
+verdict_text program path text breadth is_shortest (Holds held) = held_text path text (reach_of held.exploration) held.asked held.gaps.items

@@ -33,10 +33,10 @@ abbrev pub no_shorter_text : Bool → ℕ → List ℕ
 no_shorter_text is_shortest sought = if is_shortest then codes "No shorter one leads " ++ nowhere sought ++ codes ".\n" else []
 
 -- what is told of a way, with the drawing of the schedule, which may be so broad, and the command that draws it again
-abbrev pub way_text : List ℕ → List ℕ → Breadth → ℕ → Bool → Way → List ℕ
-way_text path text breadth sought is_shortest way =
+abbrev pub way_text : List ℕ → List ℕ → List ℕ → Breadth → ℕ → Bool → Way → List ℕ
+way_text program path text breadth sought is_shortest way =
     leading_text path (length way.schedule) way.outcome ++ (match_text sought way.matched ++ no_shorter_text is_shortest sought) ++ codes "\n"
-    ++ drawing_text breadth text way.drawing ++ show_text path way.schedule
+    ++ drawing_text breadth text way.drawing ++ show_text program path way.schedule
 
 -- that no schedule leads there, and how far was looked
 abbrev pub nowhere_text : List ℕ → ℕ → ℕ → ℕ → List ℕ
@@ -65,11 +65,11 @@ shortfall_text sought shortfall = elim shortfall [
   | None ↦ []
 ]
 
--- what is told of a source in the file of this path
-abbrev pub discovery_text : List ℕ → List ℕ → Breadth → Discovery → Bool → List ℕ
-discovery_text path text breadth discovery is_shortest =
+-- what a program that was called by these words tells of a source in the file of this path
+abbrev pub discovery_text : List ℕ → List ℕ → List ℕ → Breadth → Discovery → Bool → List ℕ
+discovery_text program path text breadth discovery is_shortest =
     elim discovery.way [
-      | Some way ↦ way_text path text breadth discovery.sought is_shortest way
+      | Some way ↦ way_text program path text breadth discovery.sought is_shortest way
       | None ↦ nowhere_text path discovery.sought discovery.least.length discovery.least.crashes ++ excess_text discovery.sought discovery.excess
           ++ shortfall_text discovery.sought discovery.shortfall
     ]

@@ -2,7 +2,7 @@
 use Rattle.std.specs.Prelude.{◌≡◌, List, Option, Some, None}
 use Rattle.regmodel.specs.declared.outcomes.ProcEnd.{ProcEnd}
 use Rattle.regmodel.specs.Letters.{Schedule}
-use Rattle.reglang.specs.Contents.{Contents, programs_in}
+use Rattle.reglang.specs.Contents.{Contents}
 use Rattle.drawing.specs.Pictures.{IsPictureOf}
 use Rattle.patterns.specs.Matching.{IsFirstMatch}
 use Rattle.patterns.specs.declared.standings.Standing.{Standing}
@@ -13,7 +13,7 @@ pub record IsWayOf (source : Contents) (patterns : List (List Standing)) (w : Sc
   pub schedule : way.schedule ≡ w
   pub outcome : way.outcome ≡ ends
   pub matched : IsFirstMatch patterns ends way.matched
-  pub drawing : IsPictureOf (programs_in source) source.registers w way.drawing
+  pub drawing : IsPictureOf source w way.drawing
 
 -- the way to what was found, where something was
 abbrev pub IsWayFor : Contents → List (List Standing) → Option (Schedule × List ProcEnd) → Option Way → Type 0

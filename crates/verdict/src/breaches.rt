@@ -9,10 +9,12 @@ ghost use Rattle.report.specs.PlainReport.{IsPlainLeast};
 ghost use Rattle.verdict.specs.Breaches.{IsBreachOf, IsBrokenLine, IsCauseOf};
 ghost use Rattle.verdict.specs.Demands.{clauses_asked, demands_of, meets_demands};
 ghost use Rattle.verdict.specs.Drawn.{IsDrawn};
+ghost use Rattle.drawing.specs.Pictures.{IsWorldOf};
 ghost use Rattle.verdict.specs.Verdicts.{IsVerdictFor};
 ghost use Rattle.world.specs.Sound.{IsSoundWorld, budget_of, world_programs};
 
 use crate::demands::{Asked, Strictness, asked_of, first_broken};
+use crate::empty_ranges::is_empty_at;
 use crate::faults::{ProcessFault, first_fault};
 use crate::gaps::{Gap, gaps_of};
 use crate::onsets::onset_of;
@@ -20,6 +22,7 @@ use crate::spellings::Spelling;
 use arrayvec::ArrayVec;
 use drawing::{Drawing, draw};
 use machine::Machine;
+use reglang::Source;
 use regmodel::laws::the_first_refused_is_a_schedule;
 use regmodel::{Outcome, Prefix, Settings};
 use report::{Checked, Exploration, Least};
@@ -32,6 +35,8 @@ pub enum Cause {
     Check {
         /// The line of the first check that it breaks, counted from 1.
         line: u64,
+        /// Whether it is a check that each name breaks, since no number is in its range.
+        is_empty: bool,
         /// The lowest process at fault, where there is one, also where that is allowed.
         fault: Option<ProcessFault>,
     },
@@ -173,59 +178,68 @@ pub fn breach_for(
         l.0 l.1 result) }
 {
     the_first_refused_is_a_schedule();
-    let Some((schedule, outcome)) = least.least() else {
+    let Some((schedule, _)) = least.least() else {
         unreachable!()
     };
     let source = spelling.source;
     let mut world = World::new(machines, source.registers(), settings.crashes());
-    let drawing = drawing_of(&mut world, schedule);
+    let drawing = drawing_of(&mut world, source, schedule);
     Breach {
         schedule: schedule.copy(),
-        cause: cause_of(spelling, strictness, outcome),
+        cause: cause_of(spelling, strictness, &drawing),
         onset: onset_of(&mut world, source.clauses(), strictness.allows_faults),
         drawing,
     }
 }
 
-/// Why a schedule with this outcome fails when judged so strictly.
-fn cause_of(spelling: &Spelling<'_>, strictness: Strictness, outcome: &Outcome) -> Cause
-    requires { demands_of strictness (contents_of spelling.now.source.now).clauses outcome.now
+/// Why a schedule that is drawn fails when judged so strictly.
+fn cause_of(spelling: &Spelling<'_>, strictness: Strictness, drawing: &Drawing) -> Cause
+    requires { demands_of strictness (contents_of spelling.now.source.now).clauses drawing.now.ends
         ≡ false }
     ensures { IsCauseOf spelling.now.text.now (contents_of spelling.now.source.now).clauses
-        strictness.asks_ended outcome.now result }
+        strictness.asks_ended drawing.now.stops drawing.now.ends result }
 {
-    let fault = first_fault(outcome);
-    if let Some(line) = broken_line(spelling, strictness.asks_ended, outcome) {
-        return Cause::Check { line, fault };
+    let fault = first_fault(spelling.text, drawing);
+    let outcome = drawing.outcome();
+    if let Some((line, is_empty)) = broken_line(spelling, strictness.asks_ended, outcome) {
+        return Cause::Check {
+            line,
+            is_empty,
+            fault,
+        };
     }
     let Some(fault) = fault else { unreachable!() };
     Cause::Fault(fault)
 }
 
-/// The line of the first check of a source that is asked and that an outcome breaks; `ended` may be
-/// left out. None where it breaks none.
-fn broken_line(spelling: &Spelling<'_>, asks_ended: bool, outcome: &Outcome) -> Option<u64>
-    ensures line { IfSome result
-        (IsBrokenLine spelling.now.text.now (contents_of spelling.now.source.now).clauses
-        asks_ended outcome.now) }
+/// The line of the first check of a source that is asked and that an outcome breaks, and whether
+/// each name breaks it, since no number is in its range; `ended` may be left out. None where it
+/// breaks none.
+fn broken_line(spelling: &Spelling<'_>, asks_ended: bool, outcome: &Outcome) -> Option<(u64, bool)>
+    ensures line { IfSome result (λ (line, is_empty). IsBrokenLine spelling.now.text.now
+        (contents_of spelling.now.source.now).clauses asks_ended outcome.now line is_empty) }
     ensures none { IsNone result
         → meets_all (clauses_asked asks_ended (contents_of spelling.now.source.now).clauses)
         outcome.now ≡ true }
 {
-    let Some(place) = first_broken(spelling.source.clauses().list(), asks_ended, outcome) else {
+    let clauses = spelling.source.clauses().list();
+    let Some(place) = first_broken(clauses, asks_ended, outcome) else {
         return None;
     };
-    Some(spelling.check_line(place))
+    Some((spelling.check_line(place), is_empty_at(clauses, place)))
 }
 
-/// What is drawn of a schedule. The world stands there then.
-pub(crate) fn drawing_of(world: &mut World, schedule: &Prefix) -> Drawing
+/// What is drawn of a schedule of a source. The world, which is one of its processes, stands there
+/// then.
+pub(crate) fn drawing_of(world: &mut World, source: &Source, schedule: &Prefix) -> Drawing
     requires at { IsSoundWorld program rest resumed world.old }
+    requires of { IsWorldOf program world.old (contents_of source.now) }
     requires schedule { IsSchedule (world_programs program world.old) (budget_of world.old)
         schedule.now }
-    ensures { IsDrawn program rest resumed world.old world.new schedule.now result }
+    ensures { IsDrawn program rest resumed (contents_of source.now) world.old world.new schedule.now
+        result }
 {
-    match draw(world, schedule) {
+    match draw(world, source, schedule) {
         Ok(drawing) => drawing,
         Err(_) => unreachable!(),
     }

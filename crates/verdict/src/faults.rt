@@ -1,12 +1,14 @@
-//! Which process is at fault at the end of a schedule, and why.
+//! Which process is at fault at the end of a schedule, why, and on which line of the text.
 
 ghost use Rattle.std.specs.Prelude.{◌≡◌, ◌≤◌, ◌+◌, length};
 ghost use Rattle.regmodel.specs.declared.limits.TheConstants.{MOST_PROCESSES};
 ghost use Rattle.verdict.specs.FaultText as spec;
-ghost use Rattle.verdict.specs.Faults.{first_fault};
+ghost use Rattle.verdict.specs.Faults as faults;
 
+use crate::origin_text::LineOrigin;
+use drawing::{Drawing, statement_line};
 use regmodel::faults::{NO_PLACE, NO_VALUE, TOO_MANY_TURNS};
-use regmodel::{End, Outcome, ProcEnd};
+use regmodel::{End, ProcEnd};
 use std::io::Write;
 use texts::{Block, Text, WriteFault};
 
@@ -17,27 +19,76 @@ pub struct ProcessFault {
     pub process: u64,
     /// The code of its fault, 1 to 4.
     pub code: u8,
+    /// The number of the line with the statement that is at fault, counted from 1; that of its use
+    /// line where it has one. None where the text has no such statement.
+    pub line: Option<u64>,
 }
 
-impl Text for ProcessFault {
-    ghost text = { spec.fault_text };
+/// That a process of the source that a text spells is at fault, where and why.
+#[derive(Clone, Copy)]
+pub(crate) struct FaultTold<'a> {
+    pub(crate) text: &'a [u8],
+    pub(crate) fault: ProcessFault,
+}
+
+impl Text for FaultTold<'_> {
+    ghost text = { λ told. spec.fault_text told.text.now told.fault };
 
     fn put<W: Write>(&self, out: &mut W, block: &mut Block) -> Result<(), WriteFault> {
-        let reason = reason_of(self.code);
-        ("process ", self.process, " is at fault: ", reason).put(out, block)
+        let fault = self.fault;
+        let place = AtLine {
+            text: self.text,
+            line: fault.line,
+        };
+        let reason = reason_of(fault.code);
+        (
+            "process ",
+            fault.process,
+            " is at fault",
+            place,
+            ": ",
+            reason,
+        )
+            .put(out, block)
     }
 }
 
-/// The process at fault at the end of a schedule, where there is one.
+/// On which line of a text, where that is known.
 #[derive(Clone, Copy)]
-pub struct FaultLine(pub Option<ProcessFault>);
+struct AtLine<'a> {
+    text: &'a [u8],
+    line: Option<u64>,
+}
 
-impl Text for FaultLine {
-    ghost text = { λ line. spec.fault_line line.0 };
+impl Text for AtLine<'_> {
+    ghost text = { λ at. spec.at_line_text at.text.now at.line };
 
     fn put<W: Write>(&self, out: &mut W, block: &mut Block) -> Result<(), WriteFault> {
-        match self.0 {
-            Some(fault) => ("At its end ", fault, ".\n").put(out, block),
+        let text = self.text;
+        match self.line {
+            Some(line) => (" at ", LineOrigin { text, line }).put(out, block),
+            None => Ok(()),
+        }
+    }
+}
+
+/// The process at fault at the end of a schedule, where there is one, of the source that a text
+/// spells.
+#[derive(Clone, Copy)]
+pub struct FaultLine<'a> {
+    /// The text.
+    pub text: &'a [u8],
+    /// The process at fault.
+    pub fault: Option<ProcessFault>,
+}
+
+impl Text for FaultLine<'_> {
+    ghost text = { λ line. spec.fault_line line.text.now line.fault };
+
+    fn put<W: Write>(&self, out: &mut W, block: &mut Block) -> Result<(), WriteFault> {
+        let text = self.text;
+        match self.fault {
+            Some(fault) => ("At its end ", FaultTold { text, fault }, ".\n").put(out, block),
             None => Ok(()),
         }
     }
@@ -58,23 +109,35 @@ fn reason_of(code: u8) -> &'static str
     }
 }
 
-/// The lowest process of an outcome that is at fault.
-pub fn first_fault(outcome: &Outcome) -> Option<ProcessFault>
-    ensures { result ≡ first_fault 0 outcome.now }
+/// The lowest process that is at fault at the end of a schedule that is drawn, and the line of the
+/// text at which it is: the text spells the source of the schedule.
+pub fn first_fault(text: &[u8], drawing: &Drawing) -> Option<ProcessFault>
+    ensures { result ≡ faults.fault_drawn text.now drawing.now }
 {
-    first_fault_from(0, outcome.ends())
+    first_fault_from(text, drawing, 0, drawing.outcome().ends())
 }
 
 /// The lowest process at fault; the first of these is process p.
-fn first_fault_from(p: u64, ends: &[ProcEnd]) -> Option<ProcessFault>
+fn first_fault_from(text: &[u8], drawing: &Drawing, p: u8, ends: &[ProcEnd]) -> Option<ProcessFault>
     requires { p + length ends.now ≤ MOST_PROCESSES }
-    ensures { result ≡ first_fault p ends.now }
+    ensures { result ≡ faults.first_fault_from text.now drawing.now.stops p ends.now }
 {
     let Some((end, more)) = ends.split_first() else {
         return None;
     };
     if let End::Fault(code) = end.fate {
-        return Some(ProcessFault { process: p, code });
+        return Some(ProcessFault {
+            process: u64::from(p),
+            code,
+            line: stop_line(text, drawing, p),
+        });
     }
-    first_fault_from(p + 1, more)
+    first_fault_from(text, drawing, p + 1, more)
+}
+
+/// The number of the line of a text on which the statement stands at which a process stops.
+fn stop_line(text: &[u8], drawing: &Drawing, p: u8) -> Option<u64>
+    ensures { result ≡ faults.stop_line text.now drawing.now.stops p }
+{
+    statement_line(text, p, drawing.stop_of(p)?)
 }

@@ -36,8 +36,9 @@ pub fn write_listing<W: Write>(
     out: &mut W,
 ) -> Result<(), WriteFault>
     ensures { Wrote W.contents out.old out.new
-        (listed_text topic.entry.path.now topic.entry.text.now topic.entry.breadth is_shortest
-        verdict.now (option_map (λ e. e.now) explored.entry)) result }
+        (listed_text topic.entry.program.now topic.entry.path.now topic.entry.text.now
+        topic.entry.breadth is_shortest verdict.now (option_map (λ e. e.now) explored.entry))
+        result }
 {
     let told = Told {
         topic,

@@ -2,9 +2,12 @@
 
 use drawing::Breadth;
 
-/// Of what is told: the text in the file of a path, and how broad a drawing of a schedule may be.
+/// Of what is told: the text in the file of a path, and how broad a drawing of a schedule may be;
+/// and by which words the program was called that tells it.
 #[derive(Clone, Copy)]
 pub struct Topic<'a> {
+    /// The words by which the program was called, as they are to be typed in a shell.
+    pub program: &'a [u8],
     /// The path.
     pub path: &'a [u8],
     /// The text.

@@ -7,13 +7,15 @@ ghost use Rattle.verdict.specs.VerdictText.{verdict_text};
 use crate::breaches::{Breach, Cause, Cut, Verdict};
 use crate::counts::{Bounds, Counted, Letters};
 use crate::demands::Asked;
-use crate::faults::FaultLine;
+use crate::empty_ranges::EmptyRange;
+use crate::faults::{FaultLine, FaultTold};
 use crate::gaps::Gap;
+use crate::origin_text::LineOrigin;
 use crate::reach::{Reach, reach_of};
 use crate::show_commands::ShowCommand;
 use crate::topics::Topic;
 use drawing::Drawn;
-use explanations::{origin_of, shown_line};
+use explanations::shown_line;
 use reglang::without_indent;
 use regmodel::Subject;
 use regmodel::limits::MOST_LETTERS;
@@ -32,8 +34,8 @@ pub fn write_verdict<W: Write>(
     out: &mut W,
 ) -> Result<(), WriteFault>
     ensures { Wrote W.contents out.old out.new
-        (verdict_text topic.entry.path.now topic.entry.text.now topic.entry.breadth is_shortest
-        verdict.now) result }
+        (verdict_text topic.entry.program.now topic.entry.path.now topic.entry.text.now
+        topic.entry.breadth is_shortest verdict.now) result }
 {
     let told = Told {
         topic,
@@ -52,8 +54,8 @@ pub(crate) struct Told<'a> {
 }
 
 impl Text for Told<'_> {
-    ghost text = { λ t. spec.verdict_text t.topic.path.now t.topic.text.now t.topic.breadth
-        t.is_shortest t.verdict.now };
+    ghost text = { λ t. spec.verdict_text t.topic.program.now t.topic.path.now t.topic.text.now
+        t.topic.breadth t.is_shortest t.verdict.now };
 
     fn put<W: Write>(&self, out: &mut W, block: &mut Block) -> Result<(), WriteFault> {
         let Topic { path, text, .. } = self.topic;
@@ -64,7 +66,11 @@ impl Text for Told<'_> {
                     breach,
                     is_shortest: self.is_shortest,
                 };
-                (failing, Beside { path, text, cut }).put(out, block)
+                let beside = Beside {
+                    topic: self.topic,
+                    cut,
+                };
+                (failing, beside).put(out, block)
             }
             Verdict::Holds(held) => {
                 let reach = reach_of(&held.exploration);
@@ -87,11 +93,12 @@ struct Failing<'a> {
 }
 
 impl Text for Failing<'_> {
-    ghost text = { λ f. spec.breach_text f.topic.path.now f.topic.text.now f.topic.breadth
-        f.is_shortest f.breach.now };
+    ghost text = { λ f. spec.breach_text f.topic.program.now f.topic.path.now f.topic.text.now
+        f.topic.breadth f.is_shortest f.breach.now };
 
     fn put<W: Write>(&self, out: &mut W, block: &mut Block) -> Result<(), WriteFault> {
         let Topic {
+            program,
             path,
             text,
             breadth,
@@ -110,6 +117,7 @@ impl Text for Failing<'_> {
         let fails = Fails(self.is_shortest);
         let failing = (path, ": a schedule of ", letters, fails);
         let show = ShowCommand {
+            program,
             path,
             schedule: &breach.schedule,
         };
@@ -145,15 +153,18 @@ impl Text for Caused<'_> {
     ghost text = { λ c. spec.cause_text c.text.now c.cause.now };
 
     fn put<W: Write>(&self, out: &mut W, block: &mut Block) -> Result<(), WriteFault> {
+        let text = self.text;
         match *self.cause {
-            Cause::Check { line, fault } => {
-                let check = CheckLine {
-                    text: self.text,
-                    line,
-                };
-                (check, "\n", FaultLine(fault)).put(out, block)
+            Cause::Check {
+                line,
+                is_empty,
+                fault,
+            } => {
+                let check = CheckLine { text, line };
+                let beside = FaultLine { text, fault };
+                (check, "\n", EmptyRange(is_empty), beside).put(out, block)
             }
-            Cause::Fault(fault) => (fault, "\n").put(out, block),
+            Cause::Fault(fault) => (FaultTold { text, fault }, "\n").put(out, block),
         }
     }
 }
@@ -169,24 +180,9 @@ impl Text for CheckLine<'_> {
     ghost text = { λ c. spec.check_text c.text.now c.line };
 
     fn put<W: Write>(&self, out: &mut W, block: &mut Block) -> Result<(), WriteFault> {
-        let check = without_indent(shown_line(self.text, self.line));
-        let origin = origin_of(&[], self.text, self.line);
-        (check, " (line ", origin.line, OfFile(origin.path), ")").put(out, block)
-    }
-}
-
-/// The file that a line comes from, where a line before it tells another one than that of the text.
-#[derive(Clone, Copy)]
-struct OfFile<'a>(&'a [u8]);
-
-impl Text for OfFile<'_> {
-    ghost text = { λ file. spec.of_file_text file.0.now };
-
-    fn put<W: Write>(&self, out: &mut W, block: &mut Block) -> Result<(), WriteFault> {
-        if self.0.is_empty() {
-            return Ok(());
-        }
-        (" of ", self.0).put(out, block)
+        let (text, line) = (self.text, self.line);
+        let check = without_indent(shown_line(text, line));
+        (check, " (", LineOrigin { text, line }, ")").put(out, block)
     }
 }
 
@@ -214,13 +210,13 @@ impl Text for Onset {
 /// breaks, and the command that draws it.
 #[derive(Clone, Copy)]
 struct Beside<'a> {
-    path: &'a [u8],
-    text: &'a [u8],
+    topic: Topic<'a>,
     cut: &'a Option<Cut>,
 }
 
 impl Text for Beside<'_> {
-    ghost text = { λ b. spec.beside_text b.path.now b.text.now b.cut.now };
+    ghost text = { λ b. spec.beside_text b.topic.program.now b.topic.path.now b.topic.text.now
+        b.cut.now };
 
     fn put<W: Write>(&self, out: &mut W, block: &mut Block) -> Result<(), WriteFault> {
         let Some(cut) = self.cut else {
@@ -228,11 +224,12 @@ impl Text for Beside<'_> {
         };
         let letters = Letters(cut.schedule.letters().len() as u64);
         let cause = Caused {
-            text: self.text,
+            text: self.topic.text,
             cause: &cut.cause,
         };
         let show = ShowCommand {
-            path: self.path,
+            program: self.topic.program,
+            path: self.topic.path,
             schedule: &cut.schedule,
         };
         let running = " is cut off, with a process still running: ";

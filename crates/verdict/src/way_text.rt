@@ -172,10 +172,11 @@ pub fn write_discovery<W: Write>(
     out: &mut W,
 ) -> Result<(), WriteFault>
     ensures { Wrote W.contents out.old out.new
-        (discovery_text topic.entry.path.now topic.entry.text.now topic.entry.breadth discovery.now
-        is_shortest) result }
+        (discovery_text topic.entry.program.now topic.entry.path.now topic.entry.text.now
+        topic.entry.breadth discovery.now is_shortest) result }
 {
     let Topic {
+        program,
         path,
         text,
         breadth,
@@ -195,6 +196,7 @@ pub fn write_discovery<W: Write>(
                 breadth,
             };
             let show = ShowCommand {
+                program,
                 path,
                 schedule: &way.schedule,
             };

@@ -80,7 +80,7 @@ pub fn discovery_on(
                 schedule: schedule.copy(),
                 outcome: outcome.copy(),
                 matched: matched_in(patterns, outcome),
-                drawing: drawing_of(&mut world, schedule),
+                drawing: drawing_of(&mut world, source, schedule),
             })
         }
         None => None,

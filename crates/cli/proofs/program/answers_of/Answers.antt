@@ -9,7 +9,7 @@ use Rattle.cli.proofs.program.answers_of.Goals as goal
 pub loop-path-preserved : goal.loop-path-preserved
 loop-path-preserved g c = record {
   comes =
-      one_more (IsNext g.W.Write.contents g.O.Reader.Read.remaining g.O.Reader.Readable.fails (g.O.Opener.opens c.args.opener.now) c.args.order.now.task c.args.order.now.breadth) (λ path. path.now) c.as_slice-path-items.result.now c.loop-path.path-index _ _ (c.loop-path.out, c.loop-path.counts) (c.answer-status.new.out, c.add.new.self) (omega arith) (sym (get_or_default c.as_slice-path-items.result.now c.loop-path.path-index _ _ (omega arith))) c.loop-path.invariant.comes
+      one_more (IsNext g.W.Write.contents g.O.Reader.Read.remaining g.O.Reader.Readable.fails (g.O.Opener.opens c.args.opener.now) c.args.order.now.program.now c.args.order.now.task c.args.order.now.breadth) (λ path. path.now) c.as_slice-path-items.result.now c.loop-path.path-index _ _ (c.loop-path.out, c.loop-path.counts) (c.answer-status.new.out, c.add.new.self) (omega arith) (sym (get_or_default c.as_slice-path-items.result.now c.loop-path.path-index _ _ (omega arith))) c.loop-path.invariant.comes
       (record {
         file = result_ok c.open.result;
         opened = c.open.ensures;

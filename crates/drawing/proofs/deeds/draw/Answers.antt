@@ -1,25 +1,44 @@
-use Rattle.std.proofs.Common.{◌≡◌, ◌<◌, ◌∙◌, [], ap, length, arith}
+use Rattle.std.proofs.Common.{◌≡◌, ◌<◌, ◌∙◌, [], ap, length, refl, sym, arith}
 use Rattle.std.proofs.lemmas.List.{take_all}
+use Rattle.regmodel.proofs.FullSchedules.{is_possible-there}
 use Rattle.world.proofs.SameWorlds.{same_since}
-use Rattle.world.specs.Sound.{letters_of, world_programs}
-use Rattle.drawing.proofs.RowFacts.{held-past, letters-more, number-told, picture-whole, rows-past, values-same}
+use Rattle.world.specs.Sound.{letters_of}
+use Rattle.drawing.proofs.RowFacts.{deed-same, held-past, letters-more, number-told, picture-whole, rows-past, values-same}
 use Rattle.drawing.proofs.deeds.draw.Goals as goal
+
+pub stop_of-statement-requires-clause-of : goal.stop_of-statement-requires-clause-of
+stop_of-statement-requires-clause-of g c =
+    let kept = c.loop-place.invariant in
+    record { programs = kept.same.programs ∙ c.requires.of.programs; registers = kept.same.registers ∙ c.requires.of.registers }
+
+pub stop_of-statement-requires-clause-there : goal.stop_of-statement-requires-clause-there
+stop_of-statement-requires-clause-there g c =
+    let there = is_possible-there _ _ _ _ (sym c.possible.ensures ∙ cc) in
+    omega (arith, there, ap length (c.loop-place.invariant.same.programs ∙ c.requires.of.programs), c.process.ensures)
+
+pub all_stops-requires-clause-of : goal.all_stops-requires-clause-of
+all_stops-requires-clause-of g c =
+    let kept = c.loop-place.invariant in
+    record { programs = kept.same.programs ∙ c.requires.of.programs; registers = kept.same.registers ∙ c.requires.of.registers }
 
 pub loop-place-preserved : goal.loop-place-preserved
 loop-place-preserved g c =
     let kept = c.loop-place.invariant in
     let before = letters_of c.loop-place.world in
+    let programs = kept.same.programs ∙ c.requires.of.programs in
+    let registers = kept.same.registers ∙ c.requires.of.registers in
     let here : c.loop-place.place < length c.args.schedule.now = omega (arith, c.loop-place-test.true, ap length c.letters-letter-items.ensures.value) in
     let went = c.step.ensures.same in
     let copied : c.unwrap-before.result.items ≡ c.registers.result.now = (rw c.unwrap-before.ensures at c.try_from.ensures).0 in
     record {
       same = same_since _ _ _ _ _ _ kept.same went;
       went = letters-more _ _ _ c.args.schedule.now c.loop-place.place _ c.step.ensures.stepped kept.went c.letters-letter-items.ensures.value here;
-      rows = rows-past _ _ _ _ before _ _ _ _ _ kept.same.programs kept.same.registers c.step.ensures.stepped c.push.ensures.items kept.rows (record {
+      rows = rows-past _ before _ _ _ _ _ c.step.ensures.stepped c.push.ensures.items kept.rows (record {
         number = number-told _ _ _ _ c.step.ensures.stepped c.depth.ensures.value;
         process = c.process.ensures;
-        deed = c.deed_of-deed.ensures;
-        registers_are = held-past _ _ _ _ before _ _ _ _ _ c.held_since.ensures (c.as_slice.ensures.value ∙ (copied ∙ c.registers.ensures.value)) went.programs went.registers c.step.ensures.stepped c.registers-in-loop-place.ensures.value;
+        deed = deed-same _ _ before _ _ programs c.deed_of-deed.ensures;
+        registers = held-past _ _ _ _ before _ _ _ _ _ c.held_since.ensures (values-same _ _ _ _ before before _ programs registers refl (c.as_slice.ensures.value ∙ (copied ∙ c.registers.ensures.value))) (went.programs ∙ programs) (went.registers ∙ registers) c.step.ensures.stepped c.registers-in-loop-place.ensures.value;
+        statement = c.stop_of-statement.ensures;
       });
       count = omega (arith, kept.count);
     }
@@ -28,14 +47,14 @@ pub returns : goal.returns
 returns g c =
     let kept = c.loop-place.invariant in
     let first = c.restart.ensures in
-    let zeros = values-same _ _ _ _ [] (letters_of c.restart.new.self) _ first.same.programs first.same.registers first.back c.registers-zeros.ensures.value in
+    let zeros = values-same _ _ _ _ [] (letters_of c.restart.new.self) _ (first.same.programs ∙ c.requires.of.programs) (first.same.registers ∙ c.requires.of.registers) first.back c.registers-zeros.ensures.value in
     let went = kept.went ∙ take_all c.loop-place.place c.args.schedule.now (omega (arith, c.loop-place-test.false, ap length c.letters-letter-items.ensures.value)) in
     record {
       same = kept.same;
       schedule = rw (kept.same.programs, kept.same.budget, went) at kept.same.at.schedule;
-      drawn = picture-whole _ _ _ (letters_of c.loop-place.world) _ _ _ _ _ c.new.ensures kept.same.programs went
-          (c.held_since-start.ensures (world_programs (λ b. (goal.Machine-dyn g b).program b.1) c.args.world.now) [] [] _ zeros zeros)
-          kept.rows c.outcome.ensures;
+      drawn = picture-whole _ _ (letters_of c.loop-place.world) _ _ _ _ _ _ c.new.ensures (kept.same.programs ∙ c.requires.of.programs) went
+          (c.held_since-start.ensures _ [] [] _ zeros zeros)
+          kept.rows c.outcome.ensures c.all_stops.ensures;
       ok = went;
       refused = tt;
     }

@@ -1,5 +1,6 @@
 use Rattle.std.proofs.Common.{◌≡◌, [], length, take}
-use Rattle.world.specs.Sound.{IsSameWorld, letters_of, register_count_of, world_programs}
+use Rattle.reglang.specs.Sources.{contents_of}
+use Rattle.world.specs.Sound.{IsSameWorld, letters_of}
 use Rattle.drawing.specs.Pictures.{AreRowsOf}
 use Rattle.drawing.proofs.deeds.draw.Given as goal
 
@@ -8,6 +9,6 @@ abbrev pub invariant-loop-place : goal.invariant-loop-place
 invariant-loop-place g l = record {
   same : IsSameWorld (λ b. (goal.Machine-dyn g b).program b.1) (λ b. (goal.Machine-dyn g b).rest b.1) (λ b. (goal.Machine-dyn g b).resumed b.1) l.fn.world l.world;
   went : letters_of l.world ≡ take l.place l.schedule;
-  rows : AreRowsOf (world_programs (λ b. (goal.Machine-dyn g b).program b.1) l.fn.world) (register_count_of l.fn.world) [] (letters_of l.world) l.rows.items;
+  rows : AreRowsOf (contents_of l.source) [] (letters_of l.world) l.rows.items;
   count : length l.rows.items ≡ l.place;
 }

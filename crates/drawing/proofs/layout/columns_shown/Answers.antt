@@ -8,7 +8,7 @@ use Rattle.drawing.proofs.layout.columns_shown.Goals.{then-is_shown, else-is_sho
 pub loop-column-preserved : goal.loop-column-preserved
 loop-column-preserved c =
     let kept = c.loop-column.invariant in
-    let test = is_shown c.args.drawing.now c.args.widths.now.items c.args.breadth in
+    let test = is_shown c.args.drawing.now c.args.widths.now.items c.args.room in
     elim c.if-is_shown.branch [
       | then-is_shown w ↦ rw (w.shown-is, w.push.ensures.items) (record {
         so_far = rw kept.so_far (sym (kept-more test c.loop-column.column true (sym c.is_shown.ensures ∙ w.if-is_shown.true)));

@@ -6,4 +6,4 @@ use Rattle.verdict.proofs.breaches.cause_of.Goals as goal
 
 pub unreachable-requires : goal.unreachable-requires
 unreachable-requires c =
-    some_cause (clauses_asked c.args.strictness.asks_ended (contents_of c.args.spelling.now.source.now).clauses) c.args.strictness.allows_faults c.args.outcome.now (sym c.first_fault-fault.ensures ∙ cc) (c.broken_line.ensures.none cc) c.requires
+    some_cause c.args.spelling.now.text.now c.args.drawing.now.stops (clauses_asked c.args.strictness.asks_ended (contents_of c.args.spelling.now.source.now).clauses) c.args.strictness.allows_faults c.args.drawing.now.ends (sym c.first_fault-fault.ensures ∙ cc) (c.broken_line.ensures.none cc) c.requires

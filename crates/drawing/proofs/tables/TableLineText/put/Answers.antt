@@ -22,19 +22,19 @@ pub returns-in_err-put : goal.returns-in_err-put
 returns-in_err-put g c =
     let p = err_from_is_err_and c.from_residual.result c.from_residual.ensures.1 in
     let here = rw (c.loop-place.invariant.gap, c.cell-cell.ensures) at c.in_err-put.ensures in
-    rw (p.1, p.2) (fault_before (fault-in (λ i. placed (gap_before (width_at c.args.self.now.table.widths.now c.args.self.now.table.columns.now) (text_at c.args.self.now.table.names.now c.args.self.now.table.drawing.now c.args.self.now.table.columns.now c.args.self.now.line) i) ((text_at c.args.self.now.table.names.now c.args.self.now.table.drawing.now c.args.self.now.table.columns.now c.args.self.now.line) i)) c.loop-place.place (length c.args.self.now.table.columns.now) c.loop-place-test.true c.loop-place.invariant.text here) (codes "\n"))
+    rw (p.1, p.2) (fault_before (fault-in (λ i. placed (gap_before (width_at c.args.self.now.table.widths.now c.args.self.now.table.columns.now) (text_at c.args.self.now.table.labels.now c.args.self.now.table.drawing.now c.args.self.now.table.columns.now c.args.self.now.line) i) ((text_at c.args.self.now.table.labels.now c.args.self.now.table.drawing.now c.args.self.now.table.columns.now c.args.self.now.line) i)) c.loop-place.place (length c.args.self.now.table.columns.now) c.loop-place-test.true c.loop-place.invariant.text here) (codes "\n"))
 
 pub loop-place-preserved : goal.loop-place-preserved
 loop-place-preserved g c =
     let here = rw (c.loop-place.invariant.gap, c.cell-cell.ensures) at c.in_ok-put.ensures in
-    let past = gap-more (width_at c.args.self.now.table.widths.now c.args.self.now.table.columns.now) (text_at c.args.self.now.table.names.now c.args.self.now.table.drawing.now c.args.self.now.table.columns.now c.args.self.now.line) c.loop-place.place in
+    let past = gap-more (width_at c.args.self.now.table.widths.now c.args.self.now.table.columns.now) (text_at c.args.self.now.table.labels.now c.args.self.now.table.drawing.now c.args.self.now.table.columns.now c.args.self.now.line) c.loop-place.place in
     let low = gap_past-low c.loop-place.gap (get_or c.args.self.now.table.widths.now c.from.result 0) c.cell-cell.result in
     record {
-      text = text-more (λ i. placed (gap_before (width_at c.args.self.now.table.widths.now c.args.self.now.table.columns.now) (text_at c.args.self.now.table.names.now c.args.self.now.table.drawing.now c.args.self.now.table.columns.now c.args.self.now.line) i) ((text_at c.args.self.now.table.names.now c.args.self.now.table.drawing.now c.args.self.now.table.columns.now c.args.self.now.line) i)) c.loop-place.place c.loop-place.invariant.text here;
+      text = text-more (λ i. placed (gap_before (width_at c.args.self.now.table.widths.now c.args.self.now.table.columns.now) (text_at c.args.self.now.table.labels.now c.args.self.now.table.drawing.now c.args.self.now.table.columns.now c.args.self.now.line) i) ((text_at c.args.self.now.table.labels.now c.args.self.now.table.drawing.now c.args.self.now.table.columns.now c.args.self.now.line) i)) c.loop-place.place c.loop-place.invariant.text here;
       gap = (rw (c.loop-place.invariant.gap, c.cell-cell.ensures, c.from.ensures) at c.gap_past-gap.ensures) ∙ sym past;
       low = omega (arith, low, c.gap_past-gap.ensures, c.type_inv.widths c.from.result, c.loop-place.invariant.low);
     }
 
 pub returns : goal.returns
 returns g c =
-    after_text (joined-all (λ i. placed (gap_before (width_at c.args.self.now.table.widths.now c.args.self.now.table.columns.now) (text_at c.args.self.now.table.names.now c.args.self.now.table.drawing.now c.args.self.now.table.columns.now c.args.self.now.line) i) ((text_at c.args.self.now.table.names.now c.args.self.now.table.drawing.now c.args.self.now.table.columns.now c.args.self.now.line) i)) c.loop-place.place (length c.args.self.now.table.columns.now) (omega arith) c.loop-place.invariant.text) c.put_byte.ensures
+    after_text (joined-all (λ i. placed (gap_before (width_at c.args.self.now.table.widths.now c.args.self.now.table.columns.now) (text_at c.args.self.now.table.labels.now c.args.self.now.table.drawing.now c.args.self.now.table.columns.now c.args.self.now.line) i) ((text_at c.args.self.now.table.labels.now c.args.self.now.table.drawing.now c.args.self.now.table.columns.now c.args.self.now.line) i)) c.loop-place.place (length c.args.self.now.table.columns.now) (omega arith) c.loop-place.invariant.text) c.put_byte.ensures

@@ -1,5 +1,5 @@
 use Rattle.std.proofs.Common.{◌≤◌, arith, length, rules, take}
-use Rattle.told.proofs.NumberBytes.{counts_both, few_behind, numbers_few, still_whole, tells_both}
+use Rattle.told.proofs.NumberBytes.{alone_behind, few_behind, joined, numbers_few}
 use Rattle.told.proofs.numbers.Told.put_few.Goals as goal
 
 pub overflow_add-self-2 : goal.overflow_add-self-2
@@ -15,10 +15,13 @@ invariant_of-self c =
     let old = c.args.self.now in
     let other = c.args.other.now in
     let is = few_behind old.bytes other.bytes c.copy_from_slice.new.self _ old.size other.size 16 (search rules) c.copy_from_slice.ensures.after c.requires.few (search rules) in
+    let both = joined _ (take old.size old.bytes) (take other.size other.bytes) old.size other.size old.count other.count is old.whole other.whole old.fits other.fits old.counted other.counted in
     record {
       room = omega (arith, c.requires.room, c.requires.few);
-      whole = still_whole _ (take old.size old.bytes) (take other.size other.bytes) is old.whole other.whole;
-      counted = counts_both _ (take old.size old.bytes) (take other.size other.bytes) old.count other.count is old.whole other.whole old.counted other.counted;
+      whole = both.whole;
+      fits = both.fits;
+      counted = both.counted;
+      last = λ is_open. alone_behind _ (take old.size old.bytes) (take other.size other.bytes) is old.whole (other.last is_open);
     }
 
 pub returns : goal.returns
@@ -26,4 +29,4 @@ returns c =
     let old = c.args.self.now in
     let other = c.args.other.now in
     let is = few_behind old.bytes other.bytes c.copy_from_slice.new.self _ old.size other.size 16 (search rules) c.copy_from_slice.ensures.after c.requires.few (search rules) in
-    tells_both _ (take old.size old.bytes) (take other.size other.bytes) is old.whole other.whole
+    (joined _ (take old.size old.bytes) (take other.size other.bytes) old.size other.size old.count other.count is old.whole other.whole old.fits other.fits old.counted other.counted).told

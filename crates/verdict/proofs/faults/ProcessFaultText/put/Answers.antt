@@ -1,4 +1,0 @@
-use Rattle.verdict.proofs.faults.ProcessFaultText.put.Goals as goal
-
-pub returns : goal.returns
-returns g c = rw c.reason_of-reason.ensures at c.put.ensures

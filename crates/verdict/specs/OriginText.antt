@@ -1,0 +1,11 @@
+-- Where a line of a text comes from, in words.
+use Rattle.std.specs.Prelude.{ℕ, ◌==◌, if◌then◌else◌, List, [], ◌++◌, length, codes, decimal}
+use Rattle.explanations.specs.Origins.{line_told, path_told}
+
+-- the file that a line comes from, where a line before it tells another one than that of the text
+abbrev pub of_file_text : List ℕ → List ℕ
+of_file_text path = if length path == 0 then [] else codes " of " ++ path
+
+-- the line of a text with this number, as it is told: its own number, or its number in the file that is told
+abbrev pub origin_text : List ℕ → ℕ → List ℕ
+origin_text text number = codes "line " ++ decimal (line_told text number) ++ of_file_text (path_told [] text number)

@@ -1,0 +1,45 @@
+//! Checks that each name breaks, since no number is in their range.
+
+ghost use Rattle.std.specs.Prelude.{◌≡◌};
+ghost use Rattle.verdict.specs.EmptyRanges as spec;
+
+use regmodel::Clause;
+use std::io::Write;
+use texts::{Block, Text, WriteFault};
+
+/// Whether the clause at a place asks for names of a range in which no number is.
+pub(crate) fn is_empty_at(clauses: &[Clause], place: usize) -> bool
+    ensures { result ≡ spec.is_empty_at clauses.now place }
+{
+    match clauses.get(place) {
+        Some(Clause::Within(least, most)) => most < least,
+        _ => false,
+    }
+}
+
+/// That no number is in the range of a check, so that each name breaks it.
+#[derive(Clone, Copy)]
+struct EmptyRangeTold;
+
+impl Text for EmptyRangeTold {
+    ghost text = { λ _. spec.empty_range_text };
+
+    fn put<W: Write>(&self, out: &mut W, block: &mut Block) -> Result<(), WriteFault> {
+        ("No number is in that range", ": each name breaks it.\n").put(out, block)
+    }
+}
+
+/// The same, where no number is in its range.
+#[derive(Clone, Copy)]
+pub(crate) struct EmptyRange(pub(crate) bool);
+
+impl Text for EmptyRange {
+    ghost text = { λ range. spec.empty_text range.0 };
+
+    fn put<W: Write>(&self, out: &mut W, block: &mut Block) -> Result<(), WriteFault> {
+        if !self.0 {
+            return Ok(());
+        }
+        EmptyRangeTold.put(out, block)
+    }
+}
