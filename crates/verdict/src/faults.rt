@@ -40,16 +40,8 @@ impl Text for FaultTold<'_> {
             text: self.text,
             line: fault.line,
         };
-        let reason = reason_of(fault.code);
-        (
-            "process ",
-            fault.process,
-            " is at fault",
-            place,
-            ": ",
-            reason,
-        )
-            .put(out, block)
+        let head = ("process ", fault.process, " is at fault");
+        (head, place, ": ", reason_of(fault.code)).put(out, block)
     }
 }
 
