@@ -1,7 +1,11 @@
-use Rattle.std.proofs.Common.{◌≡◌, ◌+◌, ◌*◌, ◌^◌, ◌<◌, ◌≤◌, ◌++◌, [], ◌∷◌, get_or, length, take, ap, sym, ◌∙◌, arith, pow_mono}
+use Rattle.std.proofs.Common.{◌≡◌, ◌+◌, ◌*◌, ◌^◌, ◌<◌, ◌≤◌, ◌++◌, [], ◌∷◌, append_assoc, get_or, length, take, ap, sym, subst, ◌∙◌, arith, pow_mono}
 use Rattle.std.proofs.lemmas.Grind.{pow_more}
+use Rattle.std.proofs.lemmas.Option.{IfSome_then}
 use Rattle.std.proofs.lemmas.List.{length-set, length-take-le, take_all, take_more_set}
-use Rattle.machine.specs.Sparse.{mask_of}
+use Rattle.told.specs.Bytes.{size_of}
+use Rattle.told.specs.Numbers.{numbers_in}
+use Rattle.told.specs.declared.limits.TheConstants.{MOST_BYTES}
+use Rattle.machine.specs.Sparse.{mask_of, sparse}
 use Rattle.machine.proofs.SparseValues.{filled-past-other, filled-past-zero, filled-past-zeros, mask-past-other, mask-past-zero, mask-past-zeros, mask_small, pow_four}
 use Rattle.machine.proofs.sparse.put_sparse.Goals as goal
 use Rattle.machine.proofs.sparse.put_sparse.Goals.{then-values-i-ne0, else-values-i-ne0}
@@ -71,3 +75,20 @@ overflow_cast-mask c =
     let whole : take i values ≡ values = take_all i values (omega (arith, c.loop-i-test.false)) in
     let small : mask_of values < 4294967296 = mask_small 32 values (omega (arith, c.requires)) in
     omega (arith, small, ap mask_of whole, c.loop-i.invariant.mask)
+
+-- the mask and the others are what the values are told by
+told_sparse : (c : goal.After-put_all) → numbers_in c.put.new.self ++ take c.loop-i.count c.loop-i.others ≡ numbers_in c.args.numbers.now ++ sparse c.args.values.now
+told_sparse c =
+    let values = c.args.values.now in
+    let told = c.loop-i.invariant in
+    let whole : take c.loop-i.i values ≡ values = take_all c.loop-i.i values (omega (arith, c.loop-i-test.false)) in
+    let others = take c.loop-i.count c.loop-i.others in
+    let both : c.loop-i.mask ∷ others ≡ sparse values = ap (λ m. m ∷ others) told.mask ∙ (ap (λ ns. mask_of (take c.loop-i.i values) ∷ ns) told.others ∙ ap sparse whole) in
+    ap (λ ns. ns ++ others) c.in_ok-put.ensures.behind
+    ∙ (append_assoc (numbers_in c.args.numbers.now) (c.loop-i.mask ∷ []) others ∙ ap (λ ns. numbers_in c.args.numbers.now ++ ns) both)
+
+pub returns-clause-behind : goal.returns-clause-behind
+returns-clause-behind c = IfSome_then c.put_all.result c.put_all.ensures.behind (λ _ is. is ∙ told_sparse c)
+
+pub returns-clause-room : goal.returns-clause-room
+returns-clause-room c fits = c.put_all.ensures.room (subst (λ ns. size_of ns ≤ MOST_BYTES) (sym (told_sparse c)) fits)
