@@ -33,8 +33,8 @@ begun_with _ begun = begun
 abbrev pub statements_after : ℕ → ℕ → ℕ → List (List ℕ) → List ℕ
 statements_after p before begun [] = []
 statements_after p before begun (line ∷ lines) =
-    (if says_statement (read_line line) && begun == p + 1 then suc before ∷ [] else [])
-    ++ statements_after p (suc before) (begun_with (read_line line) begun) lines
+    (if says_statement (read_line line) && begun == p + 1 then (before + 1) ∷ [] else [])
+    ++ statements_after p (before + 1) (begun_with (read_line line) begun) lines
 
 -- the numbers of the lines of a text that are statements of process p, rising
 abbrev pub statement_lines : List ℕ → ℕ → List ℕ

@@ -1,8 +1,12 @@
-use Rattle.std.proofs.Common.{◌≡◌, ◌<◌, ◌∙◌, [], ap, length, refl, sym, arith}
+use Rattle.std.proofs.Common.{◌≡◌, ◌<◌, ◌∙◌, [], ap, get_or, length, refl, sym, arith}
 use Rattle.std.proofs.lemmas.List.{take_all}
+use Rattle.regmodel.specs.declared.letters.Letter.TheVariants.{Run}
 use Rattle.regmodel.proofs.FullSchedules.{is_possible-there}
 use Rattle.world.proofs.SameWorlds.{same_since}
-use Rattle.world.specs.Sound.{letters_of}
+use Rattle.world.specs.Sound.{budget_of, letters_of, world_programs}
+use Rattle.reglang.specs.Contents.{programs_in}
+use Rattle.reglang.specs.Sources.{contents_of}
+use Rattle.drawing.specs.Stops.{stop_after}
 use Rattle.drawing.proofs.RowFacts.{deed-same, held-past, letters-more, number-told, picture-whole, rows-past, values-same}
 use Rattle.drawing.proofs.deeds.draw.Goals as goal
 
@@ -13,8 +17,10 @@ stop_of-statement-requires-clause-of g c =
 
 pub stop_of-statement-requires-clause-there : goal.stop_of-statement-requires-clause-there
 stop_of-statement-requires-clause-there g c =
-    let there = is_possible-there _ _ _ _ (sym c.possible.ensures ∙ cc) in
-    omega (arith, there, ap length (c.loop-place.invariant.same.programs ∙ c.requires.of.programs), c.process.ensures)
+    let programs = world_programs (λ b. (goal.Machine-dyn g b).program b.1) c.loop-place.world in
+    let letter = get_or c.letters-letter-items.result.now c.loop-place.place (Run 0) in
+    let there = is_possible-there programs (budget_of c.loop-place.world) (letters_of c.loop-place.world) letter (sym c.possible.ensures ∙ c.if-not-possible.false) in
+    omega (arith, there, ap length (c.loop-place.invariant.same.programs ∙ c.requires.of.programs), c.process-process.ensures)
 
 pub all_stops-requires-clause-of : goal.all_stops-requires-clause-of
 all_stops-requires-clause-of g c =
@@ -35,10 +41,10 @@ loop-place-preserved g c =
       went = letters-more _ _ _ c.args.schedule.now c.loop-place.place _ c.step.ensures.stepped kept.went c.letters-letter-items.ensures.value here;
       rows = rows-past _ before _ _ _ _ _ c.step.ensures.stepped c.push.ensures.items kept.rows (record {
         number = number-told _ _ _ _ c.step.ensures.stepped c.depth.ensures.value;
-        process = c.process.ensures;
+        process = c.process-process.ensures;
         deed = deed-same _ _ before _ _ programs c.deed_of-deed.ensures;
         registers = held-past _ _ _ _ before _ _ _ _ _ c.held_since.ensures (values-same _ _ _ _ before before _ programs registers refl (c.as_slice.ensures.value ∙ (copied ∙ c.registers.ensures.value))) (went.programs ∙ programs) (went.registers ∙ registers) c.step.ensures.stepped c.registers-in-loop-place.ensures.value;
-        statement = c.stop_of-statement.ensures;
+        statement = c.stop_of-statement.ensures ∙ ap (stop_after (contents_of c.args.source.now) before) c.process-process.ensures;
       });
       count = omega (arith, kept.count);
     }
@@ -53,7 +59,7 @@ returns g c =
       same = kept.same;
       schedule = rw (kept.same.programs, kept.same.budget, went) at kept.same.at.schedule;
       drawn = picture-whole _ _ (letters_of c.loop-place.world) _ _ _ _ _ _ c.new.ensures (kept.same.programs ∙ c.requires.of.programs) went
-          (c.held_since-start.ensures _ [] [] _ zeros zeros)
+          (c.held_since-start.ensures (programs_in (contents_of c.args.source.now)) [] [] _ zeros zeros)
           kept.rows c.outcome.ensures c.all_stops.ensures;
       ok = went;
       refused = tt;
