@@ -18,8 +18,8 @@ use std::thread;
 use std::thread::Threads;
 
 /// Up to which length a check or a search splits beginnings of schedules into pieces where several
-/// workers share them: few enough to be put up in no time, and many more than workers.
-const SHARED_CUT: u32 = 3;
+/// workers share them. The deeper, the later two of them walk alike, before either remembers it.
+const SHARED_CUT: u32 = 6;
 
 /// How many pieces each worker of a check may put up for the others.
 const ROOM: u32 = 64;
