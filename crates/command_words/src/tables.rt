@@ -127,7 +127,7 @@ const EXPLORE: &[Word] = &[
     Word {
         name: "cut",
         kind: Kind::NeededNumber("D"),
-        help: "Up to which length beginnings of schedules are split into pieces for the workers: 0 to 16 (3 serves well)",
+        help: "Up to which length beginnings of schedules are split into pieces for the workers: 0 to 16 (6 serves well)",
     },
     Word {
         name: "room",
