@@ -97,23 +97,25 @@ module _ {R : Type 0} (opens : List ℕ → Option R → Type 0) (remaining : R 
       done = (silent, record { file = opened; opened = there; why = not_read before.texts opened fault status (why before.texts before.holds) status_is });
     }
 
-    incomplete_status : (texts : Texts) (fault : MergeFault) → AreIncompleteBy texts fault → merge_status fault ≡ 2
-    incomplete_status texts merging.Nothing h = refl
-    incomplete_status texts (merging.Missing missing) h = refl
-    incomplete_status texts (merging.Text bad) h = absurd h
-    incomplete_status texts (merging.Misfit number other misfit) h = absurd h
-    incomplete_status texts merging.Sought h = absurd h
-    incomplete_status texts (merging.Twice number) h = absurd h
-    incomplete_status texts merging.TooMany h = absurd h
-    incomplete_status texts merging.NoMemory h = absurd h
+-- ---- parts that are missing
 
-    -- all were read, and parts are missing
-    pub some_missing : (texts : Texts) (fault : MergeFault) (old new : W) (status : ℕ) → new ≡ old → status ≡ merge_status fault → AreIncomplete texts fault → AreAllRead contents texts old new status
-    some_missing texts fault old new status silent status_is h =
-        let two : status ≡ 2 = status_is ∙ incomplete_status texts fault h.told in
-        record {
-          merged = λ low. absurd (omega (arith, low, two));
-          missing = λ _. (silent, (fault, h));
-          cut_short = λ high. absurd (omega (arith, high, two));
-          status_is = omega (arith, two);
-        }
+incomplete_status : (texts : Texts) (fault : MergeFault) → AreIncompleteBy texts fault → merge_status fault ≡ 2
+incomplete_status texts merging.Nothing h = refl
+incomplete_status texts (merging.Missing missing) h = refl
+incomplete_status texts (merging.Text bad) h = absurd h
+incomplete_status texts (merging.Misfit number other misfit) h = absurd h
+incomplete_status texts merging.Sought h = absurd h
+incomplete_status texts (merging.Twice number) h = absurd h
+incomplete_status texts merging.TooMany h = absurd h
+incomplete_status texts merging.NoMemory h = absurd h
+
+-- all were read, and parts are missing
+pub some_missing : {W : Type 0} (contents : W → Option (List ℕ)) (texts : Texts) (fault : MergeFault) (old new : W) (status : ℕ) → new ≡ old → status ≡ merge_status fault → AreIncomplete texts fault → AreAllRead contents texts old new status
+some_missing contents texts fault old new status silent status_is h =
+    let two : status ≡ 2 = status_is ∙ incomplete_status texts fault h.told in
+    record {
+      merged = λ low. absurd (omega (arith, low, two));
+      missing = λ _. (silent, (fault, h));
+      cut_short = λ high. absurd (omega (arith, high, two));
+      status_is = omega (arith, two);
+    }
