@@ -31,7 +31,8 @@ pub record IsAnsweredOrRefused {W R : Type 0} (contents : W → Option (List ℕ
 -- the file of one more path, which is opened so, is answered or refused, and counted; what is
 -- counted stands beside what the writer holds
 pub record IsNext {W R : Type 0} (contents : W → Option (List ℕ)) (remaining : R → Option (List ℕ)) (fails : R → Refusal → Type 0)
-    (opens : List ℕ → Option R → Type 0) (program : List ℕ) (asked : Task) (breadth : Breadth) (before : W × FileCounts) (path : List ℕ) (after : W × FileCounts) : Type 0 where
+    (opens : List ℕ → Option R → Type 0) (program : List ℕ) (asked : Task) (breadth : Breadth)
+    (before : W × FileCounts) (path : List ℕ) (after : W × FileCounts) : Type 0 where
   pub file : Option R
   pub opened : opens path file
   pub status : ℕ
