@@ -247,7 +247,7 @@ const WORKERS: Word = Word {
 const CACHE: Word = Word {
     name: "cache",
     kind: Kind::Text("MB"),
-    help: "In how many megabytes states are remembered, as by explore: 0 to 65536 [default: 128]",
+    help: "In how many megabytes states are remembered, as by explore: 0 to 65536 [default: 256]",
 };
 
 /// How broad a drawing may be, for a check, a search and a drawing.

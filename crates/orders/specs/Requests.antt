@@ -44,8 +44,10 @@ pub record IsNamedBy (m : ArgMatches) (name : Text) (found : Found) : Type 0 whe
 -- a parse asks to do something with files, or to merge the parts in files, in their order
 abbrev pub IsRequestBy : (List ℕ → Type 0) → Text → ℕ → ArgMatches → Request → Type 0
 IsRequestBy reads program processors m Version = ⊥
-IsRequestBy reads program processors m (Order order) = (name : Text) × (found : Found) × IsNamedBy m name found × IsOrderTold reads program processors name found order
-IsRequestBy reads program processors m (Merge paths) = (found : Found) × IsNamedBy m (codes "merge") found × (map (λ path. path.now) paths.items ≡ texts_at (codes "FILE") found)
+IsRequestBy reads program processors m (Order order) =
+    (name : Text) × (found : Found) × IsNamedBy m name found × IsOrderTold reads program processors name found order
+IsRequestBy reads program processors m (Merge paths) =
+    (found : Found) × IsNamedBy m (codes "merge") found × (map (λ path. path.now) paths.items ≡ texts_at (codes "FILE") found)
 
 -- so asks a parse of these words, where there are taken to be so many processors
 pub record IsParsedTo (reads : List ℕ → Type 0) (words : List Text) (request : Request) : Type 0 where

@@ -25,7 +25,7 @@ const SHARED_CUT: u32 = 6;
 const ROOM: u32 = 64;
 
 /// In how many megabytes a check or a search remembers states, unless its words say.
-pub const CACHE: u32 = 128;
+pub const CACHE: u32 = 256;
 
 /// How many processors there are taken to be where the system does not tell.
 const PROCESSORS: u32 = 4;
