@@ -127,7 +127,7 @@ const EXPLORE: &[Word] = &[
     Word {
         name: "cut",
         kind: Kind::NeededNumber("D"),
-        help: "Up to which length beginnings of schedules are split into pieces for the workers: 0 to 16 (6 serves well)",
+        help: "Up to which length beginnings are split into pieces: 0 to 16 (6 serves well)",
     },
     Word {
         name: "room",
@@ -180,7 +180,7 @@ const FIND: &[Word] = &[
 const MERGE: &[Word] = &[Word {
     name: "FILE",
     kind: Kind::Several,
-    help: "Parts, as explore --part prints them, one or more in each file and in any order, or - for standard input",
+    help: "Files of parts, as explore --part prints them, in any order, or - for standard input",
 }];
 
 /// The words of `replay`.

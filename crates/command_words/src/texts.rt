@@ -111,19 +111,24 @@ Statuses:
 
 /// What the help says of parts.
 const MERGES: &str =
-    "A part is what `regtry explore --part I/N` prints. All N parts of one exploration, whole ones, one or more in each file and in any
-order, are merged into the report that explore prints without --part, or, where they were explored with --least, into its least failing
-schedule. The files are read one after another, and one part is held at a time.
+    "A part is what `regtry explore --part I/N` prints. All N parts of one exploration, whole ones, one
+or more in each file and in any order, are merged into the report that explore prints without
+--part, or, where they were explored with --least, into its least failing schedule. The files are
+read one after another, and one part is held at a time.
 
-Example: regtry explore FILE .. --part 1/2 > part-1; regtry explore FILE .. --part 2/2 > part-2; regtry merge part-*
-prints what regtry explore FILE .. prints.
+Example: these three commands print what regtry explore FILE .. prints.
+  regtry explore FILE .. --part 1/2 > part-1
+  regtry explore FILE .. --part 2/2 > part-2
+  regtry merge part-1 part-2
 
 Statuses:
   0  no schedule fails
   1  a schedule fails
-  2  the words or a file are refused, or parts are: a file has none or ends in the midst of one, a line is none of a part, a part is
-     there twice or missing, or two parts are not of one exploration; it is said which, and in which file the later one is
-  3  memory ran out, there are more schedules than can be counted, or the report could not be written";
+  2  the words or a file are refused, or parts are: a file has none or ends in the midst of one, a
+     line is none of a part, a part is there twice or missing, or two parts are not of one
+     exploration; it is said which, and in which file the later one is
+  3  memory ran out, there are more schedules than can be counted, or the report could not be
+     written";
 
 /// What the help says of a drawing.
 const DRAWINGS: &str = "Letters of a schedule:
@@ -140,8 +145,8 @@ end by it, as `, done 4` or `, fault 2`; then what each register holds after it,
 star where the letter changed it. The line of step 0 has what they hold at the start. Below the
 letters a line says how each process stands, and then the lowest process at fault is told, if any,
 at which line of the source and why. A comment line of the source, as `# register 0: flag[0]`, gives
-a register a name of at most 16 characters, which stands there in place of its number. With --lines a
-column behind that of the steps tells the line of the statement that took each.
+a register a name of at most 16 characters, which stands there in place of its number. With --lines
+a column behind that of the steps tells the line of the statement that took each.
 
 A line is at most 80 places long where there are at most two processes, else 132. Registers are left out until that holds or none is left,
 first those that no letter reads or writes, then those that no letter writes, and each time the last one; a line
