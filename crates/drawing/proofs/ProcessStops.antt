@@ -1,4 +1,4 @@
--- At which statement a process stops, by its own program or its use line.
+-- Where a process stops, by its own program or its use line.
 use Rattle.std.proofs.Common.{◌≡◌, ℕ, List, Some, None, ap, sym, ◌∙◌}
 use Rattle.machine.specs.Stops.{stops_at}
 use Rattle.reglang.specs.Contents.{Contents, programs_in}
@@ -16,5 +16,5 @@ at_own source ps w p program told same own answered =
     ∙ ap (λ o. stop_of o (replies (programs_in source) w p)) (sym own)
 
 -- by its use line
-pub at_use : (source : Contents) (w : Schedule) (p : ℕ) → own_program_at source p ≡ None → Some 0 ≡ stop_after source w p
+pub at_use : (source : Contents) (w : Schedule) (p : ℕ) → own_program_at source p ≡ None → Some (record { at = 0; culprit = None }) ≡ stop_after source w p
 at_use source w p own = ap (λ o. stop_of o (replies (programs_in source) w p)) (sym own)

@@ -17,6 +17,7 @@ use Rattle.drawing.specs.declared.drawings.Row.{Row}
 use Rattle.drawing.specs.Pictures.{AreRowsOf, IsPictureOf, IsRowOf, Picture, deed_by}
 use Rattle.drawing.specs.Registers.{all_held, held_after}
 use Rattle.drawing.specs.Stops.{stops_after}
+use Rattle.machine.specs.declared.stops.Stopped.{Stopped}
 use Rattle.regmodel.proofs.NumberedLists.{at_place}
 
 -- how many values there are
@@ -64,7 +65,7 @@ pub deed-same : (ps qs : List Program) (v : Schedule) (a : Letter) (did : Deed) 
 deed-same ps qs v a did same told = subst (λ (rs : List Program). deed_by (value_after rs v) a (wanted_after rs v (process_of a)) ≡ Some did) same told
 
 -- the picture of the parts
-pub picture-whole : (source : Contents) (qs : List Program) (v w : Schedule) (picture : Picture) (start : List Held) (rows : List Row) (ends : List ProcEnd) (stops : List (Option ℕ)) → picture ≡ record { start = start; rows = rows; ends = ends; stops = stops } → qs ≡ programs_in source → v ≡ w → start ≡ all_held (programs_in source) source.registers [] [] → AreRowsOf source [] v rows → ends ≡ outcome_of qs v → stops ≡ stops_after source v → IsPictureOf source w picture
+pub picture-whole : (source : Contents) (qs : List Program) (v w : Schedule) (picture : Picture) (start : List Held) (rows : List Row) (ends : List ProcEnd) (stops : List (Option Stopped)) → picture ≡ record { start = start; rows = rows; ends = ends; stops = stops } → qs ≡ programs_in source → v ≡ w → start ≡ all_held (programs_in source) source.registers [] [] → AreRowsOf source [] v rows → ends ≡ outcome_of qs v → stops ≡ stops_after source v → IsPictureOf source w picture
 picture-whole source qs v w picture start rows ends stops parts same went held told ended stopped =
     rw parts (record {
       start = held;

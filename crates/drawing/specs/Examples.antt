@@ -24,6 +24,7 @@ use Rattle.drawing.specs.Names.{name_in, register_names}
 use Rattle.drawing.specs.Pictures.{IsPictureOf, Picture, deed_by}
 use Rattle.drawing.specs.Registers.{all_held}
 use Rattle.drawing.specs.Stops.{stop_of, stops_after}
+use Rattle.machine.specs.declared.culprits.Culprit.TheVariants.{Register}
 
 abbrev kept : ℕ → Held
 kept value = record { value = value; changed = false }
@@ -92,7 +93,7 @@ pub text_of_both : drawing_text (usual false) [] both ≡
 unfolding digits
 text_of_both = refl
 
--- ---- at which statement processes stop
+-- ---- where processes stop
 
 -- one process has no statement, the other one stands at its second
 abbrev stands_at_its_second : Contents
@@ -102,10 +103,10 @@ stands_at_its_second = record {
   clauses = [];
 }
 
-pub no_statement_and_its_second : stops_after stands_at_its_second [] ≡ None ∷ Some 1 ∷ []
+pub no_statement_and_its_second : stops_after stands_at_its_second [] ≡ None ∷ Some (record { at = 1; culprit = None }) ∷ []
 no_statement_and_its_second = refl
 
-pub a_use_line_is_the_only_one : stop_of None [] ≡ Some 0
+pub a_use_line_is_the_only_one : stop_of None [] ≡ Some (record { at = 0; culprit = None })
 a_use_line_is_the_only_one = refl
 
 -- ---- names of registers
@@ -144,10 +145,21 @@ text_with_lines = refl
 
 -- a process that scans two registers and names then one that is not there
 abbrev scan_row : Row
-scan_row = record { number = 1; process = 0; deed = deed.Scan 1 2; statement = Some 0; registers = record { items = kept 0 ∷ kept 7 ∷ kept 12 ∷ [] } }
+scan_row = record {
+  number = 1;
+  process = 0;
+  deed = deed.Scan 1 2;
+  statement = Some 0;
+  registers = record { items = kept 0 ∷ kept 7 ∷ kept 12 ∷ [] };
+}
 
 abbrev faulty : Picture
-faulty = record { start = kept 0 ∷ kept 7 ∷ kept 12 ∷ []; rows = scan_row ∷ []; ends = record { started = true; fate = end.Fault 2 } ∷ []; stops = Some 1 ∷ [] }
+faulty = record {
+  start = kept 0 ∷ kept 7 ∷ kept 12 ∷ [];
+  rows = scan_row ∷ [];
+  ends = record { started = true; fate = end.Fault 2 } ∷ [];
+  stops = Some (record { at = 1; culprit = Some (Register 9 3) }) ∷ [];
+}
 
 pub a_scan_and_a_fault_are_told : row_text [] faulty scan_row ≡ codes "scan 1 2 = 7 12, fault 2"
 unfolding digits
@@ -161,10 +173,22 @@ a_scan_from_a_named_register = refl
 
 -- a process that reads the last but one of four registers, and writes 5 into the last one
 abbrev read_row : Row
-read_row = record { number = 1; process = 0; deed = deed.Read 2 0; statement = Some 0; registers = record { items = kept 0 ∷ kept 0 ∷ kept 0 ∷ kept 0 ∷ [] } }
+read_row = record {
+  number = 1;
+  process = 0;
+  deed = deed.Read 2 0;
+  statement = Some 0;
+  registers = record { items = kept 0 ∷ kept 0 ∷ kept 0 ∷ kept 0 ∷ [] };
+}
 
 abbrev write_row : Row
-write_row = record { number = 2; process = 0; deed = deed.Write 3 5; statement = Some 1; registers = record { items = kept 0 ∷ kept 0 ∷ kept 0 ∷ changed_to 5 ∷ [] } }
+write_row = record {
+  number = 2;
+  process = 0;
+  deed = deed.Write 3 5;
+  statement = Some 1;
+  registers = record { items = kept 0 ∷ kept 0 ∷ kept 0 ∷ changed_to 5 ∷ [] };
+}
 
 abbrev last_two : Picture
 last_two = record {

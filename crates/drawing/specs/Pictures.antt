@@ -17,21 +17,21 @@ use Rattle.reglang.specs.Contents.{Contents, programs_in}
 use Rattle.world.specs.declared.BadLetter.{BadLetter}
 use Rattle.world.specs.declared.World.{World}
 use Rattle.world.specs.Sound.{IsSameWorld, budget_of, letters_of, register_count_of, world_programs}
+use Rattle.machine.specs.declared.stops.Stopped.{Stopped}
 use Rattle.world.specs.Stops.{IsStopped}
 use Rattle.drawing.specs.declared.drawings.Deed.{Deed}
 use Rattle.drawing.specs.declared.drawings.Deed.TheVariants as deed
 use Rattle.drawing.specs.declared.drawings.Held.{Held}
 use Rattle.drawing.specs.declared.drawings.Row.{Row}
 use Rattle.drawing.specs.Registers.{all_held}
-use Rattle.drawing.specs.Stops.{stop_after, stops_after}
+use Rattle.drawing.specs.Stops.{statement_after, stops_after}
 
--- what registers hold before the first letter, a row a letter, how each process stands after the last, and at which of its statements it
--- stops then
+-- what registers hold before the first letter, a row a letter, how each process stands after the last, and where it stops then
 pub record Picture : Type 0 where
   pub start : List Held
   pub rows : List Row
   pub ends : List ProcEnd
-  pub stops : List (Option ℕ)
+  pub stops : List (Option Stopped)
 
 -- what a letter does, where `values` tells what registers hold before it, beside the access that its process wants; a run of a
 -- process that wants none does nothing
@@ -48,7 +48,7 @@ pub record IsRowOf (source : Contents) (before : Schedule) (letter : Letter) (ro
   pub process : row.process ≡ process_of letter
   pub deed : deed_by (value_after (programs_in source) before) letter (wanted_after (programs_in source) before (process_of letter)) ≡ Some row.deed
   pub registers : row.registers.items ≡ all_held (programs_in source) source.registers before (before ++ letter ∷ [])
-  pub statement : row.statement ≡ stop_after source before (process_of letter)
+  pub statement : row.statement ≡ statement_after source before (process_of letter)
 
 -- a row for each letter of `later`, which comes after `before`
 abbrev pub AreRowsOf : Contents → Schedule → Schedule → List Row → Type 0

@@ -3,6 +3,7 @@
 ghost use Rattle.std.specs.Prelude.{◌≡◌, ◌≤◌, None, get_or, length};
 
 use arrayvec::ArrayVec;
+use machine::Stopped;
 use regmodel::Outcome;
 use std::marker::Model;
 
@@ -82,13 +83,13 @@ pub struct Row {
 }
 
 /// What is drawn of a schedule: what each register holds before its first letter, a row a letter,
-/// how each process stands after the last one, and at which of its statements it stops then.
+/// how each process stands after the last one, and where it stops in its own text then.
 #[derive(Debug, Drop)]
 pub struct Drawing {
     start: ArrayVec<Held, 64>,
     rows: ArrayVec<Row, 64>,
     outcome: Outcome,
-    stops: ArrayVec<Option<usize>, 8>,
+    stops: ArrayVec<Option<Stopped>, 8>,
 }
 
 impl Model for Drawing {
@@ -117,7 +118,7 @@ impl Drawing {
         start: ArrayVec<Held, 64>,
         rows: ArrayVec<Row, 64>,
         outcome: Outcome,
-        stops: ArrayVec<Option<usize>, 8>,
+        stops: ArrayVec<Option<Stopped>, 8>,
     ) -> Drawing
         requires { length outcome ≤ MOST_PROCESSES }
         ensures { result ≡ record {
@@ -156,10 +157,10 @@ impl Drawing {
         &self.outcome
     }
 
-    /// The number of the statement of its own text at which a process stops at the end, counted
-    /// from 0: the one that wants an access, halts or is at fault; 0 where it is a use line. None
-    /// where it has come past its last one, or is not there.
-    pub fn stop_of(&self, p: u8) -> Option<usize>
+    /// Where a process stops in its own text at the end: at the statement that wants an access,
+    /// halts or is at fault, or at its use line. None where it has come past its last statement, or
+    /// is not there.
+    pub fn stop_of(&self, p: u8) -> Option<Stopped>
         ensures { result ≡ get_or self.now.stops p None }
     {
         match self.stops.get(usize::from(p)) {

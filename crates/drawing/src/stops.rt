@@ -1,4 +1,4 @@
-//! At which statement of its own text a process stops.
+//! Where a process stops in its own text.
 
 ghost use Rattle.std.specs.Prelude.{◌≡◌, ◌<◌, length};
 ghost use Rattle.drawing.specs.Pictures.{IsWorldOf};
@@ -7,13 +7,12 @@ ghost use Rattle.reglang.specs.Sources.{contents_of, source_programs};
 ghost use Rattle.world.specs.Sound.{IsSoundWorld, letters_of};
 
 use arrayvec::ArrayVec;
-use machine::{Machine, stops_at};
+use machine::{Machine, Stopped, stops_at};
 use reglang::Source;
 use world::World;
 
-/// The number of the statement at which each process of a world stops where it stands, processes
-/// and statements from 0.
-pub(crate) fn all_stops(world: &World, source: &Source) -> ArrayVec<Option<usize>, 8>
+/// Where each process of a world stops that stands so, processes from 0.
+pub(crate) fn all_stops(world: &World, source: &Source) -> ArrayVec<Option<Stopped>, 8>
     requires at { IsSoundWorld program rest resumed world.now }
     requires of { IsWorldOf program world.now (contents_of source.now) }
     ensures { result.items ≡ spec.stops_after (contents_of source.now) (letters_of world.now) }
@@ -25,10 +24,23 @@ pub(crate) fn all_stops(world: &World, source: &Source) -> ArrayVec<Option<usize
     stops
 }
 
-/// The number of the statement at which a process of a world stops where it stands: the one that
-/// wants an access, halts or is at fault. A use line is the only one of its process. None where the
-/// process has come past its last one.
-pub(crate) fn stop_of(world: &World, source: &Source, p: u8) -> Option<usize>
+/// The number of the statement at which a process of a world stops that stands so.
+pub(crate) fn statement_of(world: &World, source: &Source, p: u8) -> Option<usize>
+    requires at { IsSoundWorld program rest resumed world.now }
+    requires of { IsWorldOf program world.now (contents_of source.now) }
+    requires there { p < length (source_programs source.now) }
+    ensures { result ≡ spec.statement_after (contents_of source.now) (letters_of world.now) p }
+{
+    match stop_of(world, source, p) {
+        Some(stopped) => Some(stopped.at),
+        None => None,
+    }
+}
+
+/// Where a process of a world stops that stands so: at the statement that wants an access, halts or
+/// is at fault. A use line is the only one of its process. None where the process has come past its
+/// last one.
+fn stop_of(world: &World, source: &Source, p: u8) -> Option<Stopped>
     requires at { IsSoundWorld program rest resumed world.now }
     requires of { IsWorldOf program world.now (contents_of source.now) }
     requires there { p < length (source_programs source.now) }
@@ -36,6 +48,9 @@ pub(crate) fn stop_of(world: &World, source: &Source, p: u8) -> Option<usize>
 {
     match source.own_prog(usize::from(p)) {
         Some(prog) => stops_at(prog, world.replies(p)),
-        None => Some(0),
+        None => Some(Stopped {
+            at: 0,
+            culprit: None,
+        }),
     }
 }

@@ -12,9 +12,10 @@ use Rattle.machine.specs.declared.values.Place as values
 use Rattle.machine.specs.Paths.{part_flow, resume}
 use Rattle.machine.specs.Stops.{past}
 use Rattle.machine.specs.Stores.{as_place}
+use Rattle.machine.specs.declared.stops.Stopped.{Stopped}
 use Rattle.machine.proofs.ProgramSteps.{access_flow-with_stmt}
 
-module _ (x : Stmt) (n : ℕ) (env : Env) (reply : Reply) (others : Replies) (at : Option ℕ) (go : Env → Replies → Option ℕ) where
+module _ (x : Stmt) (n : ℕ) (env : Env) (reply : Reply) (others : Replies) (at : Option Stopped) (go : Env → Replies → Option Stopped) where
   pub past-read : (r : ℕ) (place : values.Place) → past (part_flow (Reading r place) n (with_stmt x Stop) (resume n []) env (reply ∷ others)) at go ≡ go (store env (as_place place) (value_of reply)) others
   past-read r place = ap (λ f. past f at go) (access_flow-with_stmt x n Stop (answer_read env (as_place place) r (reply ∷ others)))
 
@@ -25,7 +26,7 @@ module _ (x : Stmt) (n : ℕ) (env : Env) (reply : Reply) (others : Replies) (at
   past-scan cell first count = ap (λ f. past f at go) (access_flow-with_stmt x n Stop (answer_scan env cell first count (reply ∷ others)))
 
 -- a part and replies that are known
-pub past-known : (part known : Part) (n : ℕ) (b : Block) (env : Env) (s replies : Replies) (at out : Option ℕ) (go : Env → Replies → Option ℕ) → part ≡ known → s ≡ replies → past (part_flow known n b (resume n []) env replies) at go ≡ out → past (part_flow part n b (resume n []) env s) at go ≡ out
+pub past-known : (part known : Part) (n : ℕ) (b : Block) (env : Env) (s replies : Replies) (at out : Option Stopped) (go : Env → Replies → Option Stopped) → part ≡ known → s ≡ replies → past (part_flow known n b (resume n []) env replies) at go ≡ out → past (part_flow part n b (resume n []) env s) at go ≡ out
 past-known part known n b env s replies at out go h k known_out =
     ap (λ part. past (part_flow part n b (resume n []) env s) at go) h
     ∙ ap (λ s. past (part_flow known n b (resume n []) env s) at go) k

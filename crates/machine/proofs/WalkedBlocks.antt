@@ -1,6 +1,7 @@
 -- What comes past the statements of a block, one after another.
 use Rattle.std.proofs.Common.{◌≡◌, ℕ, zero, suc, ◌+◌, ◌-◌, ◌<◌, List, [], ◌∷◌, Option, Some, None, Result, Ok, Err, length, get_or, drop, refl, ap, sym, ◌∙◌, arith}
 use Rattle.regmodel.specs.Reply.{Replies}
+use Rattle.regmodel.specs.declared.statements.Expr.{Expr}
 use Rattle.regmodel.specs.declared.statements.Stmt.{Stmt}
 use Rattle.regmodel.specs.declared.statements.Stmt.TheVariants as stmt
 use Rattle.regmodel.specs.Values.{Env, and_then, below_or_fault, expr_value, operand_value, store, target_place}
@@ -10,24 +11,25 @@ use Rattle.regmodel.specs.Program as program
 use Rattle.regmodel.specs.Program.{Block, Stop}
 use Rattle.regmodel.specs.Blocks.{block_of, row_block, with_stmt}
 use Rattle.regmodel.proofs.Blocks.{block_of-drop}
-use Rattle.machine.specs.Stops.{in_either, in_repeat, in_turns, past, stops_in}
+use Rattle.machine.specs.Stops.{in_either, in_repeat, in_turns, past, stopped_at, stops_in}
+use Rattle.machine.specs.declared.stops.Stopped.{Stopped}
 
 -- ---- flows
 
 -- past one flow and then past another
-past-then : (f : Flow) (at : Option ℕ) (more : Env → Replies → Flow) (stops go : Env → Replies → Option ℕ) → past (then_do f more) (past f at stops) go ≡ past f at (λ env s. past (more env s) (stops env s) go)
+past-then : (f : Flow) (at : Option Stopped) (more : Env → Replies → Flow) (stops go : Env → Replies → Option Stopped) → past (then_do f more) (past f at stops) go ≡ past f at (λ env s. past (more env s) (stops env s) go)
 past-then (GoesOn env s) at more stops go = refl
 past-then (Wants a) at more stops go = refl
 past-then (Ends numbers) at more stops go = refl
 past-then (Faults code) at more stops go = refl
 
-past-again : (f : Flow) (at : Option ℕ) (stops go : Env → Replies → Option ℕ) → past f (past f at stops) go ≡ past f at go
+past-again : (f : Flow) (at : Option Stopped) (stops go : Env → Replies → Option Stopped) → past f (past f at stops) go ≡ past f at go
 past-again (GoesOn env s) at stops go = refl
 past-again (Wants a) at stops go = refl
 past-again (Ends numbers) at stops go = refl
 past-again (Faults code) at stops go = refl
 
-past-same : (f : Flow) (at : Option ℕ) (go other : Env → Replies → Option ℕ) → ((env : Env) (s : Replies) → go env s ≡ other env s) → past f at go ≡ past f at other
+past-same : (f : Flow) (at : Option Stopped) (go other : Env → Replies → Option Stopped) → ((env : Env) (s : Replies) → go env s ≡ other env s) → past f at go ≡ past f at other
 past-same (GoesOn env s) at go other h = h env s
 past-same (Wants a) at go other h = refl
 past-same (Ends numbers) at go other h = refl
@@ -60,33 +62,33 @@ exec-then (stmt.Repeat' count m body) n rest env s = one-then (expr_value env co
 exec-then (stmt.Emit value) n rest env s = one-then (expr_value env value) (λ v. emit env v s) n (exec rest n)
 exec-then stmt.Halt n rest env s = refl
 
-alone : (f : Flow) (at : Option ℕ) (n next behind : ℕ) (rest : Block) → next ≡ behind → past f at (stops_in rest n next) ≡ past f (past f at (stops_in Stop n next)) (stops_in rest n behind)
+alone : (f : Flow) (at : Option Stopped) (n next behind : ℕ) (rest : Block) → next ≡ behind → past f at (stops_in rest n next) ≡ past f (past f at (stops_in Stop n next)) (stops_in rest n behind)
 alone f at n next behind rest h = ap (λ k. past f at (stops_in rest n k)) h ∙ sym (past-again f at (stops_in Stop n next) (stops_in rest n behind))
 
 -- where an `if` or a `repeat` stops
-abbrev either : Result ℕ ℕ → Block → Block → ℕ → ℕ → Env → Replies → Option ℕ
-either v first second n number env s = in_either v number (stops_in first n (number + 1) env s) (stops_in second n (number + 1 + statements first) env s)
+abbrev either : Expr → Block → Block → ℕ → ℕ → Env → Replies → Option Stopped
+either test first second n number env s = in_either (expr_value env test) (Some (stopped_at (program.If test first second Stop) n number env)) (stops_in first n (number + 1) env s) (stops_in second n (number + 1 + statements first) env s)
 
-abbrev a_turn : Result ℕ ℕ → Block → ℕ → ℕ → Env → Replies → Option ℕ
-a_turn v body n number env s = in_repeat v number (λ turns. in_turns turns (exec body n) (stops_in body n (number + 1)) env s)
+abbrev a_turn : Expr → Block → ℕ → ℕ → Env → Replies → Option Stopped
+a_turn count body n number env s = in_repeat (expr_value env count) (Some (stopped_at (program.Repeat count body Stop) n number env)) (λ turns. in_turns turns (exec body n) (stops_in body n (number + 1)) env s)
 
 stops-then : (x : Stmt) (n number : ℕ) (rest : Block) (env : Env) (s : Replies) → stops_in (with_stmt x rest) n number env s ≡ past (exec (with_stmt x Stop) n env s) (stops_in (with_stmt x Stop) n number env s) (stops_in rest n (number + statements (with_stmt x Stop)))
-stops-then (stmt.Assign to value) n number rest env s = alone (exec (program.Assign to value Stop) n env s) (Some number) n (number + 1) (number + 1) rest refl
-stops-then (stmt.Read to from) n number rest env s = alone (exec (program.Read to from Stop) n env s) (Some number) n (number + 1) (number + 1) rest refl
-stops-then (stmt.Write to value) n number rest env s = alone (exec (program.Write to value Stop) n env s) (Some number) n (number + 1) (number + 1) rest refl
-stops-then (stmt.Scan cell first count) n number rest env s = alone (exec (program.Scan cell first count Stop) n env s) (Some number) n (number + 1) (number + 1) rest refl
+stops-then (stmt.Assign to value) n number rest env s = alone (exec (program.Assign to value Stop) n env s) (Some (stopped_at (program.Assign to value Stop) n number env)) n (number + 1) (number + 1) rest refl
+stops-then (stmt.Read to from) n number rest env s = alone (exec (program.Read to from Stop) n env s) (Some (stopped_at (program.Read to from Stop) n number env)) n (number + 1) (number + 1) rest refl
+stops-then (stmt.Write to value) n number rest env s = alone (exec (program.Write to value Stop) n env s) (Some (stopped_at (program.Write to value Stop) n number env)) n (number + 1) (number + 1) rest refl
+stops-then (stmt.Scan cell first count) n number rest env s = alone (exec (program.Scan cell first count Stop) n env s) (Some (stopped_at (program.Scan cell first count Stop) n number env)) n (number + 1) (number + 1) rest refl
 stops-then (stmt.If' test m first k second) n number rest env s =
     let a : Block = row_block first in
     let b : Block = row_block second in
-    alone (exec (program.If test a b Stop) n env s) (either (expr_value env test) a b n number env s) n (number + 1 + statements a + statements b) (number + statements (program.If test a b Stop)) rest (omega arith)
+    alone (exec (program.If test a b Stop) n env s) (either test a b n number env s) n (number + 1 + statements a + statements b) (number + statements (program.If test a b Stop)) rest (omega arith)
 stops-then (stmt.Repeat' count m body) n number rest env s =
     let a : Block = row_block body in
-    alone (exec (program.Repeat count a Stop) n env s) (a_turn (expr_value env count) a n number env s) n (number + 1 + statements a) (number + statements (program.Repeat count a Stop)) rest (omega arith)
-stops-then (stmt.Emit value) n number rest env s = alone (exec (program.Emit value Stop) n env s) (Some number) n (number + 1) (number + 1) rest refl
+    alone (exec (program.Repeat count a Stop) n env s) (a_turn count a n number env s) n (number + 1 + statements a) (number + statements (program.Repeat count a Stop)) rest (omega arith)
+stops-then (stmt.Emit value) n number rest env s = alone (exec (program.Emit value Stop) n env s) (Some (stopped_at (program.Emit value Stop) n number env)) n (number + 1) (number + 1) rest refl
 stops-then stmt.Halt n number rest env s = refl
 
 -- past the first statement, and then past the rest
-past-stmt : (x : Stmt) (n number : ℕ) (rest : Block) (env : Env) (s : Replies) (go : Env → Replies → Option ℕ) → past (exec (with_stmt x rest) n env s) (stops_in (with_stmt x rest) n number env s) go ≡ past (exec (with_stmt x Stop) n env s) (stops_in (with_stmt x Stop) n number env s) (λ env s. past (exec rest n env s) (stops_in rest n (number + statements (with_stmt x Stop)) env s) go)
+past-stmt : (x : Stmt) (n number : ℕ) (rest : Block) (env : Env) (s : Replies) (go : Env → Replies → Option Stopped) → past (exec (with_stmt x rest) n env s) (stops_in (with_stmt x rest) n number env s) go ≡ past (exec (with_stmt x Stop) n env s) (stops_in (with_stmt x Stop) n number env s) (λ env s. past (exec rest n env s) (stops_in rest n (number + statements (with_stmt x Stop)) env s) go)
 past-stmt x n number rest env s go =
     let f = exec (with_stmt x Stop) n env s in
     let next = number + statements (with_stmt x Stop) in
@@ -95,7 +97,7 @@ past-stmt x n number rest env s go =
     ∙ past-then f (stops_in (with_stmt x Stop) n number env s) (exec rest n) (stops_in rest n next) go
 
 -- the same at a place of a list of statements
-pub past-next : (xs : List Stmt) (i : ℕ) (x : Stmt) (n number : ℕ) (env : Env) (s : Replies) (go : Env → Replies → Option ℕ) → i < length xs → x ≡ get_or xs i x → past (exec (block_of (drop i xs)) n env s) (stops_in (block_of (drop i xs)) n number env s) go ≡ past (exec (with_stmt x Stop) n env s) (stops_in (with_stmt x Stop) n number env s) (λ env s. past (exec (block_of (drop (i + 1) xs)) n env s) (stops_in (block_of (drop (i + 1) xs)) n (number + statements (with_stmt x Stop)) env s) go)
+pub past-next : (xs : List Stmt) (i : ℕ) (x : Stmt) (n number : ℕ) (env : Env) (s : Replies) (go : Env → Replies → Option Stopped) → i < length xs → x ≡ get_or xs i x → past (exec (block_of (drop i xs)) n env s) (stops_in (block_of (drop i xs)) n number env s) go ≡ past (exec (with_stmt x Stop) n env s) (stops_in (with_stmt x Stop) n number env s) (λ env s. past (exec (block_of (drop (i + 1) xs)) n env s) (stops_in (block_of (drop (i + 1) xs)) n (number + statements (with_stmt x Stop)) env s) go)
 past-next xs i x n number env s go h e =
     ap (λ b. past (exec b n env s) (stops_in b n number env s) go) (block_of-drop xs i x h e)
     ∙ past-stmt x n number (block_of (drop (i + 1) xs)) env s go
@@ -112,14 +114,15 @@ stops_nowhere_else (x ∷ xs) n number env s =
 -- ---- parts of a block
 
 -- a statement with no blocks, which can stop at itself only
-pub past-plain : (b : Block) (n number : ℕ) (env : Env) (s : Replies) (stops : Env → Replies → Option ℕ) (f : Flow) (go : Env → Replies → Option ℕ) → stops_in b n number env s ≡ past (exec b n env s) (Some number) stops → exec b n env s ≡ f → past (exec b n env s) (stops_in b n number env s) go ≡ past f (Some number) go
-past-plain b n number env s stops f go h k =
+pub past-plain : (b : Block) (n number : ℕ) (env : Env) (s : Replies) (stops : Env → Replies → Option Stopped) (f : Flow) (so : Stopped) (go : Env → Replies → Option Stopped) → stops_in b n number env s ≡ past (exec b n env s) (Some (stopped_at b n number env)) stops → exec b n env s ≡ f → so ≡ stopped_at b n number env → past (exec b n env s) (stops_in b n number env s) go ≡ past f (Some so) go
+past-plain b n number env s stops f so go h k e =
     ap (λ at. past (exec b n env s) at go) h
-    ∙ past-again (exec b n env s) (Some number) stops go
-    ∙ ap (λ f. past f (Some number) go) k
+    ∙ past-again (exec b n env s) (Some (stopped_at b n number env)) stops go
+    ∙ ap (λ f. past f (Some (stopped_at b n number env)) go) k
+    ∙ ap (λ so. past f (Some so) go) (sym e)
 
 -- one of the turns that are left
-pub past-turn : (left : ℕ) (turn : Env → Replies → Flow) (stops : Env → Replies → Option ℕ) (env : Env) (s : Replies) (go : Env → Replies → Option ℕ) → 0 < left → past (times left turn env s) (in_turns left turn stops env s) go ≡ past (turn env s) (stops env s) (λ env s. past (times (left - 1) turn env s) (in_turns (left - 1) turn stops env s) go)
+pub past-turn : (left : ℕ) (turn : Env → Replies → Flow) (stops : Env → Replies → Option Stopped) (env : Env) (s : Replies) (go : Env → Replies → Option Stopped) → 0 < left → past (times left turn env s) (in_turns left turn stops env s) go ≡ past (turn env s) (stops env s) (λ env s. past (times (left - 1) turn env s) (in_turns (left - 1) turn stops env s) go)
 past-turn zero turn stops env s go h = absurd (omega arith)
 past-turn (suc left) turn stops env s go h =
     let e : left ≡ suc left - 1 = omega arith in

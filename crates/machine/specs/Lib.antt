@@ -1,4 +1,5 @@
 pub mod Bits
+mod Culprits
 pub mod Examples
 pub mod Exits
 pub mod Following

@@ -15,6 +15,7 @@ ghost use Rattle.machine.specs.Following.{Follows};
 ghost use Rattle.machine.specs.Same.{IsSameMachine};
 ghost use Rattle.machine.specs.Telling.{Tells};
 
+mod culprits;
 mod emitted;
 mod interp;
 mod numbering;
@@ -27,10 +28,11 @@ mod states;
 mod stops;
 mod values;
 
+pub use culprits::Culprit;
 pub use interp::Interp;
 use regmodel::{Pending, Reply};
 pub use sparse::put_sparse;
-pub use stops::stops_at;
+pub use stops::{Stopped, stops_at};
 pub use told::Told;
 
 /// A program in progress, known by its program and by its rest: what is pending after each list of

@@ -6,9 +6,11 @@ ghost use Rattle.regmodel.specs.OfProg.{program_of};
 ghost use Rattle.regmodel.specs.Kept.{values_in};
 ghost use Rattle.regmodel.specs.Program.{Stop, If, Repeat};
 ghost use Rattle.regmodel.specs.Blocks.{block_of, with_stmt};
-ghost use Rattle.machine.specs.Stops.{stops_at};
-ghost use Rattle.machine.specs.Walks.{CanWalk, AccessWalks, BlockWalks, ExitWalks};
+ghost use Rattle.machine.specs.Stops.{stopped_at, stops_at};
+ghost use Rattle.machine.specs.Stores.{env_of};
+ghost use Rattle.machine.specs.Walks.{CanWalk, AccessWalks, BlockWalks, ExitWalks, StopsSo};
 
+use crate::culprits::{Culprit, culprit_of};
 use crate::numbering::{behind, behind_stmt};
 use crate::run::{Part, StmtExit, assign, emit, read, scan, write};
 use crate::states::empty_store;
@@ -17,6 +19,15 @@ use crate::values::Store;
 use regmodel::limits::MOST_TURNS;
 use regmodel::{Expr, Prog, Reply, Stmt};
 
+/// Where a program stops.
+#[derive(Clone, Copy, PartialEq, Eq, Debug)]
+pub struct Stopped {
+    /// The number of the statement, counted from 0.
+    pub at: usize,
+    /// What is out of range there, where it is at fault for that.
+    pub culprit: Option<Culprit>,
+}
+
 /// A program on its way through its statements: its values, and the replies that are left.
 #[derive(Drop)]
 struct Walk<'a> {
@@ -24,14 +35,13 @@ struct Walk<'a> {
     replies: &'a [Reply],
 }
 
-/// The number of the statement at which a program stops on these replies: the one that wants an
-/// access and finds no reply left, halts or is at fault. None where the program goes on past its
-/// last statement.
+/// Where a program stops on these replies: at the statement that wants an access and finds no reply
+/// left, halts or is at fault. None where the program goes on past its last statement.
 ///
 /// Statements are numbered from 0 as the lines of a text stand: an `if` or a `repeat`, then its
 /// blocks, then what follows. Any replies may come: one of no number counts as 0 where it is read,
 /// and those that are left where the program stops tell nothing.
-pub fn stops_at(prog: &Prog, replies: &[Reply]) -> Option<usize>
+pub fn stops_at(prog: &Prog, replies: &[Reply]) -> Option<Stopped>
     ensures { result ≡ stops_at (program_of prog.now) (map values_in replies.now) }
 {
     let mut walk = Walk {
@@ -41,10 +51,20 @@ pub fn stops_at(prog: &Prog, replies: &[Reply]) -> Option<usize>
     past_block(prog.body(), 0, prog.registers(), &mut walk).err()
 }
 
-/// Goes on past a block whose first statement has this number; an error is the number of the
-/// statement at which it stops.
+/// So a program stops at a statement with this number that is about to run, if it does.
+fn stopped_at(stmt: &Stmt, number: usize, registers: u32, store: &Store) -> Stopped
+    ensures { result
+        ≡ stopped_at (with_stmt stmt.now Stop) registers number (env_of store.now) }
+{
+    Stopped {
+        at: number,
+        culprit: culprit_of(stmt, registers, store),
+    }
+}
+
+/// Goes on past a block whose first statement has this number; an error is where it stops.
 #[cycle(walk)]
-fn past_block(block: &[Stmt], number: usize, registers: u32, walk: &mut Walk) -> Result<(), usize>
+fn past_block(block: &[Stmt], number: usize, registers: u32, walk: &mut Walk) -> Result<(), Stopped>
     requires { CanWalk registers number (block_of block.now) }
     ensures { BlockWalks result registers number (block_of block.now) walk.old walk.new }
 {
@@ -58,122 +78,120 @@ fn past_block(block: &[Stmt], number: usize, registers: u32, walk: &mut Walk) ->
 
 /// Goes on past a statement with this number.
 #[cycle(walk)]
-fn past_stmt(stmt: &Stmt, number: usize, registers: u32, walk: &mut Walk) -> Result<(), usize>
+fn past_stmt(stmt: &Stmt, number: usize, registers: u32, walk: &mut Walk) -> Result<(), Stopped>
     requires { CanWalk registers number (with_stmt stmt.now Stop) }
     ensures { BlockWalks result registers number (with_stmt stmt.now Stop) walk.old walk.new }
 {
+    let stopped = stopped_at(stmt, number, registers, &walk.store);
     match stmt {
         Stmt::Assign(target, value) => {
             let exit = assign(*target, value, &mut walk.store);
-            past_exit(exit, number, walk)
+            past_exit(exit, stopped, walk)
         }
         Stmt::Read(to, from) => {
             let exit = read(*to, *from, registers, &walk.store);
-            past_exit(exit, number, walk)
+            past_exit(exit, stopped, walk)
         }
         Stmt::Write(to, value) => {
             let exit = write(*to, value, registers, &walk.store);
-            past_exit(exit, number, walk)
+            past_exit(exit, stopped, walk)
         }
         Stmt::Scan(cell, first, count) => {
             let exit = scan(*cell, *first, *count, registers);
-            past_exit(Ok(exit), number, walk)
+            past_exit(Ok(exit), stopped, walk)
         }
         Stmt::If(test, first, second) => {
-            past_if(
-                test,
-                first.as_slice(),
-                second.as_slice(),
-                number,
-                registers,
-                walk,
-            )
+            let (first, second) = (first.as_slice(), second.as_slice());
+            past_if(test, first, second, stopped, registers, walk)
         }
-        Stmt::Repeat(count, body) => past_repeat(count, body.as_slice(), number, registers, walk),
+        Stmt::Repeat(count, body) => past_repeat(count, body.as_slice(), stopped, registers, walk),
         Stmt::Emit(value) => {
             let exit = emit(value, &mut walk.store);
-            past_exit(exit, number, walk)
+            past_exit(exit, stopped, walk)
         }
-        Stmt::Halt => Err(number),
+        Stmt::Halt => Err(stopped),
     }
 }
 
-/// Goes on past an `if` with this number.
+/// Goes on past an `if`, or stops there so.
 #[cycle(walk)]
 fn past_if(
     test: &Expr,
     first: &[Stmt],
     second: &[Stmt],
-    number: usize,
+    stopped: Stopped,
     registers: u32,
     walk: &mut Walk,
-) -> Result<(), usize>
-    requires { CanWalk registers number
+) -> Result<(), Stopped>
+    requires few { CanWalk registers stopped.at
         (If test.now (block_of first.now) (block_of second.now) Stop) }
-    ensures { BlockWalks result registers number
+    requires at { StopsSo stopped registers
+        (If test.now (block_of first.now) (block_of second.now) Stop) walk.old }
+    ensures { BlockWalks result registers stopped.at
         (If test.now (block_of first.now) (block_of second.now) Stop) walk.old walk.new }
 {
     let Ok(value) = walk.store.expr(test) else {
-        return Err(number);
+        return Err(stopped);
     };
+    let number = stopped.at + 1;
     if value == 0 {
-        past_block(second, behind(first, number + 1), registers, walk)
+        past_block(second, behind(first, number), registers, walk)
     } else {
-        past_block(first, number + 1, registers, walk)
+        past_block(first, number, registers, walk)
     }
 }
 
-/// Goes on past a `repeat` with this number.
+/// Goes on past a `repeat`, or stops there so.
 #[cycle(walk)]
 fn past_repeat(
     count: &Expr,
     body: &[Stmt],
-    number: usize,
+    stopped: Stopped,
     registers: u32,
     walk: &mut Walk,
-) -> Result<(), usize>
-    requires { CanWalk registers number (Repeat count.now (block_of body.now) Stop) }
-    ensures { BlockWalks result registers number (Repeat count.now (block_of body.now) Stop)
+) -> Result<(), Stopped>
+    requires few { CanWalk registers stopped.at (Repeat count.now (block_of body.now) Stop) }
+    requires at { StopsSo stopped registers (Repeat count.now (block_of body.now) Stop) walk.old }
+    ensures { BlockWalks result registers stopped.at (Repeat count.now (block_of body.now) Stop)
         walk.old walk.new }
 {
     let Ok(turns) = walk.store.expr(count) else {
-        return Err(number);
+        return Err(stopped);
     };
     if turns > MOST_TURNS {
-        return Err(number);
+        return Err(stopped);
     }
     for _ in 0..turns {
-        past_block(body, number + 1, registers, walk)?;
+        past_block(body, stopped.at + 1, registers, walk)?;
     }
     Ok(())
 }
 
-/// Goes on past a statement with this number, which was left so.
-fn past_exit(exit: Result<StmtExit, u8>, number: usize, walk: &mut Walk) -> Result<(), usize>
+/// Goes on past a statement that was left so, or stops there so.
+fn past_exit(exit: Result<StmtExit, u8>, stopped: Stopped, walk: &mut Walk) -> Result<(), Stopped>
     ensures { (x : Stmt) (n : ℕ)
-        → ExitWalks result exit n number (with_stmt x Stop) walk.old walk.new }
+        → ExitWalks result exit n stopped (with_stmt x Stop) walk.old walk.new }
 {
     match exit {
         Ok(StmtExit::GoesOn) => Ok(()),
-        Ok(StmtExit::Wants(_, part)) => past_access(part, number, walk),
-        Ok(StmtExit::Halts) | Err(_) => Err(number),
+        Ok(StmtExit::Wants(_, part)) => past_access(part, stopped, walk),
+        Ok(StmtExit::Halts) | Err(_) => Err(stopped),
     }
 }
 
-/// Goes on past the access of a statement with this number, where a reply is left for it. To a
-/// block comes none.
-fn past_access(part: Part, number: usize, walk: &mut Walk) -> Result<(), usize>
+/// Goes on past an access, where a reply is left for it, or stops there so. To a block comes none.
+fn past_access(part: Part, stopped: Stopped, walk: &mut Walk) -> Result<(), Stopped>
     ensures { (x : Stmt) (n : ℕ)
-        → AccessWalks result part n number (with_stmt x Stop) walk.old walk.new }
+        → AccessWalks result part n stopped (with_stmt x Stop) walk.old walk.new }
 {
     let Some((reply, others)) = walk.replies.split_first() else {
-        return Err(number);
+        return Err(stopped);
     };
     match part {
         Part::Reading(_, place) => walk.store.put(place, value_of(reply.values())),
         Part::Writing(_, _) => {}
         Part::Scanning(cell, _, _) => walk.store.put_from(cell, reply.values()),
-        Part::Within(_) | Part::Turn(_) => return Err(number),
+        Part::Within(_) | Part::Turn(_) => return Err(stopped),
     }
     walk.replies = others;
     Ok(())

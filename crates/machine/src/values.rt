@@ -27,7 +27,7 @@ pub enum Place {
 }
 
 /// The value of an operator; a fault above the greatest value or below 0.
-fn apply(op: Op, a: u32, b: u32) -> Result<u32, u8>
+pub fn apply(op: Op, a: u32, b: u32) -> Result<u32, u8>
     ensures { result ≡ apply_op op a b }
 {
     match op {
@@ -52,7 +52,7 @@ fn bounded(n: u64) -> Result<u32, u8>
 
 impl Store {
     /// The value of a variable; 0 where there is none with this number.
-    fn var(&self, i: u8) -> u32
+    pub fn var(&self, i: u8) -> u32
         ensures { result ≡ slice_index (values_of self.now.vars) i }
     {
         self.vars.get(usize::from(i))

@@ -6,17 +6,17 @@ use Rattle.world.proofs.SameWorlds.{same_since}
 use Rattle.world.specs.Sound.{budget_of, letters_of, world_programs}
 use Rattle.reglang.specs.Contents.{programs_in}
 use Rattle.reglang.specs.Sources.{contents_of}
-use Rattle.drawing.specs.Stops.{stop_after}
+use Rattle.drawing.specs.Stops.{statement_after}
 use Rattle.drawing.proofs.RowFacts.{deed-same, held-past, letters-more, number-told, picture-whole, rows-past, values-same}
 use Rattle.drawing.proofs.deeds.draw.Goals as goal
 
-pub stop_of-statement-requires-clause-of : goal.stop_of-statement-requires-clause-of
-stop_of-statement-requires-clause-of g c =
+pub statement_of-statement-requires-clause-of : goal.statement_of-statement-requires-clause-of
+statement_of-statement-requires-clause-of g c =
     let kept = c.loop-place.invariant in
     record { programs = kept.same.programs ∙ c.requires.of.programs; registers = kept.same.registers ∙ c.requires.of.registers }
 
-pub stop_of-statement-requires-clause-there : goal.stop_of-statement-requires-clause-there
-stop_of-statement-requires-clause-there g c =
+pub statement_of-statement-requires-clause-there : goal.statement_of-statement-requires-clause-there
+statement_of-statement-requires-clause-there g c =
     let programs = world_programs (λ b. (goal.Machine-dyn g b).program b.1) c.loop-place.world in
     let letter = get_or c.letters-letter-items.result.now c.loop-place.place (Run 0) in
     let there = is_possible-there programs (budget_of c.loop-place.world) (letters_of c.loop-place.world) letter (sym c.possible.ensures ∙ c.if-not-possible.false) in
@@ -44,7 +44,7 @@ loop-place-preserved g c =
         process = c.process-process.ensures;
         deed = deed-same _ _ before _ _ programs c.deed_of-deed.ensures;
         registers = held-past _ _ _ _ before _ _ _ _ _ c.held_since.ensures (values-same _ _ _ _ before before _ programs registers refl (c.as_slice.ensures.value ∙ (copied ∙ c.registers.ensures.value))) (went.programs ∙ programs) (went.registers ∙ registers) c.step.ensures.stepped c.registers-in-loop-place.ensures.value;
-        statement = c.stop_of-statement.ensures ∙ ap (stop_after (contents_of c.args.source.now) before) c.process-process.ensures;
+        statement = c.statement_of-statement.ensures ∙ ap (statement_after (contents_of c.args.source.now) before) c.process-process.ensures;
       });
       count = omega (arith, kept.count);
     }

@@ -7,13 +7,18 @@ use Rattle.regmodel.specs.Limits.{statements}
 use Rattle.regmodel.specs.Program as program
 use Rattle.regmodel.specs.Program.{Stop}
 use Rattle.regmodel.proofs.Blocks.{statements-step}
-use Rattle.machine.specs.Stops.{in_turns, past, stops_in}
+use Rattle.machine.specs.Stops.{in_turns, past, stopped_at, stops_in}
+use Rattle.machine.specs.declared.stops.Stopped.{Stopped}
 use Rattle.machine.specs.Stores.{env_of}
-use Rattle.machine.specs.Walks.{CanWalk, replies_of}
+use Rattle.machine.specs.Walks.{BlockWalks, CanWalk, replies_of}
 use Rattle.machine.proofs.Blocks.{if_rows, repeat_block}
 use Rattle.machine.proofs.NumberedBlocks.{can_walk_next, statements_left}
 use Rattle.machine.proofs.WalkedBlocks.{past-next, past-plain, past-turn}
 use Rattle.machine.proofs.stops.+walk.Goals as goal
+
+-- the number of a place is the one that it was made of
+number-of_stopped : {s t : Stopped} → s ≡ t → s.at ≡ t.at
+number-of_stopped e = ap (λ (s : Stopped). s.at) e
 
 pub past_block-past_stmt-requires : goal.past_block-past_stmt-requires
 past_block-past_stmt-requires t c =
@@ -72,7 +77,7 @@ pub past_repeat-returns-in_err-past_block : goal.past_repeat-returns-in_err-past
 past_repeat-returns-in_err-past_block t c =
     let n = c.args.registers in
     let turn = exec (block_of c.args.body.now) n in
-    let stops = stops_in (block_of c.args.body.now) n (c.args.number + 1) in
+    let stops = stops_in (block_of c.args.body.now) n (c.args.stopped.at + 1) in
     let left = c.in-Ok.turns - c.loop.counter in
     let p = err_from_is_err_and c.from_residual.result c.from_residual.ensures.1 in
     rw (p.1, p.2) (record {
@@ -86,7 +91,7 @@ pub past_repeat-loop-preserved : goal.past_repeat-loop-preserved
 past_repeat-loop-preserved t c = λ go.
     let n = c.args.registers in
     let turn = exec (block_of c.args.body.now) n in
-    let stops = stops_in (block_of c.args.body.now) n (c.args.number + 1) in
+    let stops = stops_in (block_of c.args.body.now) n (c.args.stopped.at + 1) in
     let left = c.in-Ok.turns - c.loop.counter in
     let new = env_of c.past_block.new.walk.store in
     let others = replies_of c.past_block.new.walk in
@@ -99,26 +104,48 @@ past_repeat-loop-preserved t c = λ go.
 pub past_stmt-past_if-requires : goal.past_stmt-past_if-requires
 past_stmt-past_if-requires t c =
     let w = c.in-If in
-    let told = if_rows c.args.stmt.now w.test w.first w.second c.as_slice.result.now c.as_slice-in-If.result.now Stop w.is c.as_slice.ensures.value c.as_slice-in-If.ensures.value in
+    let n = c.args.registers in
+    let env = env_of c.args.walk.now.store in
+    let b = program.If w.test (block_of c.as_slice-first.result.now) (block_of c.as_slice-second.result.now) Stop in
+    let told = if_rows c.args.stmt.now w.test w.first w.second c.as_slice-first.result.now c.as_slice-second.result.now Stop w.is c.as_slice-first.ensures.value c.as_slice-second.ensures.value in
     let count = ap statements told in
-    (omega (arith, count), subst (CanWalk c.args.registers c.args.number) told c.requires)
+    let at = number-of_stopped c.stopped_at-stopped.ensures in (
+      omega (arith, count),
+      (
+        subst (λ k. CanWalk n k b) (sym at) (subst (CanWalk n c.args.number) told c.requires),
+        c.stopped_at-stopped.ensures ∙ ap (λ b. stopped_at b n c.args.number env) told ∙ ap (λ k. stopped_at b n k env) (sym at),
+      ),
+    )
 
 pub past_stmt-past_repeat-requires : goal.past_stmt-past_repeat-requires
 past_stmt-past_repeat-requires t c =
     let w = c.in-Repeat in
-    let told = repeat_block c.args.stmt.now w.count w.body c.as_slice-in-Repeat.result.now Stop w.is c.as_slice-in-Repeat.ensures.value in
+    let n = c.args.registers in
+    let env = env_of c.args.walk.now.store in
+    let b = program.Repeat w.count (block_of c.as_slice.result.now) Stop in
+    let told = repeat_block c.args.stmt.now w.count w.body c.as_slice.result.now Stop w.is c.as_slice.ensures.value in
     let count = ap statements told in
-    (omega (arith, count), subst (CanWalk c.args.registers c.args.number) told c.requires)
+    let at = number-of_stopped c.stopped_at-stopped.ensures in (
+      omega (arith, count),
+      (
+        subst (λ k. CanWalk n k b) (sym at) (subst (CanWalk n c.args.number) told c.requires),
+        c.stopped_at-stopped.ensures ∙ ap (λ b. stopped_at b n c.args.number env) told ∙ ap (λ k. stopped_at b n k env) (sym at),
+      ),
+    )
 
 pub past_stmt-returns-in-If : goal.past_stmt-returns-in-If
 past_stmt-returns-in-If t c =
     let w = c.in-If in
-    rw (if_rows c.args.stmt.now w.test w.first w.second c.as_slice.result.now c.as_slice-in-If.result.now Stop w.is c.as_slice.ensures.value c.as_slice-in-If.ensures.value) c.past_if.ensures
+    let b = program.If w.test (block_of c.as_slice-first.result.now) (block_of c.as_slice-second.result.now) Stop in
+    rw (if_rows c.args.stmt.now w.test w.first w.second c.as_slice-first.result.now c.as_slice-second.result.now Stop w.is c.as_slice-first.ensures.value c.as_slice-second.ensures.value)
+    (subst (λ k. BlockWalks c.past_if.result c.args.registers k b c.args.walk.now c.past_if.new.walk) (number-of_stopped c.stopped_at-stopped.ensures) c.past_if.ensures)
 
 pub past_stmt-returns-in-Repeat : goal.past_stmt-returns-in-Repeat
 past_stmt-returns-in-Repeat t c =
     let w = c.in-Repeat in
-    rw (repeat_block c.args.stmt.now w.count w.body c.as_slice-in-Repeat.result.now Stop w.is c.as_slice-in-Repeat.ensures.value) c.past_repeat.ensures
+    let b = program.Repeat w.count (block_of c.as_slice.result.now) Stop in
+    rw (repeat_block c.args.stmt.now w.count w.body c.as_slice.result.now Stop w.is c.as_slice.ensures.value)
+    (subst (λ k. BlockWalks c.past_repeat.result c.args.registers k b c.args.walk.now c.past_repeat.new.walk) (number-of_stopped c.stopped_at-stopped.ensures) c.past_repeat.ensures)
 
 pub past_stmt-returns-in-Assign : goal.past_stmt-returns-in-Assign
 past_stmt-returns-in-Assign t c =
@@ -129,7 +156,7 @@ past_stmt-returns-in-Assign t c =
     let s = replies_of c.args.walk.now in
     rw w.is (record {
       same = λ go.
-          past-plain (program.Assign w.target w.value Stop) n number env s (stops_in Stop n (number + 1)) _ go refl ((c.assign-exit.ensures n [] Stop).flow s)
+          past-plain (program.Assign w.target w.value Stop) n number env s (stops_in Stop n (number + 1)) _ _ go refl ((c.assign-exit.ensures n [] Stop).flow s) (c.stopped_at-stopped.ensures ∙ ap (λ x. stopped_at (with_stmt x Stop) n number env) w.is)
           ∙ (c.past_exit.ensures (stmt.Assign w.target w.value) n).same go;
     })
 
@@ -142,7 +169,7 @@ past_stmt-returns-in-Read t c =
     let s = replies_of c.args.walk.now in
     rw w.is (record {
       same = λ go.
-          past-plain (program.Read w.to w.from Stop) n number env s (stops_in Stop n (number + 1)) _ go refl ((c.read-exit.ensures [] Stop).flow s)
+          past-plain (program.Read w.to w.from Stop) n number env s (stops_in Stop n (number + 1)) _ _ go refl ((c.read-exit.ensures [] Stop).flow s) (c.stopped_at-stopped.ensures ∙ ap (λ x. stopped_at (with_stmt x Stop) n number env) w.is)
           ∙ (c.past_exit-in-Read.ensures (stmt.Read w.to w.from) n).same go;
     })
 
@@ -155,7 +182,7 @@ past_stmt-returns-in-Write t c =
     let s = replies_of c.args.walk.now in
     rw w.is (record {
       same = λ go.
-          past-plain (program.Write w.to w.value Stop) n number env s (stops_in Stop n (number + 1)) _ go refl ((c.write-exit.ensures [] Stop).flow s)
+          past-plain (program.Write w.to w.value Stop) n number env s (stops_in Stop n (number + 1)) _ _ go refl ((c.write-exit.ensures [] Stop).flow s) (c.stopped_at-stopped.ensures ∙ ap (λ x. stopped_at (with_stmt x Stop) n number env) w.is)
           ∙ (c.past_exit-in-Write.ensures (stmt.Write w.to w.value) n).same go;
     })
 
@@ -168,7 +195,7 @@ past_stmt-returns-in-Scan t c =
     let s = replies_of c.args.walk.now in
     rw w.is (record {
       same = λ go.
-          past-plain (program.Scan w.cell w.first w.count Stop) n number env s (stops_in Stop n (number + 1)) _ go refl ((c.scan-exit.ensures env [] Stop).flow s)
+          past-plain (program.Scan w.cell w.first w.count Stop) n number env s (stops_in Stop n (number + 1)) _ _ go refl ((c.scan-exit.ensures env [] Stop).flow s) (c.stopped_at-stopped.ensures ∙ ap (λ x. stopped_at (with_stmt x Stop) n number env) w.is)
           ∙ (c.past_exit-in-Scan.ensures (stmt.Scan w.cell w.first w.count) n).same go;
     })
 
@@ -181,6 +208,6 @@ past_stmt-returns-in-Emit t c =
     let s = replies_of c.args.walk.now in
     rw w.is (record {
       same = λ go.
-          past-plain (program.Emit w.value Stop) n number env s (stops_in Stop n (number + 1)) _ go refl ((c.emit-exit.ensures n [] Stop).flow s)
+          past-plain (program.Emit w.value Stop) n number env s (stops_in Stop n (number + 1)) _ _ go refl ((c.emit-exit.ensures n [] Stop).flow s) (c.stopped_at-stopped.ensures ∙ ap (λ x. stopped_at (with_stmt x Stop) n number env) w.is)
           ∙ (c.past_exit-in-Emit.ensures (stmt.Emit w.value) n).same go;
     })

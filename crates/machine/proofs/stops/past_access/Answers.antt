@@ -20,7 +20,7 @@ returns c = λ x n.
     let s = replies_of c.args.walk.now in
     let reply = values_in c.in-Some.reply.now in
     let others = map values_in c.in-Some.others.now in
-    let at = Some c.args.number in
+    let at = Some c.args.stopped in
     let used = ap (map values_in) c.in-Some.ensures.cases.0 in
     elim c.match-part.branch [
       | in-Reading w ↦ record {

@@ -1,6 +1,7 @@
-use Rattle.std.proofs.Common.{◌≡◌, ℕ, None, Ok, Err, Result, refl, ap, sym, ◌∙◌}
+use Rattle.std.proofs.Common.{◌≡◌, None, Ok, Err, Result, refl, ap, sym, ◌∙◌}
 use Rattle.std.specs.Result.{result_err}
 use Rattle.regmodel.specs.Blocks.{block_of}
+use Rattle.machine.specs.declared.stops.Stopped.{Stopped}
 use Rattle.machine.specs.declared.stops.Walk.{Walk}
 use Rattle.machine.specs.Stops.{stops_in}
 use Rattle.machine.specs.Stores.{env_of}
@@ -10,7 +11,7 @@ use Rattle.std.specs.Prelude.{map}
 use Rattle.machine.proofs.WalkedBlocks.{stops_nowhere_else}
 use Rattle.machine.proofs.stops.stops_at.Goals as goal
 
-stopped : (r : Result (Unit {0}) ℕ) (walk : Walk) → result_err r ≡ past_walk r walk (λ env s. None)
+stopped : (r : Result (Unit {0}) Stopped) (walk : Walk) → result_err r ≡ past_walk r walk (λ env s. None)
 stopped (Ok done) walk = refl
 stopped (Err at) walk = refl
 
