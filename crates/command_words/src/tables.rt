@@ -100,6 +100,8 @@ const CHECK: &[Word] = &[
         kind: Kind::Flag,
         help: "Print all outcomes as well, as explore does",
     },
+    ALL,
+    REGISTERS,
     WIDTH,
     LINES,
     TEXT,
@@ -170,6 +172,8 @@ const FIND: &[Word] = &[
         kind: Kind::Flag,
         help: "Tell the least of the shortest schedules that lead there, in place of the least of all: lengths are tried from 0 on, up to --length",
     },
+    ALL,
+    REGISTERS,
     WIDTH,
     LINES,
     TEXT,
@@ -187,22 +191,7 @@ const MERGE: &[Word] = &[Word {
 const REPLAY: &[Word] = &[SOURCE, SCHEDULE];
 
 /// The words of `show`.
-const SHOW: &[Word] = &[
-    SOURCE,
-    SCHEDULE,
-    Word {
-        name: "all",
-        kind: Kind::Flag,
-        help: "Draw all registers, however long the lines become",
-    },
-    Word {
-        name: "registers",
-        kind: Kind::Text("LIST"),
-        help: "Draw these registers alone, however long the lines become: numbers from 0 to 63 and ranges of them, as 0,3-5",
-    },
-    WIDTH,
-    LINES,
-];
+const SHOW: &[Word] = &[SOURCE, SCHEDULE, ALL, REGISTERS, WIDTH, LINES];
 
 /// What the help says of a source.
 const FILE: &str =
@@ -248,6 +237,20 @@ const CACHE: Word = Word {
     name: "cache",
     kind: Kind::Text("MB"),
     help: "In how many megabytes states are remembered, as by explore: 0 to 65536 [default: 256]",
+};
+
+/// The flag that asks for all registers, for a check, a search and a drawing.
+const ALL: Word = Word {
+    name: "all",
+    kind: Kind::Flag,
+    help: "Draw all registers, however long the lines become",
+};
+
+/// The registers to draw, for a check, a search and a drawing.
+const REGISTERS: Word = Word {
+    name: "registers",
+    kind: Kind::Text("LIST"),
+    help: "Draw these registers alone: numbers from 0 to 63 and ranges of them, as 0,3-5",
 };
 
 /// How broad a drawing may be, for a check, a search and a drawing.

@@ -7,10 +7,10 @@ ghost use Rattle.orders.specs.Inputs.{is_standard};
 ghost use Rattle.orders.specs.declared.inputs.Input.TheVariants as input;
 
 use cli::{FileFault, Input, Opener, Watched, command, input_of, perform, words_of};
-use std::fs;
 use std::fs::File;
-use std::io::Stdin;
+use std::io::{ErrorKind, Stdin};
 use std::process::ExitCode;
+use std::{fs, io};
 
 /// The files of the system, and its standard input.
 #[derive(Drop)]
@@ -26,11 +26,19 @@ impl Opener for System<'_> {
 
     fn open(&self, path: &str) -> Result<Input<Stdin, File>, FileFault> {
         let rt = self.rt;
-        input_of(path, self.standard, |path: &str| match fs::open(rt, path) {
+        input_of(path, self.standard, |path: &str| match file_at(rt, path) {
             Ok(file) => Ok(file),
             Err(error) => Err(FileFault::of(error.kind())),
         })
     }
+}
+
+/// The file of a path. A folder, which the system opens as well, is none.
+fn file_at(rt: &HostRuntime, path: &str) -> io::Result<File> {
+    if fs::metadata(rt, path)?.is_dir() {
+        return Err(io::Error::from(ErrorKind::IsADirectory));
+    }
+    fs::open(rt, path)
 }
 
 fn main(rt: HostRuntime) -> ExitCode {
