@@ -2,6 +2,7 @@
 use Rattle.std.proofs.Common.{◌≡◌, ℕ, ◌+◌, ◌&&◌, ◌||◌, Bool, true, false, cond, not, List, [], ◌∷◌, Option, None, Some, refl, sym, ◌∙◌}
 use Rattle.std.proofs.lemmas.Iterator.Adapters.{position_from-zero}
 use Rattle.std.specs.List.{list_any, position, position_from}
+use Rattle.machine.specs.declared.stops.Stopped.{Stopped}
 use Rattle.regmodel.specs.declared.clauses.Clause.{Clause}
 use Rattle.regmodel.specs.declared.outcomes.End.{End}
 use Rattle.regmodel.specs.declared.outcomes.End.TheVariants.{Done, Fault, Crashed, Running}
@@ -10,14 +11,14 @@ use Rattle.regmodel.specs.Judging.{is_faulty, meets, meets_all}
 use Rattle.verdict.specs.Demands.{breaks, clauses_asked, is_ended, meets_demands}
 use Rattle.verdict.specs.Faults.{first_fault, first_fault_from}
 
-faultless_from : (text : List ℕ) (stops : List (Option ℕ)) (p : ℕ) (started : Bool) (fate : End) (ends : List ProcEnd) → (first_fault_from text stops (p + 1) ends ≡ None → list_any is_faulty ends ≡ false) → first_fault_from text stops p (record { started = started; fate = fate } ∷ ends) ≡ None → list_any is_faulty (record { started = started; fate = fate } ∷ ends) ≡ false
+faultless_from : (text : List ℕ) (stops : List (Option Stopped)) (p : ℕ) (started : Bool) (fate : End) (ends : List ProcEnd) → (first_fault_from text stops (p + 1) ends ≡ None → list_any is_faulty ends ≡ false) → first_fault_from text stops p (record { started = started; fate = fate } ∷ ends) ≡ None → list_any is_faulty (record { started = started; fate = fate } ∷ ends) ≡ false
 faultless_from text stops p started (Done numbers) ends later e = later e
 faultless_from text stops p started (Fault code) ends later e = absurd cc
 faultless_from text stops p started Crashed ends later e = later e
 faultless_from text stops p started Running ends later e = later e
 
 -- no process is at fault where none is the lowest one
-faultless : (text : List ℕ) (stops : List (Option ℕ)) (p : ℕ) (ends : List ProcEnd) → first_fault_from text stops p ends ≡ None → list_any is_faulty ends ≡ false
+faultless : (text : List ℕ) (stops : List (Option Stopped)) (p : ℕ) (ends : List ProcEnd) → first_fault_from text stops p ends ≡ None → list_any is_faulty ends ≡ false
 faultless text stops p [] e = refl
 faultless text stops p (end ∷ ends) e = faultless_from text stops p end.started end.fate ends (faultless text stops (p + 1) ends) e
 
@@ -28,7 +29,7 @@ either true false true m f h = absurd cc
 either false allows faulty m f h = absurd cc
 
 -- an outcome that is refused breaks a clause, or has a lowest process at fault
-pub some_cause : (text : List ℕ) (stops : List (Option ℕ)) (clauses : List Clause) (allows : Bool) (ends : List ProcEnd) → first_fault text stops ends ≡ None → meets_all clauses ends ≡ true → meets_demands clauses allows ends ≡ false → ⊥
+pub some_cause : (text : List ℕ) (stops : List (Option Stopped)) (clauses : List Clause) (allows : Bool) (ends : List ProcEnd) → first_fault text stops ends ≡ None → meets_all clauses ends ≡ true → meets_demands clauses allows ends ≡ false → ⊥
 some_cause text stops clauses allows ends none met refused = either (meets_all clauses ends) allows (list_any is_faulty ends) met (faultless text stops 0 ends none) refused
 
 met : (own : Bool) (n : ℕ) (later : Option ℕ) (others : Bool) → cond (not own) (Some n) later ≡ None → (later ≡ None → others ≡ true) → (own && others) ≡ true

@@ -1,6 +1,7 @@
 -- What a schedule that fails breaks.
 use Rattle.std.specs.Prelude.{◌≡◌, ℕ, Bool, true, false, List, Option, Some, slice_get}
 use Rattle.std.specs.List.{position}
+use Rattle.machine.specs.declared.stops.Stopped.{Stopped}
 use Rattle.regmodel.specs.declared.clauses.Clause.{Clause}
 use Rattle.regmodel.specs.declared.outcomes.ProcEnd.{ProcEnd}
 use Rattle.regmodel.specs.Judging.{meets_all}
@@ -18,7 +19,8 @@ use Rattle.verdict.specs.declared.breaches.Cause.{Cause}
 use Rattle.verdict.specs.declared.breaches.Cause.TheVariants.{Check, Fault}
 use Rattle.verdict.specs.declared.demands.Strictness.{Strictness}
 
--- the line of the first clause that is asked and that an outcome breaks, and whether no number is in its range
+-- the line of the first clause that is asked and that an outcome breaks, and whether no number is
+-- in its range
 pub record IsBrokenLine (text : List ℕ) (clauses : List Clause) (asks_ended : Bool) (ends : List ProcEnd) (line : ℕ) (is_empty : Bool) : Type 0 where
   pub place : ℕ
   pub first : position (breaks asks_ended ends) clauses ≡ Some place
@@ -28,9 +30,9 @@ pub record IsBrokenLine (text : List ℕ) (clauses : List Clause) (asks_ended : 
   pub says : ChecksAt text clause line
   pub empty : is_empty ≡ is_empty_range clause
 
--- the line of the first clause asked that an outcome breaks, and the lowest process at fault, if any; the latter alone where none is
--- broken; processes stop at these statements
-abbrev pub IsCauseOf : List ℕ → List Clause → Bool → List (Option ℕ) → List ProcEnd → Cause → Type 0
+-- the line of the first clause asked that an outcome breaks, and the lowest process at fault, if
+-- any; the latter alone where none is broken; processes stop so
+abbrev pub IsCauseOf : List ℕ → List Clause → Bool → List (Option Stopped) → List ProcEnd → Cause → Type 0
 IsCauseOf text clauses asks_ended stops ends (Check line is_empty fault) =
     IsBrokenLine text clauses asks_ended ends line is_empty × (fault ≡ first_fault text stops ends)
 IsCauseOf text clauses asks_ended stops ends (Fault fault) =

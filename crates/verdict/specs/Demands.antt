@@ -26,7 +26,8 @@ clauses_asked false clauses = filter (λ clause. not (is_ended clause)) clauses
 abbrev pub breaks : Bool → List ProcEnd → Clause → Bool
 breaks asks_ended ends clause = is_asked asks_ended clause && not (meets clause ends)
 
--- an outcome meets what a check demands where it meets all clauses, and no process is at fault unless that is allowed
+-- an outcome meets what a check demands where it meets all clauses, and no process is at fault
+-- unless that is allowed
 abbrev pub meets_demands : List Clause → Bool → List ProcEnd → Bool
 meets_demands clauses allows_faults ends = meets_all clauses ends && (allows_faults || meets NoFault ends)
 
@@ -34,7 +35,8 @@ meets_demands clauses allows_faults ends = meets_all clauses ends && (allows_fau
 abbrev pub demands_of : Strictness → List Clause → List ProcEnd → Bool
 demands_of strictness clauses = meets_demands (clauses_asked strictness.asks_ended clauses) strictness.allows_faults
 
--- what is looked for: what clauses ask; without a clause faults alone, or nothing where they are allowed
+-- what is looked for: what clauses ask; without a clause faults alone, or nothing where they are
+-- allowed
 abbrev pub asked_of : List Clause → Bool → Asked
 asked_of [] false = Faults
 asked_of [] true = Nothing

@@ -1,5 +1,5 @@
 -- Checks that each name breaks, since no number is in their range.
-use Rattle.std.specs.Prelude.{ℕ, Bool, false, if◌then◌else◌, List, [], ◌++◌, Some, None, codes, nat_lt, slice_get}
+use Rattle.std.specs.Prelude.{ℕ, Bool, false, if◌then◌else◌, List, [], Some, None, codes, nat_lt, slice_get}
 use Rattle.regmodel.specs.declared.clauses.Clause.{Clause}
 use Rattle.regmodel.specs.declared.clauses.Clause.TheVariants as clause
 
@@ -12,10 +12,6 @@ is_empty_range _ = false
 abbrev pub is_empty_at : List Clause → ℕ → Bool
 is_empty_at clauses place = elim (slice_get clauses place) [ Some own ↦ is_empty_range own | None ↦ false ]
 
--- that no number is in the range of a check
-abbrev pub empty_range_text : List ℕ
-empty_range_text = codes "No number is in that range" ++ codes ": each name breaks it.\n"
-
--- the same, where none is
+-- that no number is in the range of a check, where none is
 abbrev pub empty_text : Bool → List ℕ
-empty_text is_empty = if is_empty then empty_range_text else []
+empty_text is_empty = if is_empty then codes "No number is in that range: each name breaks it.\n" else []

@@ -1,19 +1,25 @@
--- Worked examples of what a check demands, of checks that are vacuous, of faults and patterns in words, and of paths in a shell.
-use Rattle.std.specs.Prelude.{◌≡◌, ℕ, List, true, false, [], ◌∷◌, None, Some, codes, refl}
+-- Worked examples of what a check demands, of checks that are vacuous, of faults, repeats and
+-- patterns in words, and of paths in a shell.
+use Rattle.std.specs.Prelude.{◌≡◌, ℕ, List, true, false, [], ◌∷◌, Option, None, Some, codes, refl}
 use Rattle.std.specs.Fmt.{digits}
+use Rattle.machine.specs.declared.culprits.Culprit.{Culprit}
+use Rattle.machine.specs.declared.culprits.Culprit.TheVariants.{Register, Cell, Value, Turns}
+use Rattle.machine.specs.declared.stops.Stopped.{Stopped}
 use Rattle.regmodel.specs.declared.clauses.Clause.TheVariants as clause
 use Rattle.regmodel.specs.declared.clauses.Subject.TheVariants as subject
 use Rattle.regmodel.specs.declared.outcomes.End.{End}
 use Rattle.regmodel.specs.declared.outcomes.End.TheVariants as end
 use Rattle.regmodel.specs.declared.outcomes.ProcEnd.{ProcEnd}
+use Rattle.regmodel.specs.declared.statements.Op.TheVariants as op
 use Rattle.patterns.specs.declared.standings.Standing.TheVariants.{Any, Done, Just}
 use Rattle.verdict.specs.Demands.{clauses_asked, meets_demands}
 use Rattle.verdict.specs.EmptyRanges.{is_empty_range}
-use Rattle.verdict.specs.FaultText.{fault_line, reason_text}
+use Rattle.verdict.specs.FaultText.{culprit_text, fault_line, reason_text}
 use Rattle.verdict.specs.Excesses.{first_excess}
 use Rattle.verdict.specs.Faults.{first_fault}
 use Rattle.verdict.specs.Gaps.{want_of}
 use Rattle.verdict.specs.ShellWords.{operand_text}
+use Rattle.verdict.specs.SingleRepeats.{first_single_repeat, single_repeat_text}
 use Rattle.verdict.specs.WayText.{excess_text, match_text, nowhere_text, shortfall_text}
 
 -- a process that took no step
@@ -59,20 +65,51 @@ never_done = refl
 abbrev made : List ℕ
 made = codes "registers 1\nprocess\nhalt\nend\n#line 7 \"a.m4\"\nprocess\n write 9 0\nend\n"
 
-pub second_of_three : first_fault made (Some 0 ∷ Some 0 ∷ Some 1 ∷ []) (idle end.Crashed ∷ idle (end.Fault 2) ∷ idle (end.Fault 3) ∷ [])
-    ≡ Some (record { process = 1; code = 2; line = Some 7 })
+-- stopped at a statement, where this is out of range
+abbrev stopped : ℕ → Option Culprit → Option Stopped
+stopped at culprit = Some (record { at = at; culprit = culprit })
+
+pub second_of_three : first_fault made (stopped 0 None ∷ stopped 0 (Some (Register 9 1)) ∷ stopped 1 (Some (Turns 120)) ∷ [])
+    (idle end.Crashed ∷ idle (end.Fault 2) ∷ idle (end.Fault 3) ∷ [])
+    ≡ Some (record { process = 1; code = 2; line = Some 7; culprit = Some (Register 9 1) })
 second_of_three = refl
 
-pub none_at_fault : first_fault made (Some 0 ∷ []) (idle end.Running ∷ []) ≡ None
+pub none_at_fault : first_fault made (stopped 0 None ∷ []) (idle end.Running ∷ []) ≡ None
 none_at_fault = refl
 
-pub at_a_line_of_another_file : fault_line made (Some (record { process = 1; code = 2; line = Some 7 }))
-    ≡ codes "At its end process 1 is at fault at line 8 of a.m4: it names a register or a cell that is not there.\n"
+pub at_a_line_of_another_file : fault_line made (Some (record { process = 1; code = 2; line = Some 7; culprit = Some (Register 9 1) }))
+    ≡ codes "At its end process 1 is at fault at line 8 of a.m4: it names a register or a cell that is not there: register 9 of 1.\n"
 unfolding digits
 at_a_line_of_another_file = refl
 
 pub in_words : reason_text 4 ≡ codes "it emits a ninth number"
 in_words = refl
+
+pub no_such_cell : culprit_text (Some (Cell 40)) ≡ codes ": cell 40 of 32"
+unfolding digits
+no_such_cell = refl
+
+pub below_0 : culprit_text (Some (Value 3 op.Sub 5)) ≡ codes ": 3 - 5"
+unfolding digits
+below_0 = refl
+
+pub too_often : culprit_text (Some (Turns 120)) ≡ codes ": 120 times"
+unfolding digits
+too_often = refl
+
+-- a text with a loop that is meant to turn thrice
+abbrev looped : List ℕ
+looped = codes "registers 1\nprocess\nrepeat v0 - 1\ndone\n  repeat v0 < 3\ndone\nrepeat 1 = 1\ndone\nend\n"
+
+pub the_first_one : first_single_repeat looped ≡ Some 5
+the_first_one = refl
+
+pub as_a_note : single_repeat_text looped ≡ codes "repeat v0 < 3 (line 5) repeats once or not at all.\n"
+unfolding digits
+as_a_note = refl
+
+pub nothing_to_note : single_repeat_text made ≡ []
+nothing_to_note = refl
 
 pub one_of_three : match_text 3 (record { number = 2; pattern = Done ∷ Any ∷ [] }) ≡ codes "It matches pattern 2 of 3: done *; *\n"
 unfolding digits

@@ -2,6 +2,8 @@
 use Rattle.std.specs.Prelude.{ℕ, ◌+◌, List, [], ◌∷◌, Option, Some, None, get_or, option_and_then}
 use Rattle.drawing.specs.Pictures.{Picture}
 use Rattle.drawing.specs.StatementLines.{statement_line}
+use Rattle.machine.specs.declared.culprits.Culprit.{Culprit}
+use Rattle.machine.specs.declared.stops.Stopped.{Stopped}
 use Rattle.regmodel.specs.declared.outcomes.End.{End}
 use Rattle.regmodel.specs.declared.outcomes.End.TheVariants.{Done, Fault, Crashed, Running}
 use Rattle.regmodel.specs.declared.outcomes.ProcEnd.{ProcEnd}
@@ -11,20 +13,26 @@ use Rattle.verdict.specs.declared.faults.ProcessFault.{ProcessFault}
 abbrev pub code_of : End → Option ℕ
 code_of fate = elim fate [ Done numbers ↦ None | Fault code ↦ Some code | Crashed ↦ None | Running ↦ None ]
 
--- the number of the line of a text on which the statement stands at which process p stops, where processes stop at these
-abbrev pub stop_line : List ℕ → List (Option ℕ) → ℕ → Option ℕ
-stop_line text stops p = option_and_then (statement_line text p) (get_or stops p None)
+-- the number of the line of a text on which the statement stands at which process p stops, where
+-- processes stop so
+abbrev pub stop_line : List ℕ → List (Option Stopped) → ℕ → Option ℕ
+stop_line text stops p = option_and_then (λ stop. statement_line text p stop.at) (get_or stops p None)
 
--- the lowest process at fault, and the line at which it stops; the first of these is process p
-abbrev pub first_fault_from : List ℕ → List (Option ℕ) → ℕ → List ProcEnd → Option ProcessFault
+-- what is out of range there
+abbrev pub stop_culprit : List (Option Stopped) → ℕ → Option Culprit
+stop_culprit stops p = option_and_then (λ stop. stop.culprit) (get_or stops p None)
+
+-- the lowest process at fault, the line at which it stops, and what is out of range there; the
+-- first of these is process p
+abbrev pub first_fault_from : List ℕ → List (Option Stopped) → ℕ → List ProcEnd → Option ProcessFault
 first_fault_from text stops p [] = None
 first_fault_from text stops p (end ∷ ends) = elim (code_of end.fate) [
-  | Some code ↦ Some (record { process = p; code = code; line = stop_line text stops p })
+  | Some code ↦ Some (record { process = p; code = code; line = stop_line text stops p; culprit = stop_culprit stops p })
   | None ↦ first_fault_from text stops (p + 1) ends
 ]
 
--- the same of processes that stand so, and stop at these statements
-abbrev pub first_fault : List ℕ → List (Option ℕ) → List ProcEnd → Option ProcessFault
+-- the same of processes that stand and stop so
+abbrev pub first_fault : List ℕ → List (Option Stopped) → List ProcEnd → Option ProcessFault
 first_fault text stops ends = first_fault_from text stops 0 ends
 
 -- the same of what is drawn of a schedule, whose source the text spells

@@ -13,7 +13,8 @@ use Rattle.verdict.specs.declared.gaps.Gap.{Gap}
 abbrev pub is_met : Subject → List (List ProcEnd) → Bool
 is_met w outcomes = list_any (λ ends. list_any (includes w) ends) outcomes
 
--- what a clause speaks of and none of these outcomes has, so that it is vacuous: it asks nothing of them
+-- what a clause speaks of and none of these outcomes has, so that it is vacuous: it asks nothing of
+-- them
 abbrev pub want_of : Clause → List (List ProcEnd) → Option Subject
 want_of clause outcomes = elim (subject_of clause) [ Some w ↦ if is_met w outcomes then None else Some w | None ↦ None ]
 

@@ -14,6 +14,7 @@ pub mod Onsets
 pub mod OriginText
 pub mod ShellWords
 pub mod Shortfalls
+pub mod SingleRepeats
 pub mod VerdictText
 pub mod Verdicts
 pub mod WayText

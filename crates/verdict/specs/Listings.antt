@@ -14,7 +14,8 @@ use Rattle.verdict.specs.declared.breaches.Verdict.TheVariants.{Fails, Holds}
 abbrev pub outcome_list : List (List ProcEnd) → List ℕ
 outcome_list outcomes = codes "\n" ++ number_line (codes "outcomes") (length outcomes) ++ flat_map outcome_line outcomes
 
--- what is told of a source, and then its outcomes: where none fails those that were found, else those of the exploration beside it
+-- what is told of a source, and then its outcomes: where none fails those that were found, else
+-- those of the exploration beside it
 abbrev pub listed_text : List ℕ → List ℕ → List ℕ → Breadth → Bool → Verdict → Option Findings → List ℕ
 listed_text program path text breadth is_shortest (Holds held) explored =
     verdict_text program path text breadth is_shortest (Holds held) ++ outcome_list held.exploration.outcomes

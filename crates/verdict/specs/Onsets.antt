@@ -5,7 +5,8 @@ use Rattle.regmodel.specs.Outcomes.{outcome_of}
 use Rattle.regmodel.specs.Program.{Program}
 use Rattle.regmodel.specs.declared.outcomes.ProcEnd.{ProcEnd}
 
--- of each beginning of so many letters or more the outcome is refused, but not of that with one letter less
+-- of each beginning of so many letters or more the outcome is refused, but not of that with one
+-- letter less
 pub record FailsFrom (programs : List Program) (accepts : List ProcEnd → Bool) (w : Schedule) (onset : ℕ) : Type 0 where
   pub there : onset ≤ length w
   pub refused : (k : ℕ) → onset ≤ k → k ≤ length w → accepts (outcome_of programs (take k w)) ≡ false

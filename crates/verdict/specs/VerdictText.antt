@@ -8,15 +8,13 @@ use Rattle.regmodel.specs.Judging.{is_running}
 use Rattle.regmodel.specs.Letters.{Schedule}
 use Rattle.report.specs.PlainReport.{Findings}
 use Rattle.regmodel.specs.ScheduleText.{schedule_text}
-use Rattle.reglang.specs.Lines.{without_indent}
-use Rattle.reglang.specs.Checks.{line_at}
 use Rattle.drawing.specs.declared.breadths.Breadth.{Breadth}
 use Rattle.drawing.specs.DrawingText.{drawing_text}
-use Rattle.explanations.specs.Shown.{shown}
 use Rattle.verdict.specs.EmptyRanges.{empty_text}
 use Rattle.verdict.specs.FaultText.{fault_line, fault_text}
-use Rattle.verdict.specs.OriginText.{origin_text}
+use Rattle.verdict.specs.OriginText.{line_text}
 use Rattle.verdict.specs.ShellWords.{operand_text}
+use Rattle.verdict.specs.SingleRepeats.{single_repeat_text}
 use Rattle.verdict.specs.declared.breaches.Breach.{Breach}
 use Rattle.verdict.specs.declared.breaches.Cause.{Cause}
 use Rattle.verdict.specs.declared.breaches.Cause.TheVariants.{Check, Fault}
@@ -44,13 +42,10 @@ letters_text n = counted n (codes "letter") (codes "s")
 abbrev pub crashes_text : ℕ → List ℕ
 crashes_text n = if n == 0 then codes "no crashes" else counted n (codes "crash") (codes "es")
 
--- a check line without its indent, and where it comes from
-abbrev pub check_text : List ℕ → ℕ → List ℕ
-check_text text line = without_indent (shown (line_at line text)) ++ codes " (" ++ origin_text text line ++ codes ")"
-
--- the check line that is broken, that no number is in its range, where none is, and the process at fault beside it; or that process alone
+-- the check line that is broken, that no number is in its range, where none is, and the process at
+-- fault beside it; or that process alone
 abbrev pub cause_text : List ℕ → Cause → List ℕ
-cause_text text (Check line is_empty fault) = check_text text line ++ codes "\n" ++ empty_text is_empty ++ fault_line text fault
+cause_text text (Check line is_empty fault) = line_text text line ++ codes "\n" ++ empty_text is_empty ++ fault_line text fault
 cause_text text (Fault fault) = fault_text text fault ++ codes "\n"
 
 -- that a schedule fails; and that no shorter one does, where the shortest one was asked for
@@ -65,20 +60,25 @@ from_step_text letter = if letter == 0 then [] else codes "It fails from step " 
 abbrev pub cut_alone_text : List ℕ
 cut_alone_text = codes "It is cut off with a process still running" ++ codes "; up to this length none fails otherwise.\n"
 
--- from which letter on each beginning fails, where that comes about by a letter; where the schedule fails for being cut off, that it does
+-- from which letter on each beginning fails, where that comes about by a letter; where the schedule
+-- fails for being cut off, that it does
 abbrev pub onset_text : Option ℕ → List ℕ
 onset_text onset = elim onset [ Some letter ↦ from_step_text letter | None ↦ cut_alone_text ]
 
--- that a schedule of so many letters fails, why, and from which letter on
+-- that a schedule of so many letters fails, why, from which letter on, and which line of the text
+-- repeats once or not at all
 abbrev pub failing_text : List ℕ → List ℕ → Bool → ℕ → Cause → Option ℕ → List ℕ
 failing_text path text is_shortest letters cause onset =
-    path ++ codes ": a schedule of " ++ letters_text letters ++ fails_text is_shortest ++ cause_text text cause ++ onset_text onset ++ codes "\n"
+    path ++ codes ": a schedule of " ++ letters_text letters ++ fails_text is_shortest ++ cause_text text cause ++ onset_text onset
+    ++ single_repeat_text text ++ codes "\n"
 
--- the command that draws a schedule, as it is to be typed in a shell, behind the words by which the program was called
+-- the command that draws a schedule, as it is to be typed in a shell, behind the words by which the
+-- program was called
 abbrev pub show_text : List ℕ → List ℕ → Schedule → List ℕ
 show_text program path w = codes "\n" ++ program ++ codes " show " ++ operand_text path ++ codes " '" ++ schedule_text w ++ codes "'\n"
 
--- that a schedule fails and why, the schedule as a drawing that may be so broad, and the command that draws it again
+-- that a schedule fails and why, the schedule as a drawing that may be so broad, and the command
+-- that draws it again
 abbrev pub breach_text : List ℕ → List ℕ → List ℕ → Breadth → Bool → Breach → List ℕ
 breach_text program path text breadth is_shortest breach =
     failing_text path text is_shortest (length breach.schedule) breach.cause breach.onset
@@ -95,7 +95,8 @@ cut_text program path text cut =
 abbrev pub beside_text : List ℕ → List ℕ → List ℕ → Option Cut → List ℕ
 beside_text program path text cut = elim cut [ Some c ↦ cut_text program path text c | None ↦ [] ]
 
--- whether schedules were cut off: some process still wants an access after as many letters as there may be
+-- whether schedules were cut off: some process still wants an access after as many letters as there
+-- may be
 abbrev pub is_cut_off : Findings → Bool
 is_cut_off findings = list_any (λ ends. list_any is_running ends) findings.outcomes
 
@@ -143,7 +144,7 @@ want_text Done = codes ": no process was ever done.\n"
 
 -- a check that no outcome could break, and why
 abbrev pub gap_text : List ℕ → Gap → List ℕ
-gap_text text gap = check_text text gap.line ++ want_text gap.want
+gap_text text gap = line_text text gap.line ++ want_text gap.want
 
 -- such checks, one a line
 abbrev pub gaps_text : List ℕ → List Gap → List ℕ
@@ -154,13 +155,14 @@ abbrev pub holding_text : List ℕ → Reach → List ℕ
 holding_text path reach =
     path ++ codes ": no schedule fails: " ++ tried_text reach.tried reach.outcomes ++ bounds_text reach.length reach.crashes
 
--- the same, what was looked for, which checks could not be broken, and whether schedules were cut off
+-- the same, what was looked for, which checks could not be broken, which line repeats once or not
+-- at all, and whether schedules were cut off
 abbrev pub held_text : List ℕ → List ℕ → Reach → Asked → List Gap → List ℕ
 held_text path text reach asked gaps =
-    holding_text path reach ++ asked_text asked ++ gaps_text text gaps ++ caution_text reach.cut_off reach.length
+    holding_text path reach ++ asked_text asked ++ gaps_text text gaps ++ single_repeat_text text ++ caution_text reach.cut_off reach.length
 
--- what a program that was called by these words tells of a source in the file of this path, where the least failing schedule was asked for, or the
--- shortest one
+-- what a program that was called by these words tells of a source in the file of this path, where
+-- the least failing schedule was asked for, or the shortest one
 abbrev pub verdict_text : List ℕ → List ℕ → List ℕ → Breadth → Bool → Verdict → List ℕ
 verdict_text program path text breadth is_shortest (Fails breach cut) =
     breach_text program path text breadth is_shortest breach ++ beside_text program path text cut

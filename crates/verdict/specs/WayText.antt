@@ -32,7 +32,8 @@ nowhere sought = if sought == 1 then codes "there" else codes "to any of " ++ de
 abbrev pub no_shorter_text : Bool → ℕ → List ℕ
 no_shorter_text is_shortest sought = if is_shortest then codes "No shorter one leads " ++ nowhere sought ++ codes ".\n" else []
 
--- what is told of a way, with the drawing of the schedule, which may be so broad, and the command that draws it again
+-- what is told of a way, with the drawing of the schedule, which may be so broad, and the command
+-- that draws it again
 abbrev pub way_text : List ℕ → List ℕ → List ℕ → Breadth → ℕ → Bool → Way → List ℕ
 way_text program path text breadth sought is_shortest way =
     leading_text path (length way.schedule) way.outcome ++ (match_text sought way.matched ++ no_shorter_text is_shortest sought) ++ codes "\n"

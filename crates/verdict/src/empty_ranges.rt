@@ -17,19 +17,7 @@ pub(crate) fn is_empty_at(clauses: &[Clause], place: usize) -> bool
     }
 }
 
-/// That no number is in the range of a check, so that each name breaks it.
-#[derive(Clone, Copy)]
-struct EmptyRangeTold;
-
-impl Text for EmptyRangeTold {
-    ghost text = { λ _. spec.empty_range_text };
-
-    fn put<W: Write>(&self, out: &mut W, block: &mut Block) -> Result<(), WriteFault> {
-        ("No number is in that range", ": each name breaks it.\n").put(out, block)
-    }
-}
-
-/// The same, where no number is in its range.
+/// That no number is in the range of a check, so that each name breaks it, where none is.
 #[derive(Clone, Copy)]
 pub(crate) struct EmptyRange(pub(crate) bool);
 
@@ -37,9 +25,10 @@ impl Text for EmptyRange {
     ghost text = { λ range. spec.empty_text range.0 };
 
     fn put<W: Write>(&self, out: &mut W, block: &mut Block) -> Result<(), WriteFault> {
-        if !self.0 {
-            return Ok(());
+        if self.0 {
+            "No number is in that range: each name breaks it.\n".put(out, block)
+        } else {
+            Ok(())
         }
-        EmptyRangeTold.put(out, block)
     }
 }

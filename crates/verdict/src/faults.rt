@@ -7,7 +7,10 @@ ghost use Rattle.verdict.specs.Faults as faults;
 
 use crate::origin_text::LineOrigin;
 use drawing::{Drawing, statement_line};
+use machine::Culprit;
+use reglang::Spelled;
 use regmodel::faults::{NO_PLACE, NO_VALUE, TOO_MANY_TURNS};
+use regmodel::limits::CELLS;
 use regmodel::{End, ProcEnd};
 use std::io::Write;
 use texts::{Block, Text, WriteFault};
@@ -22,6 +25,9 @@ pub struct ProcessFault {
     /// The number of the line with the statement that is at fault, counted from 1; that of its use
     /// line where it has one. None where the text has no such statement.
     pub line: Option<u64>,
+    /// What is out of range in that statement. None where no number is: a ninth one that it emits
+    /// may be any.
+    pub culprit: Option<Culprit>,
 }
 
 /// That a process of the source that a text spells is at fault, where and why.
@@ -41,7 +47,8 @@ impl Text for FaultTold<'_> {
             line: fault.line,
         };
         let head = ("process ", fault.process, " is at fault");
-        (head, place, ": ", reason_of(fault.code)).put(out, block)
+        let culprit = CulpritTold(fault.culprit);
+        (head, place, ": ", reason_of(fault.code), culprit).put(out, block)
     }
 }
 
@@ -86,6 +93,28 @@ impl Text for FaultLine<'_> {
     }
 }
 
+/// What is out of range, where a number is.
+#[derive(Clone, Copy)]
+struct CulpritTold(Option<Culprit>);
+
+impl Text for CulpritTold {
+    ghost text = { λ told. spec.culprit_text told.0 };
+
+    fn put<W: Write>(&self, out: &mut W, block: &mut Block) -> Result<(), WriteFault> {
+        match self.0 {
+            Some(Culprit::Register(number, count)) => {
+                (": register ", number, " of ", count).put(out, block)
+            }
+            Some(Culprit::Cell(number)) => (": cell ", number, " of ", CELLS).put(out, block),
+            Some(Culprit::Value(a, op, b)) => {
+                ((": ", a, " "), op.text(), " ", b).put(out, block)
+            }
+            Some(Culprit::Turns(count)) => (": ", count, " times").put(out, block),
+            None => Ok(()),
+        }
+    }
+}
+
 /// Why a process is at fault with this code.
 fn reason_of(code: u8) -> &'static str
     ensures { result.now ≡ spec.reason_text code }
@@ -101,8 +130,8 @@ fn reason_of(code: u8) -> &'static str
     }
 }
 
-/// The lowest process that is at fault at the end of a schedule that is drawn, and the line of the
-/// text at which it is: the text spells the source of the schedule.
+/// The lowest process that is at fault at the end of a schedule that is drawn, the line of the text
+/// at which it is, and what is out of range there: the text spells the source of the schedule.
 pub fn first_fault(text: &[u8], drawing: &Drawing) -> Option<ProcessFault>
     ensures { result ≡ faults.fault_drawn text.now drawing.now }
 {
@@ -122,6 +151,7 @@ fn first_fault_from(text: &[u8], drawing: &Drawing, p: u8, ends: &[ProcEnd]) -> 
             process: u64::from(p),
             code,
             line: stop_line(text, drawing, p),
+            culprit: stop_culprit(drawing, p),
         });
     }
     first_fault_from(text, drawing, p + 1, more)
@@ -131,5 +161,12 @@ fn first_fault_from(text: &[u8], drawing: &Drawing, p: u8, ends: &[ProcEnd]) -> 
 fn stop_line(text: &[u8], drawing: &Drawing, p: u8) -> Option<u64>
     ensures { result ≡ faults.stop_line text.now drawing.now.stops p }
 {
-    statement_line(text, p, drawing.stop_of(p)?)
+    statement_line(text, p, drawing.stop_of(p)?.at)
+}
+
+/// What is out of range where a process stops.
+fn stop_culprit(drawing: &Drawing, p: u8) -> Option<Culprit>
+    ensures { result ≡ faults.stop_culprit drawing.now.stops p }
+{
+    drawing.stop_of(p)?.culprit
 }

@@ -18,6 +18,7 @@ mod reach;
 mod shell_words;
 mod shortfalls;
 mod show_commands;
+mod single_repeats;
 mod spellings;
 mod topics;
 mod verdict_text;

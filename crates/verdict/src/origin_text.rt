@@ -2,7 +2,8 @@
 
 ghost use Rattle.verdict.specs.OriginText as spec;
 
-use explanations::origin_of;
+use explanations::{origin_of, shown_line};
+use reglang::without_indent;
 use std::io::Write;
 use texts::{Block, Text, WriteFault};
 
@@ -35,5 +36,22 @@ impl Text for OfFile<'_> {
             return Ok(());
         }
         (" of ", self.0).put(out, block)
+    }
+}
+
+/// A line of a text, by its number, counted from 1, without its indent, and where it comes from.
+#[derive(Clone, Copy)]
+pub(crate) struct LineTold<'a> {
+    pub(crate) text: &'a [u8],
+    pub(crate) line: u64,
+}
+
+impl Text for LineTold<'_> {
+    ghost text = { λ l. spec.line_text l.text.now l.line };
+
+    fn put<W: Write>(&self, out: &mut W, block: &mut Block) -> Result<(), WriteFault> {
+        let (text, line) = (self.text, self.line);
+        let shown = without_indent(shown_line(text, line));
+        (shown, " (", LineOrigin { text, line }, ")").put(out, block)
     }
 }

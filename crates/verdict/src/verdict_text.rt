@@ -10,13 +10,12 @@ use crate::demands::Asked;
 use crate::empty_ranges::EmptyRange;
 use crate::faults::{FaultLine, FaultTold};
 use crate::gaps::Gap;
-use crate::origin_text::LineOrigin;
+use crate::origin_text::LineTold;
 use crate::reach::{Reach, reach_of};
 use crate::show_commands::ShowCommand;
+use crate::single_repeats::SingleRepeat;
 use crate::topics::Topic;
 use drawing::Drawn;
-use explanations::shown_line;
-use reglang::without_indent;
 use regmodel::Subject;
 use regmodel::limits::MOST_LETTERS;
 use std::io::Write;
@@ -26,7 +25,8 @@ use texts::{Block, Text, WriteFault, write};
 /// fails, the check that it breaks and the process at fault, its drawing and the command that draws
 /// it again; or how much was tried, what was looked for where there is no check line, which checks
 /// no outcome could break, and whether schedules were cut off. Where the shortest one was asked
-/// for, that no shorter one fails. After a fault the writer has taken a beginning of it.
+/// for, that no shorter one fails. Of either, which line repeats once or not at all. After a fault
+/// the writer has taken a beginning of it.
 pub fn write_verdict<W: Write>(
     topic: Topic<'_>,
     verdict: &Verdict,
@@ -78,7 +78,9 @@ impl Text for Told<'_> {
                     text,
                     gaps: held.gaps.as_slice(),
                 };
-                (Holding { path, reach }, held.asked, gaps, Caution(reach)).put(out, block)
+                let holding = Holding { path, reach };
+                let repeat = SingleRepeat(text);
+                (holding, held.asked, gaps, repeat, Caution(reach)).put(out, block)
             }
         }
     }
@@ -122,7 +124,7 @@ impl Text for Failing<'_> {
             schedule: &breach.schedule,
         };
         let onset = Onset(breach.onset);
-        let told = (failing, cause, onset, "\n");
+        let told = (failing, cause, onset, SingleRepeat(text), "\n");
         (told, drawing, show).put(out, block)
     }
 }
@@ -160,29 +162,12 @@ impl Text for Caused<'_> {
                 is_empty,
                 fault,
             } => {
-                let check = CheckLine { text, line };
+                let check = LineTold { text, line };
                 let beside = FaultLine { text, fault };
                 (check, "\n", EmptyRange(is_empty), beside).put(out, block)
             }
             Cause::Fault(fault) => (FaultTold { text, fault }, "\n").put(out, block),
         }
-    }
-}
-
-/// A check line without its indent, and where it comes from.
-#[derive(Clone, Copy)]
-struct CheckLine<'a> {
-    text: &'a [u8],
-    line: u64,
-}
-
-impl Text for CheckLine<'_> {
-    ghost text = { λ c. spec.check_text c.text.now c.line };
-
-    fn put<W: Write>(&self, out: &mut W, block: &mut Block) -> Result<(), WriteFault> {
-        let (text, line) = (self.text, self.line);
-        let check = without_indent(shown_line(text, line));
-        (check, " (", LineOrigin { text, line }, ")").put(out, block)
     }
 }
 
@@ -262,7 +247,7 @@ impl Text for GapLines<'_> {
 
     fn put<W: Write>(&self, out: &mut W, block: &mut Block) -> Result<(), WriteFault> {
         for gap in self.gaps {
-            let check = CheckLine {
+            let check = LineTold {
                 text: self.text,
                 line: gap.line,
             };
