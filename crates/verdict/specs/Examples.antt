@@ -19,6 +19,7 @@ use Rattle.verdict.specs.Excesses.{first_excess}
 use Rattle.verdict.specs.Faults.{first_fault}
 use Rattle.verdict.specs.Gaps.{want_of}
 use Rattle.verdict.specs.ShellWords.{operand_text}
+use Rattle.verdict.specs.ShowCommands.{show_text}
 use Rattle.verdict.specs.SingleRepeats.{first_single_repeat, single_repeat_text}
 use Rattle.verdict.specs.WayText.{excess_text, match_text, nowhere_text, shortfall_text}
 
@@ -156,3 +157,11 @@ standard_input = refl
 
 pub empty_path : operand_text [] ≡ codes "''"
 empty_path = refl
+
+-- ---- commands
+
+pub command_of_a_file : show_text (codes "./regtry") (codes "it.reg") [] ≡ codes "\n./regtry show it.reg '.'\n"
+command_of_a_file = refl
+
+pub command_of_what_was_read : show_text (codes "regtry") (codes "-") [] ≡ codes "\nregtry show FILE '.', where FILE holds what was read\n"
+command_of_what_was_read = refl

@@ -13,6 +13,7 @@ pub mod Listings
 pub mod Onsets
 pub mod OriginText
 pub mod ShellWords
+pub mod ShowCommands
 pub mod Shortfalls
 pub mod SingleRepeats
 pub mod VerdictText

@@ -13,7 +13,7 @@ use Rattle.drawing.specs.DrawingText.{drawing_text}
 use Rattle.verdict.specs.EmptyRanges.{empty_text}
 use Rattle.verdict.specs.FaultText.{fault_line, fault_text}
 use Rattle.verdict.specs.OriginText.{line_text}
-use Rattle.verdict.specs.ShellWords.{operand_text}
+use Rattle.verdict.specs.ShowCommands.{show_text}
 use Rattle.verdict.specs.SingleRepeats.{single_repeat_text}
 use Rattle.verdict.specs.declared.breaches.Breach.{Breach}
 use Rattle.verdict.specs.declared.breaches.Cause.{Cause}
@@ -71,11 +71,6 @@ abbrev pub failing_text : List ℕ → List ℕ → Bool → ℕ → Cause → O
 failing_text path text is_shortest letters cause onset =
     path ++ codes ": a schedule of " ++ letters_text letters ++ fails_text is_shortest ++ cause_text text cause ++ onset_text onset
     ++ single_repeat_text text ++ codes "\n"
-
--- the command that draws a schedule, as it is to be typed in a shell, behind the words by which the
--- program was called
-abbrev pub show_text : List ℕ → List ℕ → Schedule → List ℕ
-show_text program path w = codes "\n" ++ program ++ codes " show " ++ operand_text path ++ codes " '" ++ schedule_text w ++ codes "'\n"
 
 -- that a schedule fails and why, the schedule as a drawing that may be so broad, and the command
 -- that draws it again

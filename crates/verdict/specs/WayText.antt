@@ -6,7 +6,8 @@ use Rattle.drawing.specs.declared.breadths.Breadth.{Breadth}
 use Rattle.drawing.specs.DrawingText.{drawing_text}
 use Rattle.patterns.specs.PatternText.{pattern_text}
 use Rattle.patterns.specs.declared.matching.Match.{Match}
-use Rattle.verdict.specs.VerdictText.{bounds_text, counted, letters_text, show_text}
+use Rattle.verdict.specs.ShowCommands.{show_text}
+use Rattle.verdict.specs.VerdictText.{bounds_text, counted, letters_text}
 use Rattle.verdict.specs.declared.shortfalls.Shortfall.{Shortfall}
 use Rattle.verdict.specs.declared.ways.Discovery.{Discovery}
 use Rattle.verdict.specs.declared.ways.Way.{Way}

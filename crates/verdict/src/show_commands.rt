@@ -1,6 +1,6 @@
 //! The command that draws a schedule.
 
-ghost use Rattle.verdict.specs.VerdictText as spec;
+ghost use Rattle.verdict.specs.ShowCommands as spec;
 
 use crate::shell_words::ShellPath;
 use regmodel::Prefix;
@@ -8,7 +8,8 @@ use std::io::Write;
 use texts::{Block, Text, WriteFault};
 
 /// The command that draws a schedule of the source in the file of this path, as it is to be typed
-/// in a shell, behind an empty line. It begins with the words by which the program was called.
+/// in a shell, behind an empty line. It begins with the words by which the program was called. What
+/// stood on standard input is gone, so it names a file in its place, and says what that has to hold.
 #[derive(Clone, Copy)]
 pub struct ShowCommand<'a> {
     /// The words by which the program was called.
@@ -23,8 +24,38 @@ impl Text for ShowCommand<'_> {
     ghost text = { λ r. spec.show_text r.program.now r.path.now r.schedule.now };
 
     fn put<W: Write>(&self, out: &mut W, block: &mut Block) -> Result<(), WriteFault> {
-        let path = ShellPath(self.path);
         let show = ("\n", self.program, " show ");
-        (show, path, " '", self.schedule, "'\n").put(out, block)
+        let command = (show, TypedFile(self.path), " '", self.schedule, "'");
+        (command, FileWanted(self.path), "\n").put(out, block)
+    }
+}
+
+/// The file of a path, as it is to be typed in a shell.
+#[derive(Clone, Copy)]
+struct TypedFile<'a>(&'a [u8]);
+
+impl Text for TypedFile<'_> {
+    ghost text = { λ file. spec.typed_file file.0.now };
+
+    fn put<W: Write>(&self, out: &mut W, block: &mut Block) -> Result<(), WriteFault> {
+        match self.0 {
+            [b'-'] => "FILE".put(out, block),
+            path => ShellPath(path).put(out, block),
+        }
+    }
+}
+
+/// What the file has to hold that is named in place of standard input.
+#[derive(Clone, Copy)]
+struct FileWanted<'a>(&'a [u8]);
+
+impl Text for FileWanted<'_> {
+    ghost text = { λ file. spec.file_wanted file.0.now };
+
+    fn put<W: Write>(&self, out: &mut W, block: &mut Block) -> Result<(), WriteFault> {
+        match self.0 {
+            [b'-'] => ", where FILE holds what was read".put(out, block),
+            _ => Ok(()),
+        }
     }
 }
