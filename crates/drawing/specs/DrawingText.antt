@@ -32,7 +32,7 @@ line_text width cell columns = joined (λ column. placed (gap_before width cell 
 -- how many of the registers are left out, where some are
 abbrev pub left_out_text : ℕ → ℕ → List ℕ
 left_out_text left registers =
-    if left == 0 then [] else codes "left out: " ++ decimal left ++ codes " of " ++ decimal registers ++ codes " registers; regtry show --all draws all\n"
+    if left == 0 then [] else codes "left out: " ++ decimal left ++ codes " of " ++ decimal registers ++ codes " registers; --all draws all\n"
 
 -- how wide the column at a place is
 abbrev pub width_at : List ℕ → List ℕ → ℕ → ℕ

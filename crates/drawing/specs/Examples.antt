@@ -223,6 +223,6 @@ which_tell_registers = refl
 
 -- ---- how many are left out
 
-pub text_of_two_left_out : left_out_text 2 3 ≡ codes "left out: 2 of 3 registers; regtry show --all draws all\n"
+pub text_of_two_left_out : left_out_text 2 3 ≡ codes "left out: 2 of 3 registers; --all draws all\n"
 unfolding digits
 text_of_two_left_out = refl

@@ -51,7 +51,7 @@ impl Text for LeftOut {
             return Ok(());
         }
         let (left, registers) = (self.left as u64, self.registers as u64);
-        let all = " registers; regtry show --all draws all\n";
+        let all = " registers; --all draws all\n";
         ("left out: ", left, " of ", registers, all).put(out, block)
     }
 }
