@@ -1,5 +1,6 @@
 //! The command that draws a schedule.
 
+ghost use Rattle.std.specs.Prelude.{◌≡◌};
 ghost use Rattle.verdict.specs.ShowCommands as spec;
 
 use crate::shell_words::ShellPath;
@@ -26,7 +27,7 @@ impl Text for ShowCommand<'_> {
     fn put<W: Write>(&self, out: &mut W, block: &mut Block) -> Result<(), WriteFault> {
         let show = ("\n", self.program, " show ");
         let command = (show, TypedFile(self.path), " '", self.schedule, "'");
-        (command, FileWanted(self.path), "\n").put(out, block)
+        (command, file_wanted(self.path), "\n").put(out, block)
     }
 }
 
@@ -38,24 +39,30 @@ impl Text for TypedFile<'_> {
     ghost text = { λ file. spec.typed_file file.0.now };
 
     fn put<W: Write>(&self, out: &mut W, block: &mut Block) -> Result<(), WriteFault> {
-        match self.0 {
-            [b'-'] => "FILE".put(out, block),
-            path => ShellPath(path).put(out, block),
+        if is_standard(self.0) {
+            return "FILE".put(out, block);
         }
+        ShellPath(self.0).put(out, block)
     }
 }
 
 /// What the file has to hold that is named in place of standard input.
-#[derive(Clone, Copy)]
-struct FileWanted<'a>(&'a [u8]);
+fn file_wanted(path: &[u8]) -> &'static str
+    ensures { result.now ≡ spec.file_wanted path.now }
+{
+    if is_standard(path) {
+        ", where FILE holds what was read"
+    } else {
+        ""
+    }
+}
 
-impl Text for FileWanted<'_> {
-    ghost text = { λ file. spec.file_wanted file.0.now };
-
-    fn put<W: Write>(&self, out: &mut W, block: &mut Block) -> Result<(), WriteFault> {
-        match self.0 {
-            [b'-'] => ", where FILE holds what was read".put(out, block),
-            _ => Ok(()),
-        }
+/// Whether a path is a dash, which names standard input.
+fn is_standard(path: &[u8]) -> bool
+    ensures { result ≡ spec.is_standard path.now }
+{
+    match path {
+        [first] => *first == b'-',
+        _ => false,
     }
 }
