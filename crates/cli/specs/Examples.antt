@@ -1,4 +1,5 @@
 -- Worked examples.
+use lib.Count.{ones}
 use Rattle.std.specs.Prelude.{◌≡◌, ℕ, Bool, true, false, List, [], ◌∷◌, codes, map, refl}
 use Rattle.std.specs.Fmt.{digits}
 use Rattle.regmodel.specs.declared.accesses.Access.TheVariants.{Read}
@@ -8,6 +9,7 @@ use Rattle.regmodel.specs.Program.{Stop}
 use Rattle.uses.specs.declared.kinds.Use.TheVariants as kind
 use Rattle.reglang.specs.Contents.{Contents, Kind, Text}
 use Rattle.cli.specs.FileCounts.{counts_text, no_counts, with_one_more}
+use Rattle.cli.specs.Progress.{is_round, length_line, progress_text}
 use Rattle.cli.specs.Understanding.{resumed_in}
 
 -- ---- the line that tells of several files
@@ -18,6 +20,35 @@ three_files = refl
 pub none_holds : counts_text (with_one_more (with_one_more (with_one_more no_counts 3) 2) 2) ≡ codes "3 files: 2 refused, 1 unanswered\n"
 unfolding digits
 none_holds = refl
+
+-- ---- how far a run has come
+pub five_quarters : is_round 20 ≡ true
+unfolding ones
+five_quarters = refl
+
+pub three_halves : is_round 96 ≡ true
+unfolding ones
+three_halves = refl
+
+pub nine : is_round 9 ≡ false
+unfolding ones
+nine = refl
+
+pub no_piece : is_round 0 ≡ false
+unfolding ones
+no_piece = refl
+
+pub six_taken : progress_text 6 5 ≡ codes "regtry: 6 pieces taken of 6 known so far\n"
+unfolding digits ones
+six_taken = refl
+
+pub nothing_at_eleven : progress_text 11 20 ≡ []
+unfolding ones
+nothing_at_eleven = refl
+
+pub twelve_letters : length_line 12 ≡ codes "regtry: length 12\n"
+unfolding digits
+twelve_letters = refl
 
 -- ---- a splitter at registers 0 and 1, and a process that does nothing
 

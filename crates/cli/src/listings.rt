@@ -11,6 +11,7 @@ use crate::aims::Aim;
 use crate::attempts::reached;
 use crate::conclusions::found_alone;
 use crate::faults::AnswerFault;
+use crate::progress::Meter;
 use crate::runs::Run;
 use explorer::{Effort, Exploration, Gate};
 use findings::Finding;
@@ -21,7 +22,7 @@ use verdict::Verdict;
 
 /// What a check finds of a source, and all outcomes: where a schedule fails, it is explored
 /// once more for them.
-pub fn listed<H: Threads + Wait + Sync, G: Gate>(
+pub fn listed<H: Threads + Wait + Sync, G: Meter>(
     run: &Run<'_, H, G>,
     effort: &Effort,
     native: bool,

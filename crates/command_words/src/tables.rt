@@ -278,5 +278,5 @@ const TEXT: Word = Word {
 const PROGRESS: Word = Word {
     name: "progress",
     kind: Kind::Flag,
-    help: "Tell on standard error how many pieces the workers have taken and how many are known so far: a line each time that those taken reach a power of two",
+    help: "Tell on standard error how many pieces the workers have taken and how many are known so far: a line each time that those taken reach 1, 3, 5 or 7 times a power of two",
 };
