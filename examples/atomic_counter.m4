@@ -2,8 +2,8 @@ include(`algorithms.m4')dnl
 # A counter of two processes, made of a register for each and the register of max_register.reg for their sum,
 # for examples/linearizable: counter 'inc inc' inc r.
 ifdef(`LAST_SUM',
-`# Here the last sum that was written is read. At length 26 an outcome is not linearizable.',
-`# Each outcome is linearizable at length 26 without crashes, where all have ended.')
+`# Here the last sum that was written is read. An outcome is not linearizable.',
+`# Each outcome is linearizable.')
 named(`OWN', 2)dnl
 named(`FINISHED', 3)dnl
 ifdef(`LAST_SUM', `named(`SUM')', `named(`SWITCH')named(`BIT', 2)')dnl

@@ -2,8 +2,8 @@ include(`algorithms.m4')dnl
 # The register of max_register.reg, which holds the greatest value written so far, for examples/linearizable:
 # max-register w3 w1 'r r'.
 ifdef(`NO_LOOK',
-`# Here a small value is written without a look at the switch. At length 16 an outcome is not linearizable.',
-`# Each outcome is linearizable at length 16 without crashes, where all have ended.')
+`# Here a small value is written without a look at the switch. An outcome is not linearizable.',
+`# Each outcome is linearizable.')
 named(`SWITCH')dnl
 named(`BIT', 2)dnl
 named(`FINISHED', 3)dnl

@@ -3,8 +3,8 @@ include(`algorithms.m4')dnl
 # Who sees a segment move twice takes what was written there. For examples/linearizable: snapshot 'w1 w2' w1
 # scan.
 ifdef(`ONE_MOVE',
-`# Here one move is enough. At length 28 without crashes an outcome is not linearizable.',
-`# Each outcome is linearizable at length 28 without crashes, where all have ended.')
+`# Here one move is enough. An outcome is not linearizable.',
+`# Each outcome is linearizable.')
 named(`SEGMENT', 2)dnl
 named(`FINISHED', 3)dnl
 registers REGISTERS

@@ -1,6 +1,6 @@
 include(`algorithms.m4')dnl
 # Mutual exclusion of three by the bakery, as in bakery.reg: m4 gives names to registers and to what a process
-# holds, and makes each process of one text. Holds at length 24 without crashes, where all have ended.
+# holds, and makes each process of one text.
 named(`TICKET', 3)dnl
 define(`CHOOSING', 1)dnl
 # What a process holds: its number, what it sees of another one, whether that one goes first, and which one

@@ -2,8 +2,8 @@ include(`algorithms.m4')dnl
 # Mutual exclusion of three with a bit each, asked for deadlocks: a process gives way to lower ones, and waits
 # for higher ones.
 ifdef(`KEEPS_BIT',
-`# It keeps its bit where it gives way. Fails at length 48: each that has not left is blocked.',
-`# Holds at length 48 without crashes, where all have ended.')
+`# It keeps its bit where it gives way. Each that has not left may be blocked.',
+`# It takes its bit back where it gives way.')
 named(`WANTS', 3)dnl
 named(`STILL', 3)dnl
 registers REGISTERS
