@@ -8,8 +8,10 @@ ifdef(`ONE_MOVE',
 named(`SEGMENT', 2)dnl
 named(`FINISHED', 3)dnl
 registers REGISTERS
-# Registers: 0 and 1: a value, and behind it what its writer scanned, a digit for each process; 2 to 4: how
+# A segment has a value, and behind it what its writer scanned, a digit for each process. Registers 2 to 4: how
 # many operations each process has finished.
+# register 0: segment[0]
+# register 1: segment[1]
 check nofault
 check ended
 define(`MOVES', ifdef(`ONE_MOVE', 1, 2))dnl
