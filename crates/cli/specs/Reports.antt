@@ -10,7 +10,7 @@ use Rattle.reglang.specs.Grammar.{Spells}
 use Rattle.texts.specs.Appending.{Writes}
 use Rattle.orders.specs.Inputs.{IsTextOf}
 
--- the plain report of the source that the text spells, and how many its reduced schedules are;
+-- the plain report of the source that the text spells, where `tried` counts the reduced schedules;
 -- refused are the outcomes that do not meet all of its clauses
 pub record IsReportOf (settings : Settings) (text : List ℕ) (report : Findings) : Type 0 where
   pub source : Contents
@@ -18,8 +18,8 @@ pub record IsReportOf (settings : Settings) (text : List ℕ) (report : Findings
   pub report_is : IsPlainReport (programs_in source) settings.length settings.crashes (meets_all source.clauses) report
   pub tried : report.tried ≡ length (reduced_schedules (programs_in source) settings.crashes settings.length)
 
--- the report of the text of the file is written whole, and the status is 1 where a schedule fails,
--- else 0
+-- the report of the text of the file is written whole behind `old`, and the status is 1 where a
+-- schedule fails, else 0; where `file` or `old` is `None`, its bytes are not known and may be any
 pub record IsReportWritten (settings : Settings) (file old new : Option (List ℕ)) (status : ℕ) : Type 0 where
   pub text : List ℕ
   pub read : IsTextOf file text

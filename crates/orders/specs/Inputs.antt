@@ -9,7 +9,7 @@ use Rattle.orders.specs.declared.refusals.Refusal.TheVariants.{File, LongFile, M
 abbrev pub is_standard : List ℕ → Bool
 is_standard path = bytes_eq path (codes "-")
 
--- the bytes of the file, where they are known; not too many
+-- the bytes of the file; any where they are not known (`None`), but never too many
 pub record IsTextOf (file : Option (List ℕ)) (text : List ℕ) : Type 0 where
   pub known : IfSome file (λ bytes. text ≡ bytes)
   pub short : length text ≤ MOST_SOURCE_BYTES
