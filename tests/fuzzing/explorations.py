@@ -10,6 +10,15 @@ from searches import faults_of_searches
 from verdicts import checked_fault
 
 PROGRESS = re.compile(rb"(regtry: \d+ pieces? taken of \d+ known so far\n)+")
+TAKEN = re.compile(rb"regtry: (\d+) piece")
+# 1, 3, 5 and 7 times each power of two.
+ROUND = sorted(factor << power for factor in (1, 3, 5, 7) for power in range(32))
+
+
+def is_progress(told):
+    """Whether these are lines of progress, at each round number of taken pieces up to one, in their order."""
+    taken = [int(count) for count in TAKEN.findall(told)]
+    return PROGRESS.fullmatch(told) and taken == ROUND[: len(taken)]
 
 
 def faults_of_exploration(dice, folder, settings):
@@ -29,7 +38,7 @@ def faults_of_exploration(dice, folder, settings):
         if answer != alone:
             yield f"{' '.join(words)} answers {answer}, and one worker {alone}"
     status, report, err = run(folder, exploration(shared, "--progress"))
-    if (status, report) != alone[:2] or (status < 2 and not PROGRESS.fullmatch(err)):
+    if (status, report) != alone[:2] or (status < 2 and not is_progress(err)):
         yield f"with progress told it answers {status, report, err}, and one worker {alone}"
     for words in (exploration(shared, "--least"), exploration(settings, "--least", *remembering)):
         sought = run(folder, words)
