@@ -10,7 +10,8 @@ use texts::{Block, Text, WriteFault};
 
 /// The command that draws a schedule of the source in the file of this path, as it is to be typed
 /// in a shell, behind an empty line. It begins with the words by which the program was called. What
-/// stood on standard input is gone, so it names a file in its place, and says what that has to hold.
+/// stood on standard input is gone, so it names a file in its place, and says what that has to
+/// hold.
 #[derive(Clone, Copy)]
 pub struct ShowCommand<'a> {
     /// The words by which the program was called.
