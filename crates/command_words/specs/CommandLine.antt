@@ -18,11 +18,16 @@ abbrev pub bounds : List Rule
 bounds = any_text (codes "length") ∷ any_text (codes "crashes") ∷ any_text (codes "workers")
     ∷ any_text (codes "cache") ∷ []
 
+-- how broad a drawing is, and what it shows besides
+abbrev pub breadths : List Rule
+breadths = flag (codes "all") ∷ any_text (codes "registers") ∷ any_text (codes "width")
+    ∷ flag (codes "lines") ∷ []
+
 -- the words of each subcommand: of `check`
 abbrev pub check_words : List Rule
 check_words = several (codes "FILE") ∷ bounds ++ flag (codes "allow-faults")
-    ∷ flag (codes "shortest") ∷ flag (codes "outcomes") ∷ any_text (codes "width")
-    ∷ flag (codes "lines") ∷ flag (codes "text") ∷ flag (codes "progress") ∷ []
+    ∷ flag (codes "shortest") ∷ flag (codes "outcomes") ∷ breadths ++ flag (codes "text")
+    ∷ flag (codes "progress") ∷ []
 
 -- of `explore`
 abbrev pub explore_words : List Rule
@@ -35,8 +40,7 @@ explore_words = needed (codes "FILE") ∷ needed_number (codes "length")
 -- of `find`
 abbrev pub find_words : List Rule
 find_words = needed (codes "FILE") ∷ several (codes "PATTERN") ∷ bounds ++ flag (codes "shortest")
-    ∷ any_text (codes "width") ∷ flag (codes "lines") ∷ flag (codes "text") ∷ flag (codes "progress")
-    ∷ []
+    ∷ breadths ++ flag (codes "text") ∷ flag (codes "progress") ∷ []
 
 -- of `merge`
 abbrev pub merge_words : List Rule
@@ -48,8 +52,7 @@ replay_words = needed (codes "FILE") ∷ needed (codes "SCHEDULE") ∷ []
 
 -- of `show`
 abbrev pub show_words : List Rule
-show_words = needed (codes "FILE") ∷ needed (codes "SCHEDULE") ∷ flag (codes "all")
-    ∷ any_text (codes "registers") ∷ any_text (codes "width") ∷ flag (codes "lines") ∷ []
+show_words = needed (codes "FILE") ∷ needed (codes "SCHEDULE") ∷ breadths
 
 -- the subcommands, by their names
 abbrev pub subcommands : List Shape
