@@ -2,6 +2,7 @@
 
 import re
 
+from comments import faults_of_comments
 from inputs import exploration
 from parts import faults_of_parts, least_alone
 from replays import replayed_fault
@@ -48,6 +49,7 @@ def faults_of_exploration(dice, folder, settings):
         yield f"status {alone[0]} of {alone[1][-80:]!r}"
     yield from checked_fault(dice, folder, settings, alone)
     yield from replayed_fault(folder, alone[1])
+    yield from faults_of_comments(folder, settings, alone)
     if alone[0] in (0, 1):
         yield from faults_of_searches(dice, folder, settings, alone[1])
         yield from faults_of_parts(dice, folder, settings, alone)

@@ -21,6 +21,21 @@ CHECKS = [
     "ended",
     "nofault",
 ]
+NAMES = ["x", "turn", "flag[0]", "r1", "last*", "sixteen-letters.", "seventeen-letters"]
+COMMENTS = [
+    "# register {register}: {name}",
+    "   #  register   {register}:   {name} ",
+    "# register 0{register}: {name}",
+    "# register {register}: two words",
+    "# process 0: {name}",
+    "# expect: holds",
+    "# expect: fails check distinct",
+    "# with: --length 5",
+    "#line {line}",
+    '#line {line} "made.m4"',
+    '#line {line} "two words.m4"',
+    "",
+]
 SETTINGS = {"length": 64, "crashes": 8, "workers": 16, "cut": 16, "room": 65536}
 
 
@@ -68,6 +83,23 @@ def source(dice):
     return "".join(f"{line}\n" for line in lines).encode()
 
 
+def comment(dice):
+    """A comment line as a drawing, an explanation or a script reads one, or nearly so; half name a register."""
+    return dice.choices(COMMENTS, [len(COMMENTS), *[1] * (len(COMMENTS) - 1)])[0].format(
+        register=dice.choice([0, 0, 1, 1, 2, 11, 64]),
+        name=dice.choice(NAMES),
+        line=dice.choice([0, 1, 70, 1000000000, 1000000001]),
+    )
+
+
+def commented(dice):
+    """A source that is mostly accepted, mostly with some comment lines, wherever they may stand."""
+    lines = source(dice).splitlines(keepends=True)
+    for _ in range(dice.choice([0, 2, 4, 8])):
+        lines.insert(dice.randint(0, len(lines)), f"{comment(dice)}\n".encode())
+    return b"".join(lines)
+
+
 def lines_of_words(dice):
     """Lines of words that the language has, and some that it has not."""
     words = sorted(
@@ -82,7 +114,7 @@ def lines_of_words(dice):
 
 def changed(dice):
     """A source cut off, or with some bytes changed."""
-    text = bytearray(source(dice))
+    text = bytearray(commented(dice))
     if dice.random() < 0.5:
         return bytes(text[: dice.randrange(len(text) + 1)])
     for _ in range(dice.randint(1, 3)):
@@ -93,7 +125,7 @@ def changed(dice):
 def file(dice):
     """The bytes of a file."""
     make = dice.choices(
-        [source, changed, lines_of_words, lambda dice: dice.randbytes(dice.randint(0, 200))], [6, 2, 1, 1]
+        [commented, changed, lines_of_words, lambda dice: dice.randbytes(dice.randint(0, 200))], [6, 2, 1, 1]
     )[0]
     return make(dice)
 

@@ -38,5 +38,7 @@ def drawn_fault(folder, schedule, outcome):
     if status != 0 or not lines or lines[-1].split() != outcome.replace(b";", b"").split():
         yield f"the failing schedule {schedule} is drawn to {out[-80:]!r}"
     places = 80 if outcome.count(b";") < 2 else 132
-    if any(line.endswith(b" ") or len(line) > places and b" r" in lines[0] for line in lines):
+    # Two spaces part columns. The last head is that of a register, one word, or else that of a process.
+    has_register = b" " not in b"".join(lines[:1]).rpartition(b"  ")[2]
+    if any(line.endswith(b" ") or len(line) > places and has_register for line in lines):
         yield f"the failing schedule {schedule} is drawn as {out!r}"
