@@ -1,7 +1,5 @@
-use Rattle.std.proofs.Common.{map, ◌≡◌, sym, ◌∙◌}
+use Rattle.std.proofs.Common.{sym, ◌∙◌}
 use Rattle.reglang.specs.Sources.{contents_of}
-use Rattle.explorer.proofs.GrownLists.{All-before}
-use Rattle.cli.specs.Understanding.{resumed_of_all}
 use Rattle.cli.proofs.searches.discovered.Goals as goal
 
 pub returns-clause-found : goal.returns-clause-found
