@@ -1,7 +1,7 @@
 //! What no run of the program shows: writers that take nothing or pass nothing on, and what the
 //! words ask for.
 
-ghost use Rattle.std.specs.Prelude.{◌≡◌, Some, false};
+ghost use Rattle.std.specs.Prelude.{◌≡◌, Some};
 
 use cli::{FileFault, Opener, Output, Refusal, Request, Task, Watched, command, perform};
 use std::alloc::Global;
@@ -123,22 +123,6 @@ impl Write for Left {
     }
 }
 
-impl Output for Closed {
-    ghost gone = { λ _. false };
-
-    fn has_gone(&self) -> bool {
-        false
-    }
-}
-
-impl Output for Stuck {
-    ghost gone = { λ _. false };
-
-    fn has_gone(&self) -> bool {
-        false
-    }
-}
-
 /// The list of these words.
 fn list_of(alloc: Global, words: Words) -> Result<Vec<&'static str>, Refusal> {
     let mut list = Vec::new(alloc);
@@ -180,8 +164,9 @@ fn assert_fault_told<H: Abort + Threads + Wait + Sync + AllocGlobal, W: Output>(
 #[test]
 fn output_that_is_not_taken_is_a_write_fault(rt: HostRuntime) {
     for words in PRINTING {
-        assert_fault_told(&rt, words, &mut Closed);
-        let status = asked(&rt, words, WRITER_AND_READER, &mut Closed, &mut Closed);
+        assert_fault_told(&rt, words, &mut Watched::new(Closed));
+        let out = &mut Watched::new(Closed);
+        let status = asked(&rt, words, WRITER_AND_READER, out, &mut Closed);
         assert!(rt; status == 3);
     }
 }
@@ -189,7 +174,7 @@ fn output_that_is_not_taken_is_a_write_fault(rt: HostRuntime) {
 #[test]
 fn output_that_is_not_passed_on_is_a_write_fault(rt: HostRuntime) {
     for words in PRINTING {
-        assert_fault_told(&rt, words, &mut Stuck);
+        assert_fault_told(&rt, words, &mut Watched::new(Stuck));
     }
 }
 
@@ -208,7 +193,7 @@ fn a_version_and_merged_parts_that_are_not_passed_on_are_write_faults(rt: HostRu
     for (first, line) in BESIDES {
         let mut err = Vec::new(rt.alloc());
         let words = Words { first, last: None };
-        let status = asked(&rt, words, PART, &mut Stuck, &mut err);
+        let status = asked(&rt, words, PART, &mut Watched::new(Stuck), &mut err);
         assert!(rt; (status, err.as_slice()) == (3, line));
     }
 }
