@@ -11,6 +11,12 @@ def err_of_each(err):
     return err + b"none.reg: there is no such file\n" + err.replace(b"case.reg:", b"-:", 1)
 
 
+def out_of_input(out):
+    """What is told on standard output of the case's file, as it is told of standard input: the command that draws names a file that is wanted."""
+    wanted = rb"\1FILE\2, where FILE holds what was read\n"
+    return re.sub(rb"(\nregtry show )case\.reg( '[^']*')\n", wanted, out).replace(b"case.reg", b"-")
+
+
 def line_of_all(status):
     """The last line of three files, of which two have this status and the other one is refused."""
     words = {0: b"2 hold, 1 refused", 1: b"2 fail, 1 refused", 2: b"3 refused", 3: b"1 refused, 2 unanswered"}
@@ -43,7 +49,7 @@ def checked_fault(dice, folder, settings, alone):
     yield from faults_of(strict)
     given = (folder / "case.reg").read_bytes()
     status, out, err = run(folder, [*check, "none.reg", "-"], given)
-    out_of_each = strict[1] + strict[1].replace(b"case.reg", b"-") + line_of_all(strict[0])
+    out_of_each = strict[1] + out_of_input(strict[1]) + line_of_all(strict[0])
     alike = (out, err) == (out_of_each, err_of_each(strict[2]))
     if status != max(2, strict[0]) or not alike:
         yield f"a check of three files answers {status, out, err}, and of one {strict}"
