@@ -149,7 +149,8 @@ keyword_line key more =
     if not (list_all is_known more) then Err UnknownWord else
     (if list_any is_no_number more then Err NoNumber else or_fault NoForm (form_of key more))
 
--- what words say: nothing where there are none, or the first begins a comment
+-- what words say: nothing where there are none, or the first begins a comment; a check that has no
+-- clause is a line, too, but one that no source has
 abbrev pub line_of : List Word → Result (Option Line) LineFault
 line_of [] = Ok None
 line_of (word.Comment ∷ more) = Ok None

@@ -91,8 +91,8 @@ pub record LinesSay (source : Contents) (lines : List Line) : Type 0 where
   pub processes : processes_in parts ≡ source.processes
   pub clauses : clauses_in parts ≡ source.clauses
 
--- each line of the text has its form, those that are not skipped say the source, and it is within
--- the limits
+-- each line of the text has its form, those that are neither empty nor comments say the source, and
+-- it is within the limits
 pub record Spells (text : List ℕ) (source : Contents) : Type 0 where
   pub formed : All (λ line. IsOk (read_line line)) (lines text)
   pub says : LinesSay source (lines_said (lines text))

@@ -65,7 +65,8 @@ emit env v replies =
     if nat_lt (length env.emitted) MOST_NUMBERS then GoesOn (record env { emitted = env.emitted ++ v ∷ [] }) replies
     else Faults TOO_MANY_NUMBERS
 
--- a block over so many registers, from an environment, on a list of replies
+-- a block over so many registers, from an environment, on a list of replies; each fault of a
+-- statement comes before the access that it wants
 abbrev pub exec : Block → ℕ → Env → Replies → Flow
 exec Stop registers env replies = GoesOn env replies
 exec (Assign to value rest) registers env replies =
@@ -94,6 +95,6 @@ flow_pending (Wants a) = pending.Wants a
 flow_pending (Ends numbers) = pending.Done (record { items = numbers })
 flow_pending (Faults code) = pending.Fault code
 
--- what a program does from its start on these replies
+-- how a program stands that got these replies: it wants an access, is done, or is at fault
 abbrev pub act_of : Program → Replies → Pending
 act_of program replies = flow_pending (exec program.body program.registers start_env replies)

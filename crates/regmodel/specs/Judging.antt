@@ -49,7 +49,8 @@ is_running end = elim end.fate [ Done numbers ↦ false | Fault code ↦ false |
 abbrev pub is_faulty : ProcEnd → Bool
 is_faulty end = elim end.fate [ Done numbers ↦ false | Fault code ↦ true | Crashed ↦ false | Running ↦ false ]
 
--- whether an outcome meets a clause
+-- whether an outcome meets a clause, where k processes took a step: adaptive, each name is 1 to
+-- 2k - 1; triangle, 1 to k(k + 1)/2; a process without a name breaks none of the first five
 abbrev pub meets : Clause → List ProcEnd → Bool
 meets Distinct ends = are_different (names ends)
 meets (AtMost name count) ends = nat_le (count_by (λ m. m == name) (names ends)) count
@@ -60,7 +61,7 @@ meets SelfSeen ends = see_themselves 0 ends
 meets Ended ends = not (list_any is_running ends)
 meets NoFault ends = not (list_any is_faulty ends)
 
--- the processes of which a clause speaks, where an outcome may have none of them
+-- the processes without which a clause asks nothing of an outcome; none where it speaks of all
 abbrev pub subject_of : Clause → Option Subject
 subject_of Distinct = Some subject.Named
 subject_of (AtMost name count) = Some subject.Named

@@ -4,7 +4,8 @@ use Rattle.regmodel.specs.declared.statements.Target.{Target}
 use Rattle.regmodel.specs.declared.statements.Operand.{Operand}
 use Rattle.regmodel.specs.declared.statements.Expr.{Expr}
 
--- statements, each with the rest of its block
+-- statements, each with the rest of its block; `Stop` is no statement but the end of a block, after
+-- which the program goes on, and `Halt` is the end of the process
 pub data Block : Type 0 where
   Stop : Block
   Assign : (to : Target) (value : Expr) (rest : Block) → Block
