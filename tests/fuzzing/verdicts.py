@@ -12,7 +12,7 @@ def err_of_each(err):
 
 
 def out_of_input(out):
-    """What is told on standard output of the case's file, as it is told of standard input: the command that draws names a file that is wanted."""
+    """What is told of the case's file, as it is told of standard input: the command names a file that is wanted."""
     wanted = rb"\1FILE\2, where FILE holds what was read\n"
     return re.sub(rb"(\nregtry show )case\.reg( '[^']*')\n", wanted, out).replace(b"case.reg", b"-")
 

@@ -26,7 +26,8 @@ use Rattle.drawing.specs.declared.drawings.Row.{Row}
 use Rattle.drawing.specs.Registers.{all_held}
 use Rattle.drawing.specs.Stops.{statement_after, stops_after}
 
--- what registers hold before the first letter, a row a letter, how each process stands after the last, and where it stops then
+-- what registers hold before the first letter, a row a letter, how each process stands after the
+-- last, and where it stops then
 pub record Picture : Type 0 where
   pub start : List Held
   pub rows : List Row

@@ -1,5 +1,5 @@
 -- On which line of a text a process has a statement.
-use Rattle.std.specs.Prelude.{ℕ, suc, ◌+◌, ◌==◌, ◌&&◌, Bool, true, false, if◌then◌else◌, List, [], ◌∷◌, ◌++◌, Option, Some, None, Result, Ok, slice_get}
+use Rattle.std.specs.Prelude.{ℕ, suc, ◌+◌, ◌==◌, ◌&&◌, Bool, true, false, if◌then◌else◌, List, [], ◌∷◌, ◌++◌, Option, Some, Result, Ok, slice_get}
 use Rattle.reglang.specs.Forms.{read_line}
 use Rattle.reglang.specs.Lines.{lines}
 use Rattle.reglang.specs.declared.arguments.Line.{Line}

@@ -69,7 +69,8 @@ at_a_cell_that_is_not_there = refl
 pub at_a_count_too_large : stops_at is_at_fault (one 31 ∷ []) ≡ at_fault 3 (Turns 100)
 at_a_count_too_large = refl
 
--- ---- 0 reads a value, 1 writes what it makes of it into the register with that number, of which there are three
+-- ---- 0 reads a value, 1 writes what it makes of it into the register with that number, of which
+-- there are three
 abbrev pub writes_where_it_read : Program
 writes_where_it_read = record {
   registers = 3;

@@ -10,7 +10,8 @@ use Rattle.regmodel.specs.Program.{Block, Program, Stop, Assign, Read, Write, Sc
 use Rattle.machine.specs.Culprits.{culprit_of}
 use Rattle.machine.specs.declared.stops.Stopped.{Stopped}
 
--- where a block over so many registers stops if it does at its first statement, which has this number, and what is out of range there
+-- where a block over so many registers stops if it does at its first statement, which has this
+-- number, and what is out of range there
 abbrev pub stopped_at : Block → (registers number : ℕ) → Env → Stopped
 stopped_at block registers number env = record { at = number; culprit = culprit_of block registers env }
 
@@ -37,7 +38,8 @@ abbrev pub in_repeat : Result ℕ ℕ → Option Stopped → (ℕ → Option Sto
 in_repeat (Ok count) at turns = if nat_lt MOST_TURNS count then at else turns count
 in_repeat (Err code) at turns = at
 
--- where a block over so many registers stops, whose first statement has this number; None where it goes on past its last one
+-- where a block over so many registers stops, whose first statement has this number; None where it
+-- goes on past its last one
 abbrev pub stops_in : Block → (registers number : ℕ) → Env → Replies → Option Stopped
 stops_in Stop registers number env replies = None
 stops_in (Assign to value rest) registers number env replies =
@@ -68,7 +70,7 @@ stops_in (Emit value rest) registers number env replies =
     (Some (stopped_at (Emit value Stop) registers number env)) (stops_in rest registers (number + 1))
 stops_in (Halt rest) registers number env replies = Some (stopped_at (Halt Stop) registers number env)
 
--- where a program stops on these replies: at the statement that wants an access, halts or is at fault, counted from 0; None where
--- it goes on past its last one
+-- where a program stops on these replies: at the statement that wants an access, halts or is at
+-- fault, counted from 0; None where it goes on past its last one
 abbrev pub stops_at : Program → Replies → Option Stopped
 stops_at program replies = stops_in program.body program.registers 0 start_env replies
