@@ -1,6 +1,7 @@
 pub mod BlockEnds
 pub mod Blocks
 pub mod CellLists
+pub mod ForgottenTargets
 pub mod KeptStates
 pub mod NumberedBlocks
 pub mod PaddedValues

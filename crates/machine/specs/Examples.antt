@@ -7,7 +7,7 @@ use Rattle.regmodel.specs.declared.statements.Operand.TheVariants as operand
 use Rattle.regmodel.specs.declared.statements.Target.TheVariants as target
 use Rattle.regmodel.specs.Program.{Program, Stop, Read, Write, Repeat, Emit}
 use Rattle.regmodel.specs.Reply.{one}
-use Rattle.regmodel.specs.Values.{start_env}
+use Rattle.regmodel.specs.Values.{InVar, start_env, store}
 use Rattle.machine.specs.declared.run.BlockExit.TheVariants as block
 use Rattle.machine.specs.declared.run.Frame.{Frame}
 use Rattle.machine.specs.declared.run.Part.TheVariants.{Reading, Writing, Turn}
@@ -15,6 +15,7 @@ use Rattle.machine.specs.declared.values.Place.TheVariants as place
 use Rattle.machine.specs.declared.values.Store.{Store}
 use Rattle.machine.specs.declared.states.Kept.{Kept}
 use Rattle.machine.specs.Rest.{Asks, from_place, rest_from}
+use Rattle.machine.specs.Forgetting.{forgotten}
 use Rattle.machine.specs.Keeping.{IsStart, LeadsTo, state_at}
 use Rattle.machine.specs.Sparse.{past_sparse, sparse, spread}
 use Rattle.machine.specs.Standings.{access_numbers, resumed_by}
@@ -39,6 +40,10 @@ the_read_is_wanted = refl
 pub its_reply_is_emitted : from_place write_and_read at_the_read start_env (one 7 ∷ []) ≡ pending.Done (record { items = 7 ∷ [] })
 its_reply_is_emitted = refl
 
+-- what variable 0 holds at the read is overwritten by its reply
+pub it_is_forgotten : forgotten at_the_read (store start_env (InVar 0) 9) ≡ start_env
+it_is_forgotten = refl
+
 -- ---- three turns of a write
 abbrev pub three_writes : Program
 three_writes = record { registers = 1; body = Repeat (One (operand.Number 3)) (Write (operand.Number 0) (One (operand.Number 5)) Stop) Stop }
@@ -46,6 +51,9 @@ three_writes = record { registers = 1; body = Repeat (One (operand.Number 3)) (W
 -- a frame for the turn, after which one is left, and one for the write in it
 abbrev pub in_the_second_turn : List Frame
 in_the_second_turn = record { at = 0; part = Turn 1 } ∷ record { at = 0; part = Writing 0 5 } ∷ []
+
+pub a_write_forgets_nothing : forgotten in_the_second_turn (store start_env (InVar 0) 9) ≡ store start_env (InVar 0) 9
+a_write_forgets_nothing = refl
 
 pub one_more_write : from_place three_writes in_the_second_turn start_env (one 0 ∷ []) ≡ pending.Wants (access.Write 0 5)
 one_more_write = refl

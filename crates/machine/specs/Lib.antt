@@ -3,6 +3,7 @@ mod Culprits
 pub mod Examples
 pub mod Exits
 pub mod Following
+pub mod Forgetting
 pub mod Interps
 pub mod Keeping
 pub mod Paths
