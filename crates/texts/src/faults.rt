@@ -1,4 +1,4 @@
-//! Why a text was not written whole.
+//! Why a text was not written whole, or not read.
 
 use thiserror::Error;
 
@@ -16,3 +16,8 @@ pub struct WriteFault {
     /// `ANSWERED_ERROR` or `TOOK_NO_BYTE`.
     pub code: u8,
 }
+
+/// A byte of a text could not be read: the reader answered an error.
+#[derive(Clone, Copy, PartialEq, Eq, Debug, Error)]
+#[error("the text could not be read")]
+pub struct ReadFault;

@@ -1,4 +1,5 @@
-//! Texts: what can be written as one, its parts, and blocks in which it goes to a writer.
+//! Texts: what can be written as one, its parts, blocks in which it goes to a writer, and what
+//! gives its bytes where it is read.
 #![tactic(auto)]
 
 mod blocks;
@@ -6,13 +7,15 @@ mod faults;
 mod numbers;
 mod outcomes;
 mod parts;
+mod readers;
 mod rows;
 mod schedules;
 mod texts;
 
 pub use blocks::Block;
-pub use faults::{ANSWERED_ERROR, TOOK_NO_BYTE, WriteFault};
+pub use faults::{ANSWERED_ERROR, ReadFault, TOOK_NO_BYTE, WriteFault};
 pub use numbers::NumberLine;
 pub use outcomes::OutcomeLine;
+pub use readers::ByteReader;
 pub use rows::{Joined, Led};
 pub use texts::{Text, write};
