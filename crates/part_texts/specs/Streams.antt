@@ -7,11 +7,11 @@ use Rattle.part_texts.specs.declared.streams.TheConstants.{MOST_LINE_BYTES}
 
 -- the bytes that its reader has left, where they are known
 abbrev pub left_of : {R : Type 0} → (R → Option (List ℕ)) → PartStream R → Option (List ℕ)
-left_of remaining stream = remaining stream.reader
+left_of left stream = left stream.reader
 
 -- a text of this kind was read
 abbrev pub Reads : {R X : Type 0} → (R → Option (List ℕ)) → (X → List ℕ) → PartStream R → PartStream R → X → Type 0
-Reads remaining text old new x = Consumes (left_of remaining old) (left_of remaining new) (text x)
+Reads left text old new x = Consumes (left_of left old) (left_of left new) (text x)
 
 -- a line with its line feed
 abbrev pub line_text : List ℕ → List ℕ

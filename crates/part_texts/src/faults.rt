@@ -1,5 +1,9 @@
 //! Why no part was read.
 
+ghost use Rattle.std.specs.Prelude.{◌≡◌};
+ghost use Rattle.part_texts.specs.declared.faults.Cause.TheVariants.{Unreadable};
+
+use texts::ReadFault;
 use thiserror::Error;
 
 /// What is wrong with a line.
@@ -26,6 +30,14 @@ pub enum Cause {
     /// The reader answered an error.
     #[error("the text could not be read")]
     Unreadable,
+}
+
+impl From<ReadFault> for Cause {
+    ghost from_gives = { λ _ cause. cause ≡ Unreadable };
+
+    fn from(_fault: ReadFault) -> Cause {
+        Cause::Unreadable
+    }
 }
 
 /// No part was read, because of a line.

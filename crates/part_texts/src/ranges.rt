@@ -1,8 +1,9 @@
 //! Numbers within their ranges. No call takes memory.
 
-ghost use Rattle.std.specs.Prelude.{◌≡◌, ◌<◌, ◌≤◌, ◌^◌, IfOk, IsOk};
+ghost use Rattle.std.specs.Prelude.{◌≡◌, ◌<◌, ◌≤◌, ◌^◌, IfErr, IfOk, IsOk};
 ghost use Rattle.regmodel.specs.declared.limits.TheConstants.{GREATEST_CUT, MOST_CRASHES, MOST_LETTERS};
 ghost use Rattle.report.specs.declared.parts.TheConstants.{MOST_PARTS};
+ghost use Rattle.part_texts.specs.declared.faults.Cause.TheVariants.{OutOfRange};
 
 use crate::faults::Cause;
 use regmodel::Settings;
@@ -12,6 +13,7 @@ use report::Part;
 pub(crate) fn narrow(number: u64) -> Result<u32, Cause>
     ensures value { IfOk result (λ n. n ≡ number) }
     ensures fits { number < 2 ^ 32 → IsOk result }
+    ensures err { IfErr result (λ cause. cause ≡ OutOfRange) }
 {
     u32::try_from(number).map_err(|_| Cause::OutOfRange)
 }
@@ -21,6 +23,7 @@ pub(crate) fn part_of(number: u64, count: u64) -> Result<Part, Cause>
     ensures number { IfOk result (λ part. part.number ≡ number) }
     ensures count { IfOk result (λ part. part.count ≡ count) }
     ensures fits { 1 ≤ number → number ≤ count → count ≤ MOST_PARTS → IsOk result }
+    ensures err { IfErr result (λ cause. cause ≡ OutOfRange) }
 {
     Part::new(narrow(number)?, narrow(count)?).ok_or(Cause::OutOfRange)
 }
@@ -32,6 +35,7 @@ pub(crate) fn settings_of(length: u64, crashes: u64, cut: u64) -> Result<Setting
     ensures cut { IfOk result (λ s. s.cut ≡ cut) }
     ensures fits { length ≤ MOST_LETTERS → crashes ≤ MOST_CRASHES → cut ≤ GREATEST_CUT
         → IsOk result }
+    ensures err { IfErr result (λ cause. cause ≡ OutOfRange) }
 {
     Settings::new(narrow(length)?, narrow(crashes)?, 1, narrow(cut)?, 0).map_err(
         |_| Cause::OutOfRange,

@@ -6,21 +6,21 @@ use crate::lines::{after, number_after, outcome_after, part_in};
 use crate::parts::{Found, PartReport};
 use crate::ranges::{narrow, part_of, settings_of};
 use crate::rising::comes_last;
-use crate::streams::{PartStream, next_byte};
+use crate::streams::PartStream;
 use regmodel::limits::MOST_SOURCE_BYTES;
 use regmodel::{Outcome, Prefix, Settings, read_schedule};
 use std::alloc::Global;
-use std::io::BufRead;
 use tallies::Partial;
+use texts::ByteReader;
 
-impl<R: BufRead> PartStream<R> {
+impl<R: ByteReader> PartStream<R> {
     ghost use Rattle.std.specs.Prelude.{◌≡◌, ◌++◌, ◌^◌, ◌<◌, ◌≤◌, ℕ, [], IfErr, IfOk, List, OnOk, Some, length};
     ghost use Rattle.std.specs.Io.KnownBytes.{Consumes};
     ghost use Rattle.regmodel.specs.declared.limits.TheConstants.{MOST_SOURCE_BYTES};
     ghost use Rattle.report.specs.ReportText.{least_text};
     ghost use Rattle.texts.specs.NumberText.{number_line};
     ghost use Rattle.part_texts.specs.declared.faults.Cause.TheVariants.{Unreadable};
-    ghost use Rattle.part_texts.specs.Causes.{IsOutward, IsOutwardAt, IsOutwardBehind};
+    ghost use Rattle.part_texts.specs.Causes.{IsOutward, IsOutwardAt, IsOutwardBehind, IsUnreadOnlyIf};
     ghost use Rattle.part_texts.specs.FitsPart.{FitsFound, FitsLeast, FitsNumber, FitsOutcome, FitsOutcomeBehind, FitsOutcomes, FitsPart, IsProcessCount};
     ghost use Rattle.part_texts.specs.NextParts.{IsNextPart};
     ghost use Rattle.part_texts.specs.PlainHead.{FitsHead};
@@ -29,16 +29,17 @@ impl<R: BufRead> PartStream<R> {
 
     /// The next part; None where nothing is left. An error names the line at fault, and says
     /// what is wrong with it, that a request for memory was refused, or that the reader
-    /// answered an error. Where what is left begins with the text of a part, it is one of the
-    /// last two; where nothing is left, it is the last one. After an error the stream stands in
-    /// the midst of a text.
+    /// answered an error, as only one of a type that may fail does. Where what is left begins
+    /// with the text of a part, it is one of the last two; where nothing is left, it is the last
+    /// one. After an error the stream stands in the midst of a text.
     pub fn next_part(&mut self, alloc: Global) -> Result<Option<PartReport>, BadPart>
         ensures next { IfOk result
-            (IsNextPart (left_of R.remaining self.old) (left_of R.remaining self.new)) }
+            (IsNextPart (left_of R.left self.old) (left_of R.left self.new)) }
         ensures err { IfErr result
-            (λ bad. left_of R.remaining self.old ≡ Some [] → bad.cause ≡ Unreadable) }
+            (λ bad. left_of R.left self.old ≡ Some [] → bad.cause ≡ Unreadable) }
         ensures whole { IfErr result
-            (λ bad. IsOutwardAt FitsPart part_text (left_of R.remaining self.old) bad.cause) }
+            (λ bad. IsOutwardAt FitsPart part_text (left_of R.left self.old) bad.cause) }
+        ensures unread { IfErr result (λ bad. IsUnreadOnlyIf R.may_fail bad.cause) }
         ensures line { IfErr result (λ bad. bad.line ≡ self.new.number) }
     {
         match self.next_line() {
@@ -63,12 +64,13 @@ impl<R: BufRead> PartStream<R> {
     /// The part whose first line is read.
     fn part(&mut self, alloc: Global) -> Result<PartReport, Cause>
         ensures text { IfOk result
-            (λ part. ReadsOn (left_of R.remaining self.old) (left_of R.remaining self.new)
+            (λ part. ReadsOn (left_of R.left self.old) (left_of R.left self.new)
             self.old.line.items (part_text part)) }
         ensures fits { IfOk result FitsPart }
         ensures whole { IfErr result
-            (IsOutwardBehind FitsPart part_text (left_of R.remaining self.old)
+            (IsOutwardBehind FitsPart part_text (left_of R.left self.old)
             self.old.line.items) }
+        ensures unread { IfErr result (IsUnreadOnlyIf R.may_fail) }
     {
         let head = self.head(alloc)?;
         let found = self.found(alloc, head.processes())?;
@@ -79,9 +81,10 @@ impl<R: BufRead> PartStream<R> {
     /// Reads the last line of a part.
     fn end(&mut self) -> Result<(), Cause>
         ensures text { OnOk result
-            (Consumes (left_of R.remaining self.old) (left_of R.remaining self.new) end_text) }
+            (Consumes (left_of R.left self.old) (left_of R.left self.new) end_text) }
         ensures whole { IfErr result (λ cause. (rest : List ℕ)
-            → left_of R.remaining self.old ≡ Some (end_text ++ rest) → IsOutward cause) }
+            → left_of R.left self.old ≡ Some (end_text ++ rest) → IsOutward cause) }
+        ensures unread { IfErr result (IsUnreadOnlyIf R.may_fail) }
     {
         self.wanted_line()?;
         if self.line.as_slice() == b"end".as_slice() {
@@ -94,12 +97,13 @@ impl<R: BufRead> PartStream<R> {
     /// The head whose first line is read.
     fn head(&mut self, alloc: Global) -> Result<PartHead, Cause>
         ensures text { IfOk result
-            (λ head. ReadsOn (left_of R.remaining self.old) (left_of R.remaining self.new)
+            (λ head. ReadsOn (left_of R.left self.old) (left_of R.left self.new)
             self.old.line.items (head_text head)) }
         ensures fits { IfOk result FitsHead }
         ensures whole { IfErr result
-            (IsOutwardBehind FitsHead head_text (left_of R.remaining self.old)
+            (IsOutwardBehind FitsHead head_text (left_of R.left self.old)
             self.old.line.items) }
+        ensures unread { IfErr result (IsUnreadOnlyIf R.may_fail) }
     {
         let (number, count) = part_in(self.line.as_slice()).ok_or(Cause::Other)?;
         let part = part_of(number, count)?;
@@ -114,14 +118,15 @@ impl<R: BufRead> PartStream<R> {
     /// How many processes there are, and how far is explored.
     fn bounds(&mut self) -> Result<(u32, Settings), Cause>
         ensures text { IfOk result
-            (λ (processes, settings). Consumes (left_of R.remaining self.old)
-            (left_of R.remaining self.new)
+            (λ (processes, settings). Consumes (left_of R.left self.old)
+            (left_of R.left self.new)
             (bounds_text processes settings.length settings.crashes settings.cut)) }
         ensures small { IfOk result
             (λ (processes, settings). (processes < 2 ^ 64) × (settings.length < 2 ^ 64)
             × (settings.crashes < 2 ^ 64) × (settings.cut < 2 ^ 64)) }
         ensures whole { IfErr result
-            (IsOutwardAt FitsHead bounds_in (left_of R.remaining self.old)) }
+            (IsOutwardAt FitsHead bounds_in (left_of R.left self.old)) }
+        ensures unread { IfErr result (IsUnreadOnlyIf R.may_fail) }
     {
         let processes = self.number_behind(b"processes")?;
         let length = self.number_behind(b"length")?;
@@ -133,10 +138,11 @@ impl<R: BufRead> PartStream<R> {
     /// The number behind a word on the next line.
     fn number_behind(&mut self, word: &[u8]) -> Result<u64, Cause>
         ensures text { IfOk result
-            (Reads R.remaining (number_line word.now) self.old self.new) }
+            (Reads R.left (number_line word.now) self.old self.new) }
         ensures whole { IfErr result
             (IsOutwardAt (FitsNumber word.now) (number_line word.now)
-            (left_of R.remaining self.old)) }
+            (left_of R.left self.old)) }
+        ensures unread { IfErr result (IsUnreadOnlyIf R.may_fail) }
     {
         self.wanted_line()?;
         number_after(self.line.as_slice(), word).ok_or(Cause::Other)
@@ -145,11 +151,12 @@ impl<R: BufRead> PartStream<R> {
     /// The source, behind a line with the number of its bytes.
     fn source(&mut self, alloc: Global) -> Result<Vec<u8>, Cause>
         ensures text { IfOk result
-            (λ source. Reads R.remaining source_text self.old self.new source.items) }
+            (λ source. Reads R.left source_text self.old self.new source.items) }
         ensures few { IfOk result (λ source. length source.items ≤ MOST_SOURCE_BYTES) }
         ensures whole { IfErr result
             (IsOutwardAt (λ source. length source ≤ MOST_SOURCE_BYTES) source_text
-            (left_of R.remaining self.old)) }
+            (left_of R.left self.old)) }
+        ensures unread { IfErr result (IsUnreadOnlyIf R.may_fail) }
     {
         let count = self.number_behind(b"source")?;
         if count > MOST_SOURCE_BYTES as u64 {
@@ -161,15 +168,16 @@ impl<R: BufRead> PartStream<R> {
     /// So many bytes.
     fn bytes(&mut self, alloc: Global, count: usize) -> Result<Vec<u8>, Cause>
         ensures text { IfOk result
-            (λ bytes. Consumes (left_of R.remaining self.old) (left_of R.remaining self.new)
+            (λ bytes. Consumes (left_of R.left self.old) (left_of R.left self.new)
             bytes.items) }
         ensures count { IfOk result (λ bytes. length bytes.items ≡ count) }
         ensures whole { IfErr result (λ cause. (text : List ℕ) → count ≤ length text
-            → left_of R.remaining self.old ≡ Some text → IsOutward cause) }
+            → left_of R.left self.old ≡ Some text → IsOutward cause) }
+        ensures unread { IfErr result (IsUnreadOnlyIf R.may_fail) }
     {
         let mut bytes = Vec::with_capacity(alloc, count).map_err(|_| Cause::NoMemory)?;
         for _ in 0..count {
-            let byte = next_byte(&mut self.reader)?.ok_or(Cause::Unfinished)?;
+            let byte = self.reader.next_byte()?.ok_or(Cause::Unfinished)?;
             if byte == b'\n' {
                 self.number = self.number.saturating_add(1);
             }
@@ -180,10 +188,11 @@ impl<R: BufRead> PartStream<R> {
 
     /// What was found: all, or the least failing schedule alone.
     fn found(&mut self, alloc: Global, processes: u32) -> Result<Found, Cause>
-        ensures text { IfOk result (Reads R.remaining found_text self.old self.new) }
+        ensures text { IfOk result (Reads R.left found_text self.old self.new) }
         ensures fits { IfOk result (FitsFound processes) }
         ensures whole { IsProcessCount processes → IfErr result
-            (IsOutwardAt (FitsFound processes) found_text (left_of R.remaining self.old)) }
+            (IsOutwardAt (FitsFound processes) found_text (left_of R.left self.old)) }
+        ensures unread { IfErr result (IsUnreadOnlyIf R.may_fail) }
     {
         self.wanted_line()?;
         let Some(tried) = number_after(self.line.as_slice(), b"tried") else {
@@ -198,10 +207,11 @@ impl<R: BufRead> PartStream<R> {
     /// The outcomes, rising, behind a line with their number.
     fn outcomes(&mut self, alloc: Global, processes: u32) -> Result<Vec<Outcome>, Cause>
         ensures text { IfOk result
-            (λ outcomes. Reads R.remaining outcomes_text self.old self.new outcomes.items) }
+            (λ outcomes. Reads R.left outcomes_text self.old self.new outcomes.items) }
         ensures fits { IfOk result (λ outcomes. FitsOutcomes processes outcomes.items) }
         ensures whole { IsProcessCount processes → IfErr result
-            (IsOutwardAt (FitsOutcomes processes) outcomes_text (left_of R.remaining self.old)) }
+            (IsOutwardAt (FitsOutcomes processes) outcomes_text (left_of R.left self.old)) }
+        ensures unread { IfErr result (IsUnreadOnlyIf R.may_fail) }
     {
         let count = self.number_behind(b"outcomes")?;
         let mut outcomes = Vec::new(alloc);
@@ -218,11 +228,12 @@ impl<R: BufRead> PartStream<R> {
     /// The outcome of so many processes behind a word on the next line.
     fn outcome_behind(&mut self, word: &[u8], processes: u32) -> Result<Outcome, Cause>
         ensures text { IfOk result
-            (Reads R.remaining (outcome_behind word.now) self.old self.new) }
+            (Reads R.left (outcome_behind word.now) self.old self.new) }
         ensures fits { IfOk result (FitsOutcome processes) }
         ensures whole { IsProcessCount processes → IfErr result
             (IsOutwardAt (FitsOutcomeBehind word.now processes) (outcome_behind word.now)
-            (left_of R.remaining self.old)) }
+            (left_of R.left self.old)) }
+        ensures unread { IfErr result (IsUnreadOnlyIf R.may_fail) }
     {
         self.wanted_line()?;
         outcome_after(self.line.as_slice(), word, processes).ok_or(Cause::Other)
@@ -232,12 +243,13 @@ impl<R: BufRead> PartStream<R> {
     /// None where none fails.
     fn least(&mut self, processes: u32) -> Result<Option<(Prefix, Outcome)>, Cause>
         ensures text { IfOk result
-            (λ least. ReadsOn (left_of R.remaining self.old) (left_of R.remaining self.new)
+            (λ least. ReadsOn (left_of R.left self.old) (left_of R.left self.new)
             self.old.line.items (least_text least)) }
         ensures fits { IfOk result (FitsLeast processes) }
         ensures whole { IsProcessCount processes → IfErr result
-            (IsOutwardBehind (FitsLeast processes) least_text (left_of R.remaining self.old)
+            (IsOutwardBehind (FitsLeast processes) least_text (left_of R.left self.old)
             self.old.line.items) }
+        ensures unread { IfErr result (IsUnreadOnlyIf R.may_fail) }
     {
         let word = after(self.line.as_slice(), b"least ").ok_or(Cause::Other)?;
         if word == b"none".as_slice() {

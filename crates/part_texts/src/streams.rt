@@ -1,13 +1,8 @@
 //! The lines of a stream of parts. No call takes memory.
 
-ghost use Rattle.std.specs.Prelude.{◌≡◌, ◌∷◌, [], IfErr, IfNone, IfOk, IfSome};
-ghost use Rattle.part_texts.specs.declared.faults.Cause.TheVariants.{Unreadable};
-ghost use Rattle.std.specs.Io.KnownBytes.{Consumes, IsAtEnd};
-ghost use Rattle.patterns.specs.Cuts.{has_no};
-
 use crate::faults::Cause;
 use arrayvec::ArrayVec;
-use std::io::BufRead;
+use texts::ByteReader;
 
 /// The most bytes of a line, without its line feed. The longest one, an outcome of 8 processes with
 /// 8 numbers each, has 798.
@@ -23,17 +18,17 @@ pub struct PartStream<R> {
     pub(crate) number: u64,
 }
 
-impl<R: BufRead> PartStream<R> {
+impl<R: ByteReader> PartStream<R> {
     ghost use Rattle.std.specs.Prelude.{◌≡◌, ◌∷◌, [], ◌++◌, IfErr, IfOk, OnOk, Some, true, false};
     ghost use Rattle.part_texts.specs.declared.faults.Cause.TheVariants.{Unreadable};
     ghost use Rattle.std.specs.Io.KnownBytes.{Consumes, IsAtEnd};
     ghost use Rattle.patterns.specs.Cuts.{has_no};
-    ghost use Rattle.part_texts.specs.Causes.{IsOutwardAt};
+    ghost use Rattle.part_texts.specs.Causes.{IsOutwardAt, IsUnreadOnlyIf};
     ghost use Rattle.part_texts.specs.Streams.{FitsLine, left_of, line_text};
 
     /// The parts that this reader tells.
     pub fn new(reader: R) -> PartStream<R>
-        ensures { left_of R.remaining result ≡ R.remaining reader }
+        ensures { left_of R.left result ≡ R.left reader }
     {
         PartStream {
             reader,
@@ -46,22 +41,23 @@ impl<R: BufRead> PartStream<R> {
     /// reader answered one.
     pub(crate) fn next_line(&mut self) -> Result<bool, Cause>
         ensures line { IfOk result (λ there. there ≡ true
-            → Consumes (left_of R.remaining self.old) (left_of R.remaining self.new)
+            → Consumes (left_of R.left self.old) (left_of R.left self.new)
             (self.new.line.items ++ 10 ∷ [])) }
         ensures one { IfOk result (λ there. there ≡ true → has_no 10 self.new.line.items ≡ true) }
         ensures before { IfOk result
-            (λ there. there ≡ false → IsAtEnd (left_of R.remaining self.old)) }
+            (λ there. there ≡ false → IsAtEnd (left_of R.left self.old)) }
         ensures end { IfOk result
-            (λ there. there ≡ false → IsAtEnd (left_of R.remaining self.new)) }
+            (λ there. there ≡ false → IsAtEnd (left_of R.left self.new)) }
         ensures err { IfErr result
-            (λ cause. left_of R.remaining self.old ≡ Some [] → cause ≡ Unreadable) }
+            (λ cause. left_of R.left self.old ≡ Some [] → cause ≡ Unreadable) }
         ensures whole { IfErr result
-            (IsOutwardAt FitsLine line_text (left_of R.remaining self.old)) }
+            (IsOutwardAt FitsLine line_text (left_of R.left self.old)) }
+        ensures unread { IfErr result (IsUnreadOnlyIf R.may_fail) }
     {
         self.number = self.number.saturating_add(1);
         self.line.clear();
         loop {
-            match next_byte(&mut self.reader)? {
+            match self.reader.next_byte()? {
                 Some(b'\n') => return Ok(true),
                 Some(byte) => self.line.try_push(byte).map_err(|_| Cause::LongLine)?,
                 None if self.line.is_empty() => return Ok(false),
@@ -73,32 +69,17 @@ impl<R: BufRead> PartStream<R> {
     /// Reads one line, where the text may not end before it.
     pub(crate) fn wanted_line(&mut self) -> Result<(), Cause>
         ensures line { OnOk result
-            (Consumes (left_of R.remaining self.old) (left_of R.remaining self.new)
+            (Consumes (left_of R.left self.old) (left_of R.left self.new)
             (self.new.line.items ++ 10 ∷ [])) }
         ensures one { OnOk result (has_no 10 self.new.line.items ≡ true) }
         ensures whole { IfErr result
-            (IsOutwardAt FitsLine line_text (left_of R.remaining self.old)) }
+            (IsOutwardAt FitsLine line_text (left_of R.left self.old)) }
+        ensures unread { IfErr result (IsUnreadOnlyIf R.may_fail) }
     {
         if self.next_line()? {
             Ok(())
         } else {
             Err(Cause::Unfinished)
         }
-    }
-}
-
-/// The byte that a reader tells next. None where nothing is left.
-pub(crate) fn next_byte<R: BufRead>(reader: &mut R) -> Result<Option<u8>, Cause>
-    ensures some { IfOk result (λ next. IfSome next
-        (λ byte. Consumes (R.remaining reader.old) (R.remaining reader.new) (byte ∷ []))) }
-    ensures before { IfOk result (λ next. IfNone next (IsAtEnd (R.remaining reader.old))) }
-    ensures end { IfOk result (λ next. IfNone next (IsAtEnd (R.remaining reader.new))) }
-    ensures err { IfErr result (λ cause. cause ≡ Unreadable) }
-{
-    let mut one = [0u8; 1];
-    match reader.read(&mut one) {
-        Ok(0) => Ok(None),
-        Ok(_) => Ok(Some(one[0])),
-        Err(_) => Err(Cause::Unreadable),
     }
 }

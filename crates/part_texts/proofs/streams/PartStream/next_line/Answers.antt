@@ -10,7 +10,7 @@ pub loop-byte-preserved : goal.loop-byte-preserved
 loop-byte-preserved g c =
     let kept = c.loop-byte.invariant in
     let pushed : c.try_push.new.self.items ≡ c.loop-byte.self.line.items ++ c.in-Some.byte ∷ [] = search rules in
-    let read : Consumes (g.R.Read.remaining c.loop-byte.self.reader) (g.R.Read.remaining c.next_byte.new.reader) (c.in-Some.byte ∷ []) = search rules in
+    let read : Consumes (g.R.ByteReader.left c.loop-byte.self.reader) (g.R.ByteReader.left c.next_byte.new.self) (c.in-Some.byte ∷ []) = search rules in
     let other : eqb c.in-Some.byte 10 ≡ false = search rules in
     record {
       taken = rw pushed (Consumes-trans _ _ _ _ _ kept.taken read);
@@ -21,7 +21,7 @@ pub returns-in_err-map_err-in-Some-clause-whole : goal.returns-in_err-map_err-in
 returns-in_err-map_err-in-Some-clause-whole g c =
     let kept = c.loop-byte.invariant in
     let full : length c.loop-byte.self.line.items ≡ 1024 = search rules in
-    let read : Consumes (g.R.Read.remaining c.loop-byte.self.reader) (g.R.Read.remaining c.next_byte.new.reader) (c.in-Some.byte ∷ []) = search rules in
+    let read : Consumes (g.R.ByteReader.left c.loop-byte.self.reader) (g.R.ByteReader.left c.next_byte.new.self) (c.in-Some.byte ∷ []) = search rules in
     let other : eqb c.in-Some.byte 10 ≡ false = search rules in
     let p = err_from_is_err_and c.from_residual-in_err-map_err-in-Some.result c.from_residual-in_err-map_err-in-Some.ensures.1 in
     rw p.1 (λ line rest fits e.
@@ -30,5 +30,5 @@ returns-in_err-map_err-in-Some-clause-whole g c =
 
 pub returns-in-None-2-clause-whole : goal.returns-in-None-2-clause-whole
 returns-in-None-2-clause-whole g c =
-    let end : IsAtEnd (g.R.Read.remaining c.loop-byte.self.reader) = search rules in
+    let end : IsAtEnd (g.R.ByteReader.left c.loop-byte.self.reader) = search rules in
     λ line rest fits e. absurd (not_ended _ _ c.loop-byte.self.line.items line rest c.loop-byte.invariant.one c.loop-byte.invariant.taken end e)

@@ -5,7 +5,7 @@ use Rattle.part_texts.proofs.streams.PartStream.next_line.Given as goal
 
 abbrev pub invariant-loop-byte : goal.invariant-loop-byte
 invariant-loop-byte g l = record {
-  taken : Consumes (g.R.Read.remaining l.fn.self.reader) (g.R.Read.remaining l.self.reader) l.self.line.items;
+  taken : Consumes (g.R.ByteReader.left l.fn.self.reader) (g.R.ByteReader.left l.self.reader) l.self.line.items;
   one : has_no 10 l.self.line.items ≡ true;
 }
 

@@ -9,7 +9,7 @@ use Rattle.part_texts.proofs.streams.PartStream.outcomes.Given as goal
 
 abbrev pub invariant-loop : goal.invariant-loop
 invariant-loop g l = record {
-  taken : Consumes (g.R.Read.remaining l.initial.self.reader) (g.R.Read.remaining l.self.reader) (flat_map outcome_line l.outcomes.items);
+  taken : Consumes (g.R.ByteReader.left l.initial.self.reader) (g.R.ByteReader.left l.self.reader) (flat_map outcome_line l.outcomes.items);
   rising : AllPairs (λ a b. outcome_cmp a b ≡ Less) l.outcomes.items;
   fit : All (FitsOutcome l.processes) l.outcomes.items;
   count : length l.outcomes.items ≡ l.counter;
