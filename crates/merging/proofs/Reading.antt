@@ -1,22 +1,25 @@
 -- What follows of one part more that is read, and where none is.
-use Rattle.std.proofs.Common.{◌≡◌, ℕ, ◌-◌, ◌<◌, ◌≤◌, ◌⊎◌, inl, inr, List, [], ◌∷◌, ◌++◌, Option, Some, None, All, length, map, reverse, ap, sym, subst, ◌∙◌, arith, append-nil, append_assoc, length-append, Result, Ok, Err, OnOk, IfErr}
+use Rattle.std.proofs.Common.{◌≡◌, ℕ, ◌-◌, ◌<◌, ◌≤◌, ◌^◌, inr, List, [], ◌∷◌, ◌++◌, Option, Some, None, All, length, map, reverse, ap, sym, subst, ◌∙◌, arith, append-nil, append_assoc, length-append, Result, Ok, Err, OnOk, IfErr}
 use Rattle.std.specs.Io.KnownBytes.{Consumes, IsAtEnd}
 use Rattle.std.specs.List.{flat_map}
 use Rattle.std.proofs.KnownBytes.{Consumes-nil}
 use Rattle.std.proofs.lemmas.List.{length-reverse, reverse-append}
 use Rattle.std.proofs.lemmas.List.Elements.{All-nil, All-push}
 use Rattle.pool.specs.Balance.{AreInBalance}
-use Rattle.part_texts.specs.Causes.{IsOutward, IsOutwardAt}
-use Rattle.part_texts.specs.FitsPart.{FitsPart}
+use Rattle.part_texts.specs.Causes.{IsOutward, IsOutwardAt, IsUnreadOnlyIf}
+use Rattle.part_texts.specs.FitsPart.{FitsFound, FitsPart}
 use Rattle.part_texts.specs.PartText.{part_text}
+use Rattle.part_texts.specs.declared.faults.BadPart.{BadPart}
 use Rattle.part_texts.specs.declared.faults.Cause.{Cause}
 use Rattle.part_texts.specs.declared.faults.Cause.TheVariants.{Unreadable}
+use Rattle.part_texts.specs.declared.parts.Found.{Found}
+use Rattle.part_texts.specs.declared.parts.Found.TheVariants.{Explored, Least}
 use Rattle.part_texts.specs.declared.parts.PartReport.{PartReport}
 use Rattle.merging.specs.Joined.{GoesWith, Holds, numbers_marked}
 use Rattle.merging.specs.Merged.{AreAllParts, AreMergeable, IsNoFaultOfParts, all_tried, tried_of}
-use Rattle.merging.specs.Mergers.{AreHeld, AreKept, HoldsRead, HoldsSome, HoldsTexts, IsOneMore, IsUnjoinedBehind, IsUnjoinedFrom}
+use Rattle.merging.specs.Mergers.{AreHeld, AreKept, HoldsRead, HoldsSome, HoldsTexts, IsOneMore, IsUnjoinedFrom}
 use Rattle.merging.specs.Texts.{AreOfTexts, IsTextOf}
-use Rattle.merging.specs.Unjoined.{IsUnjoined}
+use Rattle.merging.specs.Unjoined.{IsUnjoined, IsUnjoinedBehind, IsUnjoinedTo}
 use Rattle.merging.specs.Unmerged.{AreIncomplete, AreUnjoinedIn, BeginWith, IsUnread, IsUnreadBy}
 use Rattle.merging.specs.declared.faults.MergeFault.{MergeFault}
 use Rattle.merging.specs.declared.faults.MergeFault.TheVariants.{Misfit, Missing, NoMemory, Nothing, Sought, Text, TooMany, Twice}
@@ -25,7 +28,7 @@ use Rattle.merging.specs.declared.missing.Missing as missings
 use Rattle.merging.specs.declared.mergers.Merger.{Merger}
 use Rattle.merging.proofs.AllParts.{all_read, behind, goes_with, next-sum, no_fault_of_more, same_first}
 use Rattle.merging.proofs.Marks.{few_marked, marked_of_parts}
-use Rattle.merging.proofs.TextParts.{ahead, all_consumed, no_texts, none_at_end, one_text_more, read_more, same_parts}
+use Rattle.merging.proofs.TextParts.{ahead, all_consumed, no_texts, none_at_end, one_text_more, read_more, rest_left, same_parts}
 
 -- ---- one part more is held
 
@@ -76,12 +79,32 @@ fewer_unmarked parts part (Some old) (Some new) some h k =
 
 -- ---- one part more is refused
 
-pub refused_memory : (parts : List PartReport) (part : PartReport) (fault : MergeFault) → fault ≡ NoMemory → IsUnjoinedFrom parts part fault
-refused_memory parts part fault e = record { told = inl e; whole = λ first others tail m order. rw e tt }
+-- by itself it tells not more schedules than can be counted
+few_tried : (processes : ℕ) (found : Found) → FitsFound processes found → tried_of found < 2 ^ 64
+few_tried processes (Explored s) fits = fits.0
+few_tried processes (Least least) fits = omega arith
+
+-- the first part
+pub refused_memory : (parts : List PartReport) (part : PartReport) (fault : MergeFault) → parts ≡ [] → fault ≡ NoMemory → IsUnjoinedFrom parts part fault
+refused_memory parts part fault none e = record {
+  told = λ fits. rw (e, none) (omega (arith, few_tried part.head.processes part.found fits.found));
+  whole = λ first others tail m order. rw e tt;
+}
+
+behind_parts : (parts : List PartReport) (part : PartReport) (fault : MergeFault) → IsUnjoinedBehind parts part fault → IsUnjoinedTo parts part fault
+behind_parts parts part Sought h = h
+behind_parts parts part TooMany h = h
+behind_parts parts part NoMemory h =
+    omega (arith, h.why, next-sum (λ p. tried_of p.found) h.first h.others part [] (parts ++ part ∷ []) (ap (λ xs. xs ++ part ∷ []) (sym h.order)))
+behind_parts parts part (Text bad) h = h
+behind_parts parts part Nothing h = h
+behind_parts parts part (Misfit a b c) h = h
+behind_parts parts part (Twice a) h = h
+behind_parts parts part (Missing a) h = h
 
 pub refused_part : (parts : List PartReport) (part : PartReport) (fault : MergeFault) (first : PartReport) (others : List PartReport) → parts ≡ first ∷ reverse others → IsUnjoined first others part fault → ((head_part : PartReport) (rest tail : List PartReport) → AreMergeable head_part rest → (first ∷ reverse others) ++ part ∷ tail ≡ head_part ∷ rest → IsNoFaultOfParts (all_tried (part ∷ first ∷ others)) fault) → IsUnjoinedFrom parts part fault
 refused_part parts part fault first others order why whole = record {
-  told = inr (record { first = first; others = others; order = order; why = why });
+  told = λ fits. behind_parts parts part fault (record { first = first; others = others; order = order; why = why });
   whole = λ head_part rest tail m all.
       let parts_are : (first ∷ reverse others) ++ part ∷ tail ≡ head_part ∷ rest = ap (λ xs. xs ++ part ∷ tail) (sym order) ∙ all in
       no_fault_of_more (all_tried (part ∷ first ∷ others)) (all_tried (head_part ∷ rest)) fault
@@ -101,38 +124,31 @@ more_unjoined part now old (Err fault) e whole why = λ parts h.
     let kept : AreKept parts old = subst (AreHeld parts) e h in
     refused_part parts part fault kept.first kept.others kept.order (why kept.first kept.others kept.holds) (λ head_part rest tail m order. whole kept.first kept.others kept.holds (goes_with kept.first kept.others part tail head_part rest m order))
 
-unread_of : (before : List (Option (List ℕ))) (last : Option (List ℕ)) (why : MergeFault) → AreUnjoinedIn before last why → IsUnreadBy before last why
-unread_of before last Sought h = h
-unread_of before last TooMany h = h
-unread_of before last NoMemory h = tt
-unread_of before last (Text bad) h = tt
-unread_of before last Nothing h = absurd h.why
-unread_of before last (Misfit a b c) h = h
-unread_of before last (Twice a) h = h
-unread_of before last (Missing a) h = absurd h.why
+unread_of : (may_fail : Type 0) (before : List (Option (List ℕ))) (last : Option (List ℕ)) (why : MergeFault) → AreUnjoinedIn before last why → IsUnreadBy may_fail before last why
+unread_of may_fail before last Sought h = h
+unread_of may_fail before last TooMany h = h
+unread_of may_fail before last NoMemory h = h
+unread_of may_fail before last (Text bad) h = absurd h.why.why
+unread_of may_fail before last Nothing h = absurd h.why.why
+unread_of may_fail before last (Misfit a b c) h = h
+unread_of may_fail before last (Twice a) h = h
+unread_of may_fail before last (Missing a) h = absurd h.why.why
 
-unread_by : (before : List (Option (List ℕ))) (last left : Option (List ℕ)) (earlier own : List PartReport) (part : PartReport) (fault : MergeFault) → AreOfTexts IsTextOf before earlier → Consumes last left (flat_map part_text (own ++ part ∷ [])) → All FitsPart (own ++ part ∷ []) → (fault ≡ NoMemory) ⊎ IsUnjoinedBehind (earlier ++ own) part fault → IsUnreadBy before last fault
-unread_by before last left earlier own part fault of_texts bytes fit (inl e) = rw e tt
-unread_by before last left earlier own part fault of_texts bytes fit (inr h) = unread_of before last fault (record {
-  first = h.first;
-  others = h.others;
-  part = part;
-  earlier = earlier;
-  own = own;
-  left = left;
-  order = sym h.order;
-  of_texts = of_texts;
-  bytes = bytes;
-  fit = fit;
-  why = h.why;
-})
-
-pub unread : (before : List (Option (List ℕ))) (last middle left : Option (List ℕ)) (least : ℕ) (merger : Merger) (part : PartReport) (fault : MergeFault) (kept : HoldsRead before last middle least merger) → Consumes middle left (part_text part) → FitsPart part → IsUnjoinedFrom (kept.earlier ++ kept.own) part fault → IsUnread before last fault
-unread before last middle left least merger part fault kept taken fits why =
+pub unread : (may_fail : Type 0) (before : List (Option (List ℕ))) (last middle left : Option (List ℕ)) (least : ℕ) (merger : Merger) (part : PartReport) (fault : MergeFault) (kept : HoldsRead before last middle least merger) → Consumes middle left (part_text part) → FitsPart part → IsUnjoinedFrom (kept.earlier ++ kept.own) part fault → IsUnread may_fail before last fault
+unread may_fail before last middle left least merger part fault kept taken fits why =
     let bytes = read_more last middle left kept.own part kept.bytes taken in
     let fit = All-push FitsPart kept.own part kept.fit fits in
     record {
-      told = unread_by before last left kept.earlier kept.own part fault kept.of_texts bytes fit why.told;
+      told = unread_of may_fail before last fault (record {
+        part = part;
+        earlier = kept.earlier;
+        own = kept.own;
+        left = left;
+        of_texts = kept.of_texts;
+        bytes = bytes;
+        fit = fit;
+        why = why.told fits;
+      });
       whole = λ first others b.
           let next = ahead before last left kept.earlier (kept.own ++ part ∷ []) first others kept.of_texts bytes fit b in
           let order : (kept.earlier ++ kept.own) ++ part ∷ (next.tail ++ next.more) ≡ first ∷ others =
@@ -147,10 +163,25 @@ outward left read [] more all cause order fit known end whole = inr (end known)
 outward left read (p ∷ tail) more all cause order fit known end whole = whole p (flat_map part_text tail) (behind FitsPart read p (tail ++ more) (subst (All FitsPart) (sym order) fit)) known
 
 -- where what is left of a text of parts is refused, the text is not at fault
-pub not_at_fault : (before : List (Option (List ℕ))) (last left : Option (List ℕ)) (least : ℕ) (merger : Merger) (cause : Cause) (first : PartReport) (others : List PartReport) → HoldsRead before last left least merger → BeginWith (before ++ last ∷ []) first others → (left ≡ Some [] → cause ≡ Unreadable) → IsOutwardAt FitsPart part_text left cause → IsOutward cause
+at_its_parts : (before : List (Option (List ℕ))) (last left : Option (List ℕ)) (least : ℕ) (merger : Merger) (cause : Cause) (parts : List PartReport) → HoldsRead before last left least merger → All FitsPart parts → last ≡ Some (flat_map part_text parts) → (left ≡ Some [] → cause ≡ Unreadable) → IsOutwardAt FitsPart part_text left cause → IsOutward cause
+at_its_parts before last left least merger cause parts kept fit known end whole =
+    let rest = rest_left last left kept.own parts kept.fit fit kept.bytes known in
+    outward left kept.own rest.tail [] parts cause (ap (λ xs. kept.own ++ xs) (append-nil rest.tail) ∙ rest.parts) fit rest.known end whole
+
+-- so it is where it is one of those that tell parts of one exploration
+not_at_fault : (before : List (Option (List ℕ))) (last left : Option (List ℕ)) (least : ℕ) (merger : Merger) (cause : Cause) (first : PartReport) (others : List PartReport) → HoldsRead before last left least merger → BeginWith (before ++ last ∷ []) first others → (left ≡ Some [] → cause ≡ Unreadable) → IsOutwardAt FitsPart part_text left cause → IsOutward cause
 not_at_fault before last left least merger cause first others kept b end whole =
     let next = ahead before last left kept.earlier kept.own first others kept.of_texts kept.bytes kept.fit b in
     outward left (kept.earlier ++ kept.own) next.tail next.more (first ∷ others) cause next.order b.all.fit next.known end whole
+
+pub no_line : (may_fail : Type 0) (before : List (Option (List ℕ))) (last left : Option (List ℕ)) (least : ℕ) (merger : Merger) (bad : BadPart) → HoldsRead before last left least merger → (left ≡ Some [] → bad.cause ≡ Unreadable) → IsOutwardAt FitsPart part_text left bad.cause → IsUnreadOnlyIf may_fail bad.cause → IsUnread may_fail before last (Text bad)
+no_line may_fail before last left least merger bad kept end whole reader = record {
+  told = record {
+    reader = reader;
+    whole = λ parts fit known. at_its_parts before last left least merger bad.cause parts kept fit known end whole;
+  };
+  whole = λ first others b. not_at_fault before last left least merger bad.cause first others kept b end whole;
+}
 
 -- ---- a text is read
 
@@ -191,8 +222,8 @@ whole_text before last left merger kept end = record {
 }
 
 -- it has no part
-pub no_part : (before : List (Option (List ℕ))) (last : Option (List ℕ)) → IsAtEnd last → IsUnread before last Nothing
-no_part before last end = record { told = end; whole = λ first others b. absurd (none_at_end before last first others b end) }
+pub no_part : (may_fail : Type 0) (before : List (Option (List ℕ))) (last : Option (List ℕ)) → IsAtEnd last → IsUnread may_fail before last Nothing
+no_part may_fail before last end = record { told = end; whole = λ first others b. absurd (none_at_end before last first others b end) }
 
 -- ---- at the end
 

@@ -43,7 +43,7 @@ pub record RestLeft (read all : List PartReport) (left : Option (List ℕ)) : Ty
   pub parts : read ++ tail ≡ all
   pub known : left ≡ Some (flat_map part_text tail)
 
-rest_left : (a b : Option (List ℕ)) (v w : List PartReport) → All FitsPart v → All FitsPart w → Consumes a b (flat_map part_text v) → a ≡ Some (flat_map part_text w) → RestLeft v w b
+pub rest_left : (a b : Option (List ℕ)) (v w : List PartReport) → All FitsPart v → All FitsPart w → Consumes a b (flat_map part_text v) → a ≡ Some (flat_map part_text w) → RestLeft v w b
 rest_left a b v w hv hw p e =
     let l = leaves a b (flat_map part_text v) (flat_map part_text w) p e in
     let rest = rest_of v w l.rest hv hw l.parts in

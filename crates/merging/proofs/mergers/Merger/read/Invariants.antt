@@ -8,7 +8,7 @@ use Rattle.merging.proofs.mergers.Merger.read.Given as goal
 abbrev pub invariant-loop-stream : goal.invariant-loop-stream
 invariant-loop-stream g l = record {
   held : (parts : List PartReport) × AreHeld parts l.self.joined × (1 ≤ length parts);
-  read : (before : List (Option (List ℕ))) → HoldsTexts before l.fn.self → HoldsRead before (g.R.Read.remaining l.fn.reader) (g.R.Read.remaining l.stream.reader) 1 l.self;
+  read : (before : List (Option (List ℕ))) → HoldsTexts before l.fn.self → HoldsRead before (g.R.ByteReader.left l.fn.reader) (g.R.ByteReader.left l.stream.reader) 1 l.self;
 }
 
 abbrev pub decreases-loop-stream : goal.decreases-loop-stream
