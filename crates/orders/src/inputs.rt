@@ -8,10 +8,12 @@ ghost use Rattle.orders.specs.declared.inputs.Input.TheVariants as input;
 
 use crate::file_faults::FileFault;
 use crate::refusals::Refusal;
+use regmodel::OutOfMemory;
 use regmodel::limits::MOST_SOURCE_BYTES;
 use std::alloc::Global;
 use std::io;
-use std::io::{ErrorKind, Read};
+use std::io::{BufReader, ErrorKind, Read};
+use texts::ByteReader;
 
 /// How standard input is named where a file may be.
 pub const STANDARD_INPUT: &str = "-";
@@ -20,8 +22,15 @@ pub const STANDARD_INPUT: &str = "-";
 pub trait Readable: Read + Drop {
     ghost use Rattle.orders.specs.declared.refusals.Refusal.{Refusal};
 
+    /// What gives its bytes, one after another.
+    type Bytes: ByteReader;
+
     /// Why it gives no text.
     ghost fails: { Self → Refusal → Type 0 };
+
+    /// Its bytes, one after another. An error where a request for memory was refused.
+    fn into_bytes(self, alloc: Global) -> Result<Self::Bytes, OutOfMemory>
+        ensures { IfOk result (λ bytes. Self.Bytes.left bytes ≡ Self.remaining self) };
 
     /// All its bytes, where they are not too many.
     fn text(self, alloc: Global) -> Result<Vec<u8>, Refusal>
@@ -66,15 +75,30 @@ impl<S: Read, F: Read> Read for Input<S, F> {
 }
 
 impl<S: Read + Drop, F: Read + Drop> Readable for Input<S, F> {
+    type Bytes = BufReader<Input<S, F>>;
+
     ghost fails = { λ i. IsUnreadable (elim i [ input.Standard s ↦ S.remaining s | input.File f ↦ F.remaining f ]) };
+
+    fn into_bytes(self, alloc: Global) -> Result<BufReader<Input<S, F>>, OutOfMemory> {
+        let Ok(bytes) = BufReader::new(alloc, self) else {
+            return Err(OutOfMemory);
+        };
+        Ok(bytes)
+    }
 
     fn text(self, alloc: Global) -> Result<Vec<u8>, Refusal> {
         bytes_of(alloc, self)
     }
 }
 
-impl Readable for &[u8] {
+impl<'a> Readable for &'a [u8] {
+    type Bytes = &'a [u8];
+
     ghost fails = { λ bytes. IsUnreadable (Some bytes.now) };
+
+    fn into_bytes(self, _alloc: Global) -> Result<&'a [u8], OutOfMemory> {
+        Ok(self)
+    }
 
     fn text(self, alloc: Global) -> Result<Vec<u8>, Refusal> {
         bytes_of(alloc, self)
