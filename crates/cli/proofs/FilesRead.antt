@@ -45,9 +45,9 @@ module _ {R : Type 0} (opens : List ℕ → Option R → Type 0) (remaining : R 
   file_read f xs i x opened old new inside e before there is_read =
       next_read (f x) (map f (drop (i + 1) xs)) opened old new (subst (λ left. AreFilesRead opens remaining paths (map f left) old) (next_place xs i x inside e) before) there is_read
 
-  module _ {W : Type 0} (contents : W → Option (List ℕ)) where
+  module _ {W : Type 0} (contents : W → Option (List ℕ)) (may_fail : Type 0) where
     -- all were read
-    pub all_read : (left : List (List ℕ)) (merger : Merger) (old new : W) (status : ℕ) → left ≡ [] → AreFilesRead opens remaining paths left merger → ((texts : Texts) → HoldsTexts texts merger → AreAllRead contents texts old new status) → IsMergePerformed contents remaining opens paths old new status
+    pub all_read : (left : List (List ℕ)) (merger : Merger) (old new : W) (status : ℕ) → left ≡ [] → AreFilesRead opens remaining paths left merger → ((texts : Texts) → HoldsTexts texts merger → AreAllRead contents texts old new status) → IsMergePerformed contents remaining may_fail opens paths old new status
     all_read left merger old new status none before done = record {
       read = before.read;
       left = [];
@@ -70,7 +70,7 @@ module _ {R : Type 0} (opens : List ℕ → Option R → Type 0) (remaining : R 
     no_file_status LongFile h = absurd h
     no_file_status Memory h = absurd h
 
-    not_read : (texts : Texts) (opened : Option R) (fault : AnswerFault) (status : ℕ) → IsUnreadFor remaining texts opened fault → status ≡ status_of fault → IsNotRead remaining texts opened status
+    not_read : (texts : Texts) (opened : Option R) (fault : AnswerFault) (status : ℕ) → IsUnreadFor remaining may_fail texts opened fault → status ≡ status_of fault → IsNotRead remaining may_fail texts opened status
     not_read texts None (Refused refused) status h e = e ∙ no_file_status refused h
     not_read texts None (Misfit place) status h e = absurd h
     not_read texts None (Source rejection) status h e = absurd h
@@ -87,7 +87,7 @@ module _ {R : Type 0} (opens : List ℕ → Option R → Type 0) (remaining : R 
     not_read texts (Some file) Write status h e = absurd h
 
     -- the file of one more path is not read
-    pub stopped : {X : Type 0} (f : X → List ℕ) (xs : List X) (i : ℕ) (x : X) (opened : Option R) (merger : Merger) (fault : AnswerFault) (old new : W) (status : ℕ) → i < length xs → x ≡ get_or xs i x → AreFilesRead opens remaining paths (map f (drop i xs)) merger → opens (f x) opened → new ≡ old → ((texts : Texts) → HoldsTexts texts merger → IsUnreadFor remaining texts opened fault) → status ≡ status_of fault → IsMergePerformed contents remaining opens paths old new status
+    pub stopped : {X : Type 0} (f : X → List ℕ) (xs : List X) (i : ℕ) (x : X) (opened : Option R) (merger : Merger) (fault : AnswerFault) (old new : W) (status : ℕ) → i < length xs → x ≡ get_or xs i x → AreFilesRead opens remaining paths (map f (drop i xs)) merger → opens (f x) opened → new ≡ old → ((texts : Texts) → HoldsTexts texts merger → IsUnreadFor remaining may_fail texts opened fault) → status ≡ status_of fault → IsMergePerformed contents remaining may_fail opens paths old new status
     stopped f xs i x opened merger fault old new status inside e before there silent why status_is = record {
       read = before.read;
       left = f x ∷ map f (drop (i + 1) xs);

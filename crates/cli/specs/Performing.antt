@@ -63,10 +63,11 @@ pub record IsVersionTold {W : Type 0} (contents : W → Option (List ℕ)) (old 
 
 -- words that were refused have the status of their refusal, and nothing is done; else the version
 -- is written, their files are answered, or the parts in their files are merged
-abbrev pub IsPerformed : {W R : Type 0} → (W → Option (List ℕ)) → (R → Option (List ℕ)) → (R → Refusal → Type 0)
+abbrev pub IsPerformed : {W R : Type 0} → (W → Option (List ℕ)) → (R → Option (List ℕ)) → (R → Refusal → Type 0) → Type 0
     → (List ℕ → Option R → Type 0) → Result Request ℕ → W → W → ℕ → Type 0
-IsPerformed contents remaining fails opens (Err refused) old new status = (new ≡ old) × (status ≡ refused)
-IsPerformed contents remaining fails opens (Ok Version) old new status = IsVersionTold contents old new status
-IsPerformed contents remaining fails opens (Ok (Order order)) old new status = AreAnswered contents remaining fails opens order old new status
-IsPerformed contents remaining fails opens (Ok (Merge paths)) old new status =
-    IsMergePerformed contents remaining opens (map (λ path. path.now) paths.items) old new status
+IsPerformed contents remaining fails may_fail opens (Err refused) old new status = (new ≡ old) × (status ≡ refused)
+IsPerformed contents remaining fails may_fail opens (Ok Version) old new status = IsVersionTold contents old new status
+IsPerformed contents remaining fails may_fail opens (Ok (Order order)) old new status =
+    AreAnswered contents remaining fails opens order old new status
+IsPerformed contents remaining fails may_fail opens (Ok (Merge paths)) old new status =
+    IsMergePerformed contents remaining may_fail opens (map (λ path. path.now) paths.items) old new status

@@ -10,9 +10,9 @@ ghost use Rattle.cli.specs.Written.{Tells};
 use crate::faults::AnswerFault;
 use crate::outputs::{Output, tell_unwritten};
 use merging::{MergeFault, Merged, Merger, write_merged};
-use orders::{FileFault, Opener, Refusal, refuse};
+use orders::{FileFault, Opener, Readable, Refusal, refuse};
 use std::alloc::Global;
-use std::io::{BufReader, Read, Write};
+use std::io::Write;
 
 /// Of what is told where several files are merged and none of them is at fault.
 const TOGETHER: &str = "all files together";
@@ -29,8 +29,8 @@ pub fn merge_files<O: Opener, W: Output, E: Write>(
     out: &mut W,
     err: &mut E,
 ) -> u8
-    ensures { IsMergePerformed W.contents O.Reader.remaining (O.opens opener.now)
-        (map (λ path. path.now) paths.now) out.old out.new result }
+    ensures { IsMergePerformed W.contents O.Reader.remaining O.Reader.Bytes.may_fail
+        (O.opens opener.now) (map (λ path. path.now) paths.now) out.old out.new result }
 {
     let whole = whole_of(paths);
     let mut merger = Merger::none();
@@ -61,7 +61,7 @@ fn subject_of<'a>(fault: &AnswerFault, path: &'a str, whole: &'a str) -> &'a str
 
 /// Reads the parts in a file behind those that were read before. `file` tells why it could not be
 /// opened, where it was not. After an error it is not known what is held.
-fn read_file<R: Read + Drop>(
+fn read_file<R: Readable>(
     alloc: Global,
     merger: &mut Merger,
     file: Result<R, FileFault>,
@@ -72,16 +72,14 @@ fn read_file<R: Read + Drop>(
         (IsFileRead R.remaining (result_ok file) merger.old merger.new) }
     ensures refused { IfErr result
         (λ fault. (texts : List (Option (List ℕ))) → HoldsTexts texts merger.old
-        → IsUnreadFor R.remaining texts (result_ok file) fault) }
+        → IsUnreadFor R.remaining R.Bytes.may_fail texts (result_ok file) fault) }
 {
     let file = match file {
         Ok(file) => file,
         Err(why) => return Err(AnswerFault::Refused(Refusal::File(why))),
     };
-    let Ok(reader) = BufReader::new(alloc, file) else {
-        return Err(AnswerFault::Refused(Refusal::Memory));
-    };
-    match merger.read(alloc, reader) {
+    let bytes = file.into_bytes(alloc)?;
+    match merger.read(alloc, bytes) {
         Ok(()) => Ok(()),
         Err(fault) => Err(AnswerFault::Merge(fault)),
     }

@@ -33,8 +33,8 @@ pub fn perform<H: Threads + Wait + Sync, O: Opener, W: Output, E: Write + Send>(
     out: &mut W,
     err: &mut E,
 ) -> u8
-    ensures { IsPerformed W.contents O.Reader.remaining O.Reader.fails (O.opens opener.now)
-        request.entry out.old out.new result }
+    ensures { IsPerformed W.contents O.Reader.remaining O.Reader.fails O.Reader.Bytes.may_fail
+        (O.opens opener.now) request.entry out.old out.new result }
 {
     match request {
         Ok(Request::Order(order)) => answer_each(rt, alloc, &order, opener, out, err),

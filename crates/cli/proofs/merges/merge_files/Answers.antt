@@ -23,11 +23,11 @@ pub returns-in-Err : goal.returns-in-Err
 returns-in-Err g c =
     let paths = c.args.paths.now in
     let i = c.loop-path.path-index in
-    stopped (g.O.Opener.opens c.args.opener.now) g.O.Reader.Read.remaining (map (λ path. path.now) paths) g.W.Write.contents (λ path. path.now) paths i _ (result_ok c.open.result) c.loop-path.merger c.in-Err.fault c.args.out.now c.args.out.now c.refuse.result
+    stopped (g.O.Opener.opens c.args.opener.now) g.O.Reader.Read.remaining (map (λ path. path.now) paths) g.W.Write.contents g.O.Reader.Bytes.ByteReader.may_fail (λ path. path.now) paths i _ (result_ok c.open.result) c.loop-path.merger c.in-Err.fault c.args.out.now c.args.out.now c.refuse.result
     c.loop-path-test.true (sym (get_or_default paths i _ _ c.loop-path-test.true)) c.loop-path.invariant c.open.ensures refl c.in-Err.ensures.refused c.refuse.ensures.value
 
 pub returns : goal.returns
 returns g c =
     let paths = c.args.paths.now in
-    all_read (g.O.Opener.opens c.args.opener.now) g.O.Reader.Read.remaining (map (λ path. path.now) paths) g.W.Write.contents (map (λ path. path.now) (drop c.loop-path.path-index paths)) c.loop-path.merger c.args.out.now c.write_all.new.out c.write_all.result
+    all_read (g.O.Opener.opens c.args.opener.now) g.O.Reader.Read.remaining (map (λ path. path.now) paths) g.W.Write.contents g.O.Reader.Bytes.ByteReader.may_fail (map (λ path. path.now) (drop c.loop-path.path-index paths)) c.loop-path.merger c.args.out.now c.write_all.new.out c.write_all.result
     (ap (map (λ path. path.now)) (drop_all c.loop-path.path-index paths c.loop-path-test.false)) c.loop-path.invariant c.write_all.ensures
