@@ -1,5 +1,5 @@
 -- Worked examples: the definitions compute.
-use Rattle.std.specs.Prelude.{◌≡◌, ℕ, Bool, true, false, [], ◌∷◌, ◌++◌, map, refl, None, Some, codes}
+use Rattle.std.specs.Prelude.{◌≡◌, ℕ, ◌-◌, Bool, true, false, List, [], ◌∷◌, ◌++◌, map, refl, None, Some, codes}
 use Rattle.std.specs.Fmt.{digits}
 use Rattle.regmodel.specs.declared.letters.Letter.TheVariants.{Run, Crash}
 use Rattle.regmodel.specs.declared.outcomes.End.TheVariants as end
@@ -11,6 +11,7 @@ use Rattle.regmodel.specs.Wanted.{wanted_after}
 use Rattle.regmodel.specs.Examples.{scans_two, two_writers, writer_and_reader}
 use Rattle.regmodel.specs.Replies.{value_after}
 use Rattle.reglang.specs.Contents.{Contents, Text}
+use Rattle.drawing.specs.declared.drawings.Deed.{Deed}
 use Rattle.drawing.specs.declared.drawings.Deed.TheVariants as deed
 use Rattle.drawing.specs.declared.drawings.Held.{Held}
 use Rattle.drawing.specs.declared.drawings.Row.{Row}
@@ -171,44 +172,33 @@ a_scan_from_a_named_register = refl
 
 -- ---- what is left out
 
--- a process that reads the last but one of four registers, and writes 5 into the last one
-abbrev read_row : Row
-read_row = record {
-  number = 1;
-  process = 0;
-  deed = deed.Read 2 0;
-  statement = Some 0;
-  registers = record { items = kept 0 ∷ kept 0 ∷ kept 0 ∷ kept 0 ∷ [] };
-}
+-- a process that never names the first of four registers, reads the second one, writes 5 into the third, and writes and reads the last one
+abbrev row_after : ℕ → Deed → List Held → Row
+row_after number done held = record { number = number; process = 0; deed = done; statement = Some (number - 1); registers = record { items = held } }
 
-abbrev write_row : Row
-write_row = record {
-  number = 2;
-  process = 0;
-  deed = deed.Write 3 5;
-  statement = Some 1;
-  registers = record { items = kept 0 ∷ kept 0 ∷ kept 0 ∷ changed_to 5 ∷ [] };
-}
-
-abbrev last_two : Picture
-last_two = record {
+abbrev four_uses : Picture
+four_uses = record {
   start = kept 0 ∷ kept 0 ∷ kept 0 ∷ kept 0 ∷ [];
-  rows = read_row ∷ write_row ∷ [];
+  rows =
+      row_after 1 (deed.Read 1 0) (kept 0 ∷ kept 0 ∷ kept 0 ∷ kept 0 ∷ [])
+      ∷ row_after 2 (deed.Write 2 5) (kept 0 ∷ kept 0 ∷ changed_to 5 ∷ kept 0 ∷ [])
+      ∷ row_after 3 (deed.Write 3 5) (kept 0 ∷ kept 0 ∷ kept 5 ∷ changed_to 5 ∷ [])
+      ∷ row_after 4 (deed.Read 3 5) (kept 0 ∷ kept 0 ∷ kept 5 ∷ kept 5 ∷ []) ∷ [];
   ends = record { started = true; fate = end.Done (record { items = [] }) } ∷ [];
   stops = None ∷ [];
 }
 
--- in columns of width 30 two fit beside the letter's number: that of the process, and that of the register which is written
-pub the_one_that_is_written_is_kept : columns_shown last_two (10 ∷ 30 ∷ 30 ∷ 30 ∷ 30 ∷ 30 ∷ []) Usual ≡ 0 ∷ 1 ∷ 5 ∷ []
-the_one_that_is_written_is_kept = refl
+-- in columns of width 30 two fit beside the letter's number: that of the process, and that of the register which is written and read
+pub the_one_that_is_written_and_read_is_kept : columns_shown four_uses (10 ∷ 30 ∷ 30 ∷ 30 ∷ 30 ∷ 30 ∷ []) Usual ≡ 0 ∷ 1 ∷ 5 ∷ []
+the_one_that_is_written_and_read_is_kept = refl
 
-pub then_the_one_that_is_read : columns_shown last_two (10 ∷ 30 ∷ 30 ∷ 30 ∷ 30 ∷ 30 ∷ []) (Places 106) ≡ 0 ∷ 1 ∷ 4 ∷ 5 ∷ []
+pub then_the_one_that_is_written : columns_shown four_uses (10 ∷ 30 ∷ 30 ∷ 30 ∷ 30 ∷ 30 ∷ []) (Places 106) ≡ 0 ∷ 1 ∷ 4 ∷ 5 ∷ []
+then_the_one_that_is_written = refl
+
+pub then_the_one_that_is_read : columns_shown four_uses (10 ∷ 30 ∷ 30 ∷ 30 ∷ 30 ∷ 30 ∷ []) (Places 138) ≡ 0 ∷ 1 ∷ 3 ∷ 4 ∷ 5 ∷ []
 then_the_one_that_is_read = refl
 
-pub then_the_leftmost : columns_shown last_two (10 ∷ 30 ∷ 30 ∷ 30 ∷ 30 ∷ 30 ∷ []) (Places 138) ≡ 0 ∷ 1 ∷ 2 ∷ 4 ∷ 5 ∷ []
-then_the_leftmost = refl
-
-pub all_are_shown : columns_shown last_two (10 ∷ 30 ∷ 30 ∷ 30 ∷ 30 ∷ 30 ∷ []) Whole ≡ 0 ∷ 1 ∷ 2 ∷ 3 ∷ 4 ∷ 5 ∷ []
+pub all_are_shown : columns_shown four_uses (10 ∷ 30 ∷ 30 ∷ 30 ∷ 30 ∷ 30 ∷ []) Whole ≡ 0 ∷ 1 ∷ 2 ∷ 3 ∷ 4 ∷ 5 ∷ []
 all_are_shown = refl
 
 -- ---- registers that a text tells

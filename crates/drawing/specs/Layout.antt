@@ -58,9 +58,13 @@ is_written picture register = list_any (λ row. writes register row.deed) pictur
 abbrev pub is_read : Picture → ℕ → Bool
 is_read picture register = list_any (λ row. reads register row.deed) picture.rows
 
--- which registers are kept before others where not all fit: those that a letter writes, then those that a letter reads
+-- which registers are kept before others where not all fit: those that a letter writes and a letter reads, then those that are only written,
+-- then those that are only read
 abbrev pub register_rank : Picture → ℕ → ℕ
-register_rank picture register = if is_written picture register then 1 else (if is_read picture register then 2 else 3)
+register_rank picture register =
+    if is_written picture register
+    then (if is_read picture register then 1 else 2)
+    else (if is_read picture register then 3 else 4)
 
 -- the same of columns; those that stand in any case come before all registers
 abbrev pub rank : Picture → ℕ → ℕ

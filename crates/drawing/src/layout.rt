@@ -68,19 +68,21 @@ fn is_read(drawing: &Drawing, register: usize) -> bool
 }
 
 /// When a column is kept where not all fit, those of lower rank first: what stands in any case, the
-/// registers that a letter writes, those that a letter reads, and the others.
+/// registers that a letter writes and a letter reads, those that are only written, those that are
+/// only read, and the others.
 fn rank(drawing: &Drawing, column: usize) -> u8
     ensures { result ≡ layout.rank drawing.now column }
 {
     let fixed = fixed_columns(drawing);
     if column < fixed {
-        0
-    } else if is_written(drawing, column - fixed) {
-        1
-    } else if is_read(drawing, column - fixed) {
-        2
-    } else {
-        3
+        return 0;
+    }
+    let register = column - fixed;
+    match (is_written(drawing, register), is_read(drawing, register)) {
+        (true, true) => 1,
+        (true, false) => 2,
+        (false, true) => 3,
+        (false, false) => 4,
     }
 }
 
@@ -131,7 +133,8 @@ fn usual_places(processes: usize) -> usize
 }
 
 /// The columns that are shown, rising: all of them, or without registers that do not fit, of which
-/// those that a letter writes are kept first, and then those that a letter reads.
+/// those that a letter writes and a letter reads are kept first, then those that are only written,
+/// and then those that are only read.
 pub(crate) fn columns_shown(
     drawing: &Drawing,
     widths: &Widths,

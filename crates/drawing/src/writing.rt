@@ -13,8 +13,8 @@ use texts::{Block, Text, WriteFault};
 /// The text of a drawing: a header, a line with what each register holds at the start, a line a
 /// letter, and a line with how each process stands at the end. A line is as long as it may be at
 /// most, as far as leaving out registers can bring that about, first of those that no letter reads
-/// or writes, then of those that no letter writes, and each time the last one; a last line says how
-/// many are left out.
+/// or writes, then of those that are only read, then of those that are only written, and each time
+/// the last one; a last line says how many are left out.
 #[derive(Clone, Copy)]
 pub struct Drawn<'a> {
     /// The drawing.
