@@ -4,7 +4,7 @@ use Rattle.drawing.specs.declared.breadths.Breadth.{Breadth}
 use Rattle.drawing.specs.declared.breadths.Room.{Room}
 use Rattle.drawing.specs.declared.layout.TheConstants.{PARTING}
 use Rattle.drawing.specs.Cells.{cell_text, joined}
-use Rattle.drawing.specs.Layout.{columns_shown, line_count, widths}
+use Rattle.drawing.specs.Layout.{columns_shown, line_count, widths, written_left_out}
 use Rattle.drawing.specs.Labels.{Labels, labels_of}
 use Rattle.drawing.specs.Pictures.{Picture}
 
@@ -29,10 +29,15 @@ gap_before width cell (suc column) = gap_past (gap_before width cell column) (wi
 abbrev pub line_text : (ℕ → ℕ) → (ℕ → List ℕ) → ℕ → List ℕ
 line_text width cell columns = joined (λ column. placed (gap_before width cell column) (cell column)) columns ++ codes "\n"
 
--- how many of the registers are left out, where some are
-abbrev pub left_out_text : ℕ → ℕ → List ℕ
-left_out_text left registers =
-    if left == 0 then [] else codes "left out: " ++ decimal left ++ codes " of " ++ decimal registers ++ codes " registers; --all draws all\n"
+-- how many of the registers that are left out are written, where some are
+abbrev pub written_text : ℕ → List ℕ
+written_text written = if written == 0 then [] else codes ", " ++ decimal written ++ codes " of them written"
+
+-- how many of the registers are left out, where some are, and how many of those are written
+abbrev pub left_out_text : ℕ → ℕ → ℕ → List ℕ
+left_out_text left registers written =
+    if left == 0 then []
+    else codes "left out: " ++ decimal left ++ codes " of " ++ decimal registers ++ codes " registers" ++ written_text written ++ codes "; --all draws all\n"
 
 -- how wide the column at a place is
 abbrev pub width_at : List ℕ → List ℕ → ℕ → ℕ
@@ -52,7 +57,9 @@ table_lines labels picture wide columns = joined (table_line labels picture wide
 
 -- its text: the lines, and how many registers are left out
 abbrev pub table_text : Labels → Picture → List ℕ → List ℕ → List ℕ
-table_text labels picture wide columns = table_lines labels picture wide columns ++ left_out_text (length wide - length columns) (length picture.start)
+table_text labels picture wide columns =
+    table_lines labels picture wide columns
+    ++ left_out_text (length wide - length columns) (length picture.start) (written_left_out picture columns)
 
 -- the text of a drawing that has so much room, with these labels
 abbrev pub labelled_text : Room → Labels → Picture → List ℕ

@@ -20,7 +20,7 @@ use Rattle.drawing.specs.Choices.{is_told, tells_registers}
 use Rattle.drawing.specs.declared.breadths.Breadth.{Breadth}
 use Rattle.drawing.specs.declared.breadths.Room.TheVariants.{Places, Usual, Whole}
 use Rattle.drawing.specs.DrawingText.{drawing_text, left_out_text}
-use Rattle.drawing.specs.Layout.{columns_shown}
+use Rattle.drawing.specs.Layout.{columns_shown, written_left_out}
 use Rattle.drawing.specs.Names.{name_in, register_names}
 use Rattle.drawing.specs.Pictures.{IsPictureOf, Picture, deed_by}
 use Rattle.drawing.specs.Registers.{all_held}
@@ -213,6 +213,19 @@ which_tell_registers = refl
 
 -- ---- how many are left out
 
-pub text_of_two_left_out : left_out_text 2 3 ≡ codes "left out: 2 of 3 registers; --all draws all\n"
+pub both_that_are_written : written_left_out four_uses (0 ∷ 1 ∷ 3 ∷ []) ≡ 2
+both_that_are_written = refl
+
+pub one_that_is_written : written_left_out four_uses (0 ∷ 1 ∷ 5 ∷ []) ≡ 1
+one_that_is_written = refl
+
+pub none_that_is_written : written_left_out four_uses (0 ∷ 1 ∷ 4 ∷ 5 ∷ []) ≡ 0
+none_that_is_written = refl
+
+pub text_of_two_left_out : left_out_text 2 3 0 ≡ codes "left out: 2 of 3 registers; --all draws all\n"
 unfolding digits
 text_of_two_left_out = refl
+
+pub text_of_one_that_is_written : left_out_text 3 4 1 ≡ codes "left out: 3 of 4 registers, 1 of them written; --all draws all\n"
+unfolding digits
+text_of_one_that_is_written = refl

@@ -1,5 +1,5 @@
 -- How wide the columns of a drawing are, and how many are shown.
-use Rattle.std.specs.Prelude.{ℕ, zero, suc, ◌+◌, ◌-◌, ◌==◌, Bool, true, false, ◌&&◌, ◌||◌, List, filter, length, map, max, nat_le, nat_lt, if◌then◌else◌, get_or}
+use Rattle.std.specs.Prelude.{ℕ, zero, suc, ◌+◌, ◌-◌, ◌==◌, Bool, true, false, ◌&&◌, ◌||◌, not, List, filter, length, map, max, nat_le, nat_lt, if◌then◌else◌, get_or}
 use Rattle.std.specs.List.{list_any, range_with_len}
 use Rattle.drawing.specs.declared.breadths.Room.{Room}
 use Rattle.drawing.specs.declared.breadths.Room.TheVariants.{Chosen, Places, Usual, Whole}
@@ -107,3 +107,21 @@ is_shown picture wide room column = nat_lt column (fixed_columns picture) || is_
 -- the columns that are shown
 abbrev pub columns_shown : Picture → List ℕ → Room → List ℕ
 columns_shown picture wide room = filter (is_shown picture wide room) (range_with_len 0 (length wide))
+
+-- whether a column is one of these
+abbrev pub has_column : List ℕ → ℕ → Bool
+has_column columns column = list_any (λ one. one == column) columns
+
+-- whether a register has none of these columns
+abbrev pub is_left_out : Picture → List ℕ → ℕ → Bool
+is_left_out picture columns register = not (has_column columns (fixed_columns picture + register))
+
+-- how many of the first so many registers have none of these columns and are written
+abbrev pub written_out : Picture → List ℕ → ℕ → ℕ
+written_out picture columns zero = 0
+written_out picture columns (suc n) =
+    written_out picture columns n + (if is_left_out picture columns n && is_written picture n then 1 else 0)
+
+-- how many of the registers that are left out a letter writes
+abbrev pub written_left_out : Picture → List ℕ → ℕ
+written_left_out picture columns = written_out picture columns (length picture.start)

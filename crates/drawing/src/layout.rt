@@ -48,7 +48,8 @@ pub(crate) fn widths_of(labels: &Labels<'_>, drawing: &Drawing) -> Widths
 
 /// How many columns stand in any case: those of the letters' numbers and of the processes.
 fn fixed_columns(drawing: &Drawing) -> usize
-    ensures { result ≡ layout.fixed_columns drawing.now }
+    ensures value { result ≡ layout.fixed_columns drawing.now }
+    ensures few { result ≤ MOST_COLUMNS }
 {
     1 + drawing.outcome().ends().len()
 }
@@ -151,4 +152,25 @@ pub(crate) fn columns_shown(
         }
     }
     shown
+}
+
+/// Whether a column is one of these.
+fn has_column(columns: &[u8], column: usize) -> bool
+    ensures { result ≡ layout.has_column columns.now column }
+{
+    columns.iter().any(|one| usize::from(*one) == column)
+}
+
+/// How many of the registers that have none of these columns a letter writes.
+pub(crate) fn written_left_out(drawing: &Drawing, columns: &[u8]) -> usize
+    ensures { result ≡ layout.written_left_out drawing.now columns.now }
+{
+    let fixed = fixed_columns(drawing);
+    let mut written = 0;
+    for register in 0..drawing.start().len() {
+        if !has_column(columns, fixed + register) && is_written(drawing, register) {
+            written += 1;
+        }
+    }
+    written
 }

@@ -1,13 +1,14 @@
 //! The lines of a drawing, in columns.
 
 ghost use Rattle.std.specs.Prelude.{◌≤◌, ◌<◌, All, length};
-ghost use Rattle.drawing.specs.DrawingText.{left_out_text, table_line, table_lines, table_text};
+ghost use Rattle.drawing.specs.DrawingText.{left_out_text, table_line, table_lines, table_text, written_text};
 ghost use Rattle.drawing.specs.declared.cells.TheConstants.{MOST_COLUMNS};
 
 use crate::cells::MOST_COLUMNS;
 use crate::drawings::Drawing;
 use crate::gaps::{Placed, gap_past};
 use crate::labels::Labels;
+use crate::layout::written_left_out;
 use std::io::Write;
 use texts::{Block, Text, WriteFault};
 
@@ -31,28 +32,45 @@ impl Text for Table<'_> {
         let left_out = LeftOut {
             left: self.widths.len().saturating_sub(self.columns.len()),
             registers: self.drawing.start().len(),
+            written: written_left_out(self.drawing, self.columns),
         };
         (Lines(*self), left_out).put(out, block)
     }
 }
 
-/// How many of the registers are left out, where some are.
+/// How many of the registers are left out, where some are, and how many of those are written.
 #[derive(Clone, Copy)]
 struct LeftOut {
     left: usize,
     registers: usize,
+    written: usize,
 }
 
 impl Text for LeftOut {
-    ghost text = { λ l. left_out_text l.left l.registers };
+    ghost text = { λ l. left_out_text l.left l.registers l.written };
 
     fn put<W: Write>(&self, out: &mut W, block: &mut Block) -> Result<(), WriteFault> {
         if self.left == 0 {
             return Ok(());
         }
         let (left, registers) = (self.left as u64, self.registers as u64);
-        let all = " registers; --all draws all\n";
-        ("left out: ", left, " of ", registers, all).put(out, block)
+        let how_many = ("left out: ", left, " of ", registers, " registers");
+        (how_many, Written(self.written), "; --all draws all\n").put(out, block)
+    }
+}
+
+/// How many of the registers that are left out are written, where some are.
+#[derive(Clone, Copy)]
+struct Written(usize);
+
+impl Text for Written {
+    ghost text = { λ w. written_text w.0 };
+
+    fn put<W: Write>(&self, out: &mut W, block: &mut Block) -> Result<(), WriteFault> {
+        if self.0 == 0 {
+            return Ok(());
+        }
+        (", ", self.0 as u64, " of them written").put(out, block)
     }
 }
 

@@ -14,7 +14,7 @@ use texts::{Block, Text, WriteFault};
 /// letter, and a line with how each process stands at the end. A line is as long as it may be at
 /// most, as far as leaving out registers can bring that about, first of those that no letter reads
 /// or writes, then of those that are only read, then of those that are only written, and each time
-/// the last one; a last line says how many are left out.
+/// the last one; a last line says how many are left out, and how many of those a letter writes.
 #[derive(Clone, Copy)]
 pub struct Drawn<'a> {
     /// The drawing.
