@@ -10,8 +10,8 @@ HEAD = re.compile(r"(?m)^step  (?:line  )?process 0\b.*$")
 ACT = re.compile(r"(write|read|scan|crash)(?: (\S+)(?: (=|\.\.))? (\S+)(?: =[ \d]*)?)?(?:, [df][ \w]*)?")
 CLAIM = re.compile(r": a schedule of \d+ letters? (fails|leads to)(?:, and no shorter one)?(:? .*)")
 SINCE = re.compile(r"(?m)^It fails( from step (\d+) on)\.$")
-# Behind an empty line and the words by which the program was called: the file and the schedule.
-SHOW = re.compile(r"(?m)(?<=\n\n)(?!left out: )\S.*? show (?:-- )?(.+)$")
+# Behind an empty line, the words by which the program was called and options: the file and the schedule.
+SHOW = re.compile(r"(?m)(?<=\n\n)(?!left out: )\S.*? show (?:--(?:all|lines|(?:registers|width) [\d,-]+) )*(?:-- )?(.+)$")
 NOTE = re.compile(r"(?m)^(?:At its end process|left out: )[^;\n]*")
 # A comment line that gives a process a name, in the form of one that gives a register one.
 NAME = re.compile(r"(?m)^ *# +process +(\d+): +([!-~]{1,16}) *$")

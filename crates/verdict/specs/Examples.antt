@@ -1,6 +1,6 @@
 -- Worked examples of what a check demands, of checks that are vacuous, of faults, repeats and
 -- patterns in words, and of paths in a shell.
-use Rattle.std.specs.Prelude.{◌≡◌, ℕ, List, true, false, [], ◌∷◌, Option, None, Some, codes, refl}
+use Rattle.std.specs.Prelude.{◌≡◌, ℕ, Bool, List, true, false, [], ◌∷◌, Option, None, Some, codes, refl}
 use Rattle.std.specs.Fmt.{digits}
 use Rattle.machine.specs.declared.culprits.Culprit.{Culprit}
 use Rattle.machine.specs.declared.culprits.Culprit.TheVariants.{Register, Cell, Value, Turns}
@@ -11,6 +11,9 @@ use Rattle.regmodel.specs.declared.outcomes.End.{End}
 use Rattle.regmodel.specs.declared.outcomes.End.TheVariants as end
 use Rattle.regmodel.specs.declared.outcomes.ProcEnd.{ProcEnd}
 use Rattle.regmodel.specs.declared.statements.Op.TheVariants as op
+use Rattle.drawing.specs.declared.breadths.Breadth.{Breadth}
+use Rattle.drawing.specs.declared.breadths.Room.{Room}
+use Rattle.drawing.specs.declared.breadths.Room.TheVariants.{Places, Usual, Whole}
 use Rattle.patterns.specs.declared.standings.Standing.TheVariants.{Any, Done, Just}
 use Rattle.verdict.specs.Demands.{clauses_asked, meets_demands}
 use Rattle.verdict.specs.EmptyRanges.{is_empty_range}
@@ -160,8 +163,20 @@ empty_path = refl
 
 -- ---- commands
 
-pub command_of_a_file : show_text (codes "./regtry") (codes "it.reg") [] ≡ codes "\n./regtry show it.reg '.'\n"
+-- a drawing that has so much room, with lines or without
+abbrev drawn : Room → Bool → Breadth
+drawn room lines = record { room = room; lines = lines }
+
+pub command_of_a_file : show_text (codes "./regtry") (codes "it.reg") (drawn Usual false) [] ≡ codes "\n./regtry show it.reg '.'\n"
 command_of_a_file = refl
 
-pub command_of_what_was_read : show_text (codes "regtry") (codes "-") [] ≡ codes "\nregtry show FILE '.', where FILE holds what was read\n"
+pub command_of_what_was_read : show_text (codes "regtry") (codes "-") (drawn Usual false) []
+    ≡ codes "\nregtry show FILE '.', where FILE holds what was read\n"
 command_of_what_was_read = refl
+
+pub command_with_lines : show_text (codes "regtry") (codes "-x.reg") (drawn Whole true) [] ≡ codes "\nregtry show --all --lines -- -x.reg '.'\n"
+command_with_lines = refl
+
+pub command_of_a_width : show_text (codes "regtry") (codes "it.reg") (drawn (Places 80) false) [] ≡ codes "\nregtry show --width 80 it.reg '.'\n"
+unfolding digits
+command_of_a_width = refl

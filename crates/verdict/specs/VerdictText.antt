@@ -76,17 +76,17 @@ abbrev pub breach_text : List ℕ → List ℕ → List ℕ → Breadth → Bool
 breach_text program path text breadth is_shortest breach =
     failing_text path text is_shortest (length breach.schedule) breach.cause breach.onset
     ++ drawing_text breadth text breach.drawing
-    ++ show_text program path breach.schedule
+    ++ show_text program path breadth breach.schedule
 
 -- that a schedule is cut off, what it breaks, and the command that draws it
-abbrev pub cut_text : List ℕ → List ℕ → List ℕ → Cut → List ℕ
-cut_text program path text cut =
+abbrev pub cut_text : List ℕ → List ℕ → List ℕ → Breadth → Cut → List ℕ
+cut_text program path text breadth cut =
     codes "\nA schedule of " ++ letters_text (length cut.schedule) ++ codes " is cut off, with a process still running: " ++ cause_text text cut.cause
-    ++ show_text program path cut.schedule
+    ++ show_text program path breadth cut.schedule
 
 -- the same, where one is told beside another schedule that fails
-abbrev pub beside_text : List ℕ → List ℕ → List ℕ → Option Cut → List ℕ
-beside_text program path text cut = elim cut [ Some c ↦ cut_text program path text c | None ↦ [] ]
+abbrev pub beside_text : List ℕ → List ℕ → List ℕ → Breadth → Option Cut → List ℕ
+beside_text program path text breadth cut = elim cut [ Some c ↦ cut_text program path text breadth c | None ↦ [] ]
 
 -- whether schedules were cut off: some process still wants an access after as many letters as there
 -- may be
@@ -158,5 +158,5 @@ held_text path text reach asked gaps =
 -- the least failing schedule was asked for, or the shortest one
 abbrev pub verdict_text : List ℕ → List ℕ → List ℕ → Breadth → Bool → Verdict → List ℕ
 verdict_text program path text breadth is_shortest (Fails breach cut) =
-    breach_text program path text breadth is_shortest breach ++ beside_text program path text cut
+    breach_text program path text breadth is_shortest breach ++ beside_text program path text breadth cut
 verdict_text program path text breadth is_shortest (Holds held) = held_text path text (reach_of held.exploration) held.asked held.gaps.items

@@ -38,7 +38,7 @@ no_shorter_text is_shortest sought = if is_shortest then codes "No shorter one l
 abbrev pub way_text : List ℕ → List ℕ → List ℕ → Breadth → ℕ → Bool → Way → List ℕ
 way_text program path text breadth sought is_shortest way =
     leading_text path (length way.schedule) way.outcome ++ (match_text sought way.matched ++ no_shorter_text is_shortest sought) ++ codes "\n"
-    ++ drawing_text breadth text way.drawing ++ show_text program path way.schedule
+    ++ drawing_text breadth text way.drawing ++ show_text program path breadth way.schedule
 
 -- that no schedule leads there, and how far was looked
 abbrev pub nowhere_text : List ℕ → ℕ → ℕ → ℕ → List ℕ

@@ -121,6 +121,7 @@ impl Text for Failing<'_> {
         let show = ShowCommand {
             program,
             path,
+            breadth,
             schedule: &breach.schedule,
         };
         let onset = Onset(breach.onset);
@@ -201,7 +202,7 @@ struct Beside<'a> {
 
 impl Text for Beside<'_> {
     ghost text = { λ b. spec.beside_text b.topic.program.now b.topic.path.now b.topic.text.now
-        b.cut.now };
+        b.topic.breadth b.cut.now };
 
     fn put<W: Write>(&self, out: &mut W, block: &mut Block) -> Result<(), WriteFault> {
         let Some(cut) = self.cut else {
@@ -215,6 +216,7 @@ impl Text for Beside<'_> {
         let show = ShowCommand {
             program: self.topic.program,
             path: self.topic.path,
+            breadth: self.topic.breadth,
             schedule: &cut.schedule,
         };
         let running = " is cut off, with a process still running: ";

@@ -198,6 +198,7 @@ pub fn write_discovery<W: Write>(
             let show = ShowCommand {
                 program,
                 path,
+                breadth,
                 schedule: &way.schedule,
             };
             write(&(leads, matched, "\n", drawing, show), out)
