@@ -63,7 +63,6 @@ subcommands = subcommand (codes "check") check_words ∷ subcommand (codes "expl
 -- the program, which tells its version, and of whose subcommands one has to be there
 abbrev pub program : Shape
 program = record (new_shape (codes "regtry")) {
-  disable_help_subcommand = true;
   has_version = true;
   subcommand_required = true;
 }

@@ -75,8 +75,7 @@ fn program<'a>(alloc: Global, word: &str) -> Result<Command<'a>, AllocError>
         )
         .version(VERSION)
         .after_help(STATUSES)
-        .subcommand_required(true)
-        .disable_help_subcommand(true);
+        .subcommand_required(true);
     with_subcommands(alloc, command, asked_of(SUBCOMMANDS, word))
 }
 

@@ -7,5 +7,5 @@ use Rattle.command_words.proofs.program.Goals as goal
 
 pub returns : goal.returns
 returns c =
-    let top : app_of c.disable_help_subcommand-command.result ≡ record { top = program; subs = [] } = search rules in
+    let top : app_of c.subcommand_required-command.result ≡ record { top = program; subs = [] } = search rules in
     IfOk-weaker c.with_subcommands.result _ _ (λ r added. all_told _ _ _ (app_of r) c.args.word.now added top c.asked_of.ensures refl refl) c.with_subcommands.ensures
