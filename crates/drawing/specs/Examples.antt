@@ -172,10 +172,11 @@ a_scan_from_a_named_register = refl
 
 -- ---- what is left out
 
--- a process that never names the first of four registers, reads the second one, writes 5 into the third, and writes and reads the last one
+-- the row of a letter of the only process, which takes its statements in turn
 abbrev row_after : ℕ → Deed → List Held → Row
 row_after number done held = record { number = number; process = 0; deed = done; statement = Some (number - 1); registers = record { items = held } }
 
+-- a process that never names the first of four registers, reads the second one, writes 5 into the third, and writes and reads the last one
 abbrev four_uses : Picture
 four_uses = record {
   start = kept 0 ∷ kept 0 ∷ kept 0 ∷ kept 0 ∷ [];
