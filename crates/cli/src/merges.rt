@@ -1,6 +1,6 @@
 //! The parts of an exploration that are in some files, merged.
 
-ghost use Rattle.std.specs.Prelude.{IfErr, IfOk, List, OnOk, Option, map, ℕ};
+ghost use Rattle.std.specs.Prelude.{IfErr, List, OnOk, Option, map, ℕ};
 ghost use Rattle.std.specs.Result.{result_ok};
 ghost use Rattle.merging.specs.MergedText.{merged_text};
 ghost use Rattle.merging.specs.Mergers.{HoldsSome, HoldsTexts};
