@@ -75,9 +75,9 @@ impl<E: Write> Telling<'_, E> {
 }
 
 /// A gate that tells on a writer how many pieces were taken and how many are known so far, where
-/// that is asked for: a line each time that the number of taken pieces is 1, 3, 5 or 7 times a power
-/// of two. Where one length is searched after another, it tells each, and counts anew. Else it does
-/// nothing.
+/// that is asked for: a line each time that the number of taken pieces is 1, 3, 5 or 7 times a
+/// power of two. Where one length is searched after another, it tells each, and counts anew. Else
+/// it does nothing.
 #[derive(Drop)]
 pub struct Progress<'a, H, E> {
     rt: &'a H,

@@ -148,9 +148,10 @@ at which line of the source and why. A comment line of the source, as `# registe
 a register a name of at most 16 characters, which stands there in place of its number. With --lines
 a column behind that of the steps tells the line of the statement that took each.
 
-A line is at most 80 places long where there are at most two processes, else 132. Registers are left out until that holds or none is left,
-first those that no letter reads or writes, then those that are only read, then those that are only written, and each time the
-last one; a line below then says how many, and how many of them a letter writes. With --all none is left out, and with
+A line is at most 80 places long where there are at most two processes, else 132. Registers are left
+out until that holds or none is left, first those that no letter reads or writes, then those that
+are only read, then those that are only written, and each time the last one; a line below then says
+how many, and how many of them a letter writes. With --all none is left out, and with
 --registers 0,3-5 those are drawn and no others.
 
 Statuses:

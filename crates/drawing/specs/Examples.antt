@@ -176,7 +176,8 @@ a_scan_from_a_named_register = refl
 abbrev row_after : ℕ → Deed → List Held → Row
 row_after number done held = record { number = number; process = 0; deed = done; statement = Some (number - 1); registers = record { items = held } }
 
--- a process that never names the first of four registers, reads the second one, writes 5 into the third, and writes and reads the last one
+-- a process that never names the first of four registers, reads the second one, writes 5 into the
+-- third, and writes and reads the last one
 abbrev four_uses : Picture
 four_uses = record {
   start = kept 0 ∷ kept 0 ∷ kept 0 ∷ kept 0 ∷ [];
@@ -189,7 +190,8 @@ four_uses = record {
   stops = None ∷ [];
 }
 
--- in columns of width 30 two fit beside the letter's number: that of the process, and that of the register which is written and read
+-- in columns of width 30 two fit beside the letter's number: that of the process, and that of the
+-- register which is written and read
 pub the_one_that_is_written_and_read_is_kept : columns_shown four_uses (10 ∷ 30 ∷ 30 ∷ 30 ∷ 30 ∷ 30 ∷ []) Usual ≡ 0 ∷ 1 ∷ 5 ∷ []
 the_one_that_is_written_and_read_is_kept = refl
 

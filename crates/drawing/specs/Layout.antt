@@ -58,7 +58,8 @@ is_written picture register = list_any (λ row. writes register row.deed) pictur
 abbrev pub is_read : Picture → ℕ → Bool
 is_read picture register = list_any (λ row. reads register row.deed) picture.rows
 
--- which registers are kept before others where not all fit: those that are written and read, then those only written, then those only read
+-- which registers are kept before others where not all fit: those that are written and read, then
+-- those only written, then those only read
 abbrev pub register_rank : Picture → ℕ → ℕ
 register_rank picture register =
     if is_written picture register

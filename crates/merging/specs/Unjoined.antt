@@ -37,15 +37,16 @@ IsUnjoined first others part fault.TooMany = 2 ^ 64 ≤ all_tried (part ∷ firs
 IsUnjoined first others part fault.NoMemory = all_tried (part ∷ first ∷ others) < 2 ^ 64
 IsUnjoined first others part _ = ⊥
 
--- so it is where these parts, in the order in which they were read, are that first part and the others
+-- so it is where these parts, in the order in which they were read, are that first part and the
+-- others
 pub record IsUnjoinedBehind (parts : List PartReport) (part : PartReport) (fault : MergeFault) : Type 0 where
   pub first : PartReport
   pub others : List PartReport
   pub order : parts ≡ first ∷ reverse others
   pub why : IsUnjoined first others part fault
 
--- why one part more, the first one or another, is not joined to these parts: so it is; or memory was refused,
--- where of all of them together fewer than 2 ^ 64 schedules were tried
+-- why one part more, the first one or another, is not joined to these parts: so it is; or memory
+-- was refused, where of all of them together fewer than 2 ^ 64 schedules were tried
 abbrev pub IsUnjoinedTo : List PartReport → PartReport → MergeFault → Type 0
 IsUnjoinedTo parts part fault.NoMemory = all_tried (parts ++ part ∷ []) < 2 ^ 64
 IsUnjoinedTo parts part why = IsUnjoinedBehind parts part why

@@ -28,14 +28,14 @@ pub record AreUnjoinedIn (before : List (Option (List ℕ))) (last : Option (Lis
   pub fit : All FitsPart (own ++ part ∷ [])
   pub why : IsUnjoinedTo (earlier ++ own) part fault
 
--- why a line of a text is refused as no part's: its reader is at fault only if it may be; and where the
--- text is that of parts, one behind another, each of which can be read, it is not at fault
+-- why a line of a text is refused as no part's: its reader is at fault only if it may be; and where
+-- the text is that of parts, one behind another, each of which can be read, it is not at fault
 pub record IsLineRefused (may_fail : Type 0) (text : Option (List ℕ)) (cause : Cause) : Type 0 where
   pub reader : IsUnreadOnlyIf may_fail cause
   pub whole : (parts : List PartReport) → All FitsPart parts → text ≡ Some (flat_map part_text parts) → IsOutward cause
 
--- why the parts of the last text, whose reader may fail or not, are not joined to each other and to those
--- of the texts before: a line is no part's, there is none, or one of them is not joined
+-- why the parts of the last text, whose reader may fail or not, are not joined to each other and to
+-- those of the texts before: a line is no part's, there is none, or one of them is not joined
 abbrev pub IsUnreadBy : Type 0 → List (Option (List ℕ)) → Option (List ℕ) → MergeFault → Type 0
 IsUnreadBy may_fail before last (fault.Text bad) = IsLineRefused may_fail last bad.cause
 IsUnreadBy may_fail before last fault.Nothing = IsAtEnd last

@@ -38,8 +38,8 @@ lines_option lines = if lines then codes "--lines " else []
 abbrev pub options_text : Breadth → List ℕ
 options_text breadth = room_option breadth.room ++ lines_option breadth.lines
 
--- the command that draws a schedule that broad, as it is to be typed in a shell, behind the words by
--- which the program was called; options stand before the file, which may stand behind two dashes
+-- the command that draws a schedule that broad, as it is to be typed in a shell, behind the words
+-- by which the program was called; options stand before the file, which may stand behind two dashes
 abbrev pub show_text : List ℕ → List ℕ → Breadth → Schedule → List ℕ
 show_text program path breadth w =
     codes "\n" ++ program ++ codes " show " ++ options_text breadth ++ typed_file path ++ codes " '" ++ schedule_text w ++ codes "'"
