@@ -2,7 +2,7 @@
 use Rattle.std.proofs.Common.{◌≡◌, ℕ, ◌+◌, ◌<◌, Bool, All, List, [], ◌∷◌, ◌++◌, cond, filter, ap, ◌∙◌, arith}
 use Rattle.std.specs.List.{range_with_len}
 use Rattle.std.proofs.lemmas.List.Elements.{All-push, filter-append}
-use Rattle.regmodel.proofs.Ranges.{range_push}
+use Rattle.lists.proofs.Ranges.{range_push}
 
 -- one number more
 pub kept-more : (test : ℕ → Bool) (k : ℕ) (b : Bool) → test k ≡ b → filter test (range_with_len 0 (k + 1)) ≡ filter test (range_with_len 0 k) ++ cond b (k ∷ []) []

@@ -5,7 +5,7 @@ use Rattle.std.specs.List.{flat_map}
 use Rattle.std.proofs.KnownBytes.{Consumes-nil}
 use Rattle.std.proofs.lemmas.List.{length-reverse, reverse-append}
 use Rattle.std.proofs.lemmas.List.Elements.{All-nil, All-push}
-use Rattle.pool.specs.Balance.{AreInBalance}
+use Rattle.lists.specs.Balance.{AreInBalance}
 use Rattle.part_texts.specs.Causes.{IsOutward, IsOutwardAt, IsUnreadOnlyIf}
 use Rattle.part_texts.specs.FitsPart.{FitsFound, FitsPart}
 use Rattle.part_texts.specs.PartText.{part_text}

@@ -2,7 +2,7 @@
 use Rattle.std.specs.Prelude.{◌≡◌, ℕ, ◌++◌, List, [], ◌∷◌, Option, Some, All, length, map, reverse}
 use Rattle.std.specs.Io.KnownBytes.{Consumes, IsAtEnd}
 use Rattle.std.specs.List.{flat_map}
-use Rattle.pool.specs.Balance.{AreInBalance}
+use Rattle.lists.specs.Balance.{AreInBalance}
 use Rattle.part_texts.specs.Causes.{IsOutward, IsUnreadOnlyIf}
 use Rattle.part_texts.specs.FitsPart.{FitsPart}
 use Rattle.part_texts.specs.PartText.{part_text}

@@ -3,7 +3,7 @@ use Rattle.std.proofs.Common.{ℕ, zero, suc, ◌<◌, Bool, List, [], ◌∷◌
 use Rattle.std.specs.List.{flat_map, range_with_len}
 use Rattle.std.proofs.lemmas.List.Elements.{All-head, All-tail}
 use Rattle.std.proofs.lemmas.List.Sums.{sum_by-append, sum_by-cons}
-use Rattle.pool.specs.Balance.{AreInBalance}
+use Rattle.lists.specs.Balance.{AreInBalance}
 use Rattle.regmodel.specs.Settings.{Bounds}
 use Rattle.regmodel.specs.Summary.{Summary}
 use Rattle.reglang.specs.declared.source.Source.{Source}

@@ -2,7 +2,7 @@ use Rattle.std.proofs.Common.{ℕ, ◌-◌, List, arith}
 use Rattle.regmodel.specs.declared.letters.Letter.{Letter}
 use Rattle.world.specs.Fit.{AreFit}
 use Rattle.reglang.specs.Sources.{source_programs}
-use Rattle.pool.specs.Accounts.{every_nth}
+use Rattle.lists.specs.EveryNth.{every_nth}
 use Rattle.report.specs.declared.parts.Part.{Part}
 use Rattle.explorer.specs.Cutting.{pieces_at}
 use Rattle.explorer.specs.Searches.{Search, search_of}

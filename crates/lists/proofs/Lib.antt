@@ -1,0 +1,4 @@
+pub mod Balances
+pub mod CountedOff
+pub mod Ranges
+pub mod Sums
