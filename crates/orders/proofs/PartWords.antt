@@ -6,8 +6,8 @@ use Rattle.std.proofs.lemmas.Bool.{and_from, eqb-true}
 use Rattle.std.proofs.lemmas.Bool.Decides.{nat_tests}
 use Rattle.std.proofs.lemmas.Fmt.{decimal_injective, decimal_is_IsNumeral}
 use Rattle.std.proofs.lemmas.Str.Parse.{digit_from_value}
-use Rattle.patterns.specs.Cuts.{begins_at, has_no}
-use Rattle.patterns.proofs.Bytes.{IsCut, cut_is}
+use Rattle.texts.specs.Cuts.{begins_at, has_no}
+use Rattle.texts.proofs.Bytes.{IsCut, cut_is}
 
 no_slash_digits : (ds : List ℕ) → AllDigits 10 ds → has_no 47 ds ≡ true
 no_slash_digits [] h = refl

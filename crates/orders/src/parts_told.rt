@@ -9,8 +9,8 @@ ghost use Rattle.orders.specs.Orders.{IsPartTold, part_word, word_told};
 
 use crate::refusals::Refusal;
 use clap::ArgMatches;
-use patterns::{cut_at, number_of};
 use report::Part;
+use texts::{cut_at, number_of};
 
 /// The number of the setting that says which part is explored.
 const PART_SETTING: u8 = 6;

@@ -11,11 +11,11 @@ use Rattle.regmodel.specs.declared.outcomes.ProcEnd.{ProcEnd}
 use Rattle.regmodel.specs.Letters.{Schedule}
 use Rattle.regmodel.specs.Prefixes.{FitsPrefix}
 use Rattle.regmodel.specs.ScheduleText.{letter_text, schedule_text}
+use Rattle.texts.specs.Cuts.{has_no}
 use Rattle.texts.specs.NumberText.{numbers_text}
 use Rattle.texts.specs.OutcomeText.{end_text, fate_text, outcome_text}
-use Rattle.patterns.specs.Cuts.{has_no}
+use Rattle.texts.proofs.Bytes.{has_no-append}
 use Rattle.patterns.specs.PatternText.{end_fits, idle_text}
-use Rattle.patterns.proofs.Bytes.{has_no-append}
 use Rattle.part_texts.specs.FitsPart.{FitsOutcome}
 use Rattle.part_texts.specs.Streams.{FitsLine}
 use Rattle.part_texts.proofs.SameLines.{no_feed-decimal, no_feed-numbers_of, no_feed-outcome, no_feed-schedule, numbers_of}

@@ -1,12 +1,12 @@
 -- Why a line says nothing of what may stand there.
 use Rattle.std.proofs.Common.{◌≡◌, ◌≢◌, ℕ, ◌<◌, ◌≤◌, true, List, [], ◌∷◌, ◌++◌, length, codes, decimal, get_or, zero, suc, ◌^◌, Option, Some, None, IfNone, refl, ap, sym, ◌∙◌, arith, append_assoc}
 use Rattle.regmodel.specs.declared.outcomes.ProcEnd.{ProcEnd}
+use Rattle.texts.specs.Cuts.{begins_at, has_no}
 use Rattle.texts.specs.OutcomeText.{outcome_text}
-use Rattle.patterns.specs.Cuts.{begins_at, has_no}
+use Rattle.texts.proofs.Bytes.{cut_same, no_space-decimal}
 use Rattle.patterns.specs.PatternText.{FitsPattern, pattern_text}
 use Rattle.patterns.specs.declared.standings.Standing.{Standing}
 use Rattle.patterns.specs.declared.standings.Standing.TheVariants.{Just}
-use Rattle.patterns.proofs.Bytes.{cut_same, no_space-decimal}
 use Rattle.patterns.proofs.JustOneText.{pattern_text-same}
 use Rattle.part_texts.specs.FitsPart.{FitsOutcome}
 use Rattle.part_texts.specs.Standings.{just}

@@ -11,14 +11,14 @@ use Rattle.regmodel.specs.declared.letters.Letter.TheVariants.{Run, Crash}
 use Rattle.regmodel.specs.declared.outcomes.ProcEnd.{ProcEnd}
 use Rattle.regmodel.specs.Letters.{process_of}
 use Rattle.regmodel.specs.ScheduleText.{letter_text, schedule_text}
+use Rattle.texts.specs.Cuts.{has_no}
 use Rattle.texts.specs.NumberText.{number_line}
 use Rattle.texts.specs.OutcomeText.{end_text, outcome_text}
+use Rattle.texts.proofs.Bytes.{cut_same, has_no-append, no_digit}
 use Rattle.patterns.specs.declared.standings.Standing.{Standing}
 use Rattle.patterns.specs.declared.standings.Standing.TheVariants.{Just}
 use Rattle.patterns.specs.declared.standings.Standing.TheVariants as standing
-use Rattle.patterns.specs.Cuts.{has_no}
 use Rattle.patterns.specs.PatternText.{FitsPattern, end_fits}
-use Rattle.patterns.proofs.Bytes.{cut_same, has_no-append, no_digit}
 use Rattle.patterns.proofs.EndTexts.{IsOutside, none-end}
 use Rattle.patterns.proofs.JustOneText.{pattern_text-same}
 use Rattle.part_texts.specs.FitsPart.{FitsOutcome}

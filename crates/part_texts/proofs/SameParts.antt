@@ -11,7 +11,7 @@ use Rattle.regmodel.proofs.ScheduleTexts.{schedule_text-same}
 use Rattle.report.specs.ReportText.{least_text}
 use Rattle.texts.specs.NumberText.{number_line}
 use Rattle.texts.specs.OutcomeText.{outcome_line, outcome_text}
-use Rattle.patterns.proofs.Bytes.{cut_same}
+use Rattle.texts.proofs.Bytes.{cut_same}
 use Rattle.part_texts.specs.FitsPart.{FitsFound, FitsLeast, FitsOutcome, FitsPart}
 use Rattle.part_texts.specs.PlainHead.{FitsHead, PlainHead}
 use Rattle.part_texts.specs.PartText.{bounds_in, bounds_text, end_text, found_text, head_text, number_text, outcomes_text, part_text, source_text}

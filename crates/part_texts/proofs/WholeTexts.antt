@@ -7,7 +7,7 @@ use Rattle.std.proofs.lemmas.List.{append-nil}
 use Rattle.regmodel.specs.declared.outcomes.ProcEnd.{ProcEnd}
 use Rattle.texts.specs.NumberText.{number_line}
 use Rattle.texts.specs.OutcomeText.{outcome_line, outcome_text}
-use Rattle.patterns.specs.Cuts.{has_no}
+use Rattle.texts.specs.Cuts.{has_no}
 use Rattle.part_texts.specs.Causes.{IsOutwardAt}
 use Rattle.part_texts.specs.FitsPart.{FitsNumber, FitsOutcome, FitsOutcomeBehind, IsProcessCount}
 use Rattle.part_texts.specs.PartText.{outcome_behind}

@@ -1,7 +1,7 @@
 -- What a stream of parts has left.
 use Rattle.std.specs.Prelude.{◌≡◌, ◌≤◌, ℕ, true, List, length, ◌∷◌, ◌++◌, Option, Some, codes}
 use Rattle.std.specs.Io.KnownBytes.{Consumes}
-use Rattle.patterns.specs.Cuts.{has_no}
+use Rattle.texts.specs.Cuts.{has_no}
 use Rattle.part_texts.specs.declared.streams.PartStream.{PartStream}
 use Rattle.part_texts.specs.declared.streams.TheConstants.{MOST_LINE_BYTES}
 

@@ -8,8 +8,8 @@ ghost use Rattle.texts.specs.OutcomeText.{outcome_text};
 ghost use Rattle.part_texts.specs.FitsPart.{FitsOutcome};
 
 use crate::outcomes::read_outcome;
-use patterns::{cut_at, long_number_of};
 use regmodel::Outcome;
+use texts::{cut_at, long_number_of};
 
 /// What follows a word at the beginning of a text. None where it does not begin so.
 pub(crate) fn after<'a>(text: &'a [u8], word: &[u8]) -> Option<&'a [u8]>

@@ -22,7 +22,7 @@ impl<R: ByteReader> PartStream<R> {
     ghost use Rattle.std.specs.Prelude.{◌≡◌, ◌∷◌, [], ◌++◌, IfErr, IfOk, OnOk, Some, true, false};
     ghost use Rattle.part_texts.specs.declared.faults.Cause.TheVariants.{Unreadable};
     ghost use Rattle.std.specs.Io.KnownBytes.{Consumes, IsAtEnd};
-    ghost use Rattle.patterns.specs.Cuts.{has_no};
+    ghost use Rattle.texts.specs.Cuts.{has_no};
     ghost use Rattle.part_texts.specs.Causes.{IsOutwardAt, IsUnreadOnlyIf};
     ghost use Rattle.part_texts.specs.Streams.{FitsLine, left_of, line_text};
 

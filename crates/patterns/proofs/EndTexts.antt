@@ -8,11 +8,11 @@ use Rattle.std.proofs.lemmas.Grind.{flat_map-append}
 use Rattle.regmodel.specs.declared.outcomes.End.{End}
 use Rattle.regmodel.specs.declared.outcomes.End.TheVariants.{Done, Fault, Crashed, Running}
 use Rattle.regmodel.specs.declared.outcomes.ProcEnd.{ProcEnd}
+use Rattle.texts.specs.Cuts.{has_no, begins_at}
 use Rattle.texts.specs.NumberText.{numbers_text}
 use Rattle.texts.specs.OutcomeText.{end_text, fate_text}
-use Rattle.patterns.specs.Cuts.{has_no, begins_at}
+use Rattle.texts.proofs.Bytes.{IsCut, cut_same, cut_is, has_no-append, no_space-decimal, no_mark-decimal, begins_digit}
 use Rattle.patterns.specs.PatternText.{idle_text, code_text, numbers_fit, code_fits, end_fits}
-use Rattle.patterns.proofs.Bytes.{IsCut, cut_same, cut_is, has_no-append, no_space-decimal, no_mark-decimal, begins_digit}
 
 pub first-same : (x y : ℕ) (s t : List ℕ) → x ∷ s ≡ y ∷ t → x ≡ y
 first-same x y s t e = cc

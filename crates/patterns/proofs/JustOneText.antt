@@ -11,11 +11,11 @@ use Rattle.regmodel.specs.declared.outcomes.End.TheVariants.{Done, Fault, Crashe
 use Rattle.regmodel.specs.declared.outcomes.ProcEnd.{ProcEnd}
 use Rattle.texts.specs.NumberText.{numbers_text}
 use Rattle.texts.specs.OutcomeText.{end_text}
+use Rattle.texts.proofs.Bytes.{IsCut, cut_same, no_space-decimal, begins_digit}
 use Rattle.patterns.specs.declared.standings.Standing.{Standing}
 use Rattle.patterns.specs.declared.standings.Standing.TheVariants as standing
 use Rattle.patterns.specs.Matching.{allows, are_alike, both_or_neither}
 use Rattle.patterns.specs.PatternText.{FitsPattern, end_fits, idle_text, numbers_fit, pattern_text, standing_fits, standing_text}
-use Rattle.patterns.proofs.Bytes.{IsCut, cut_same, no_space-decimal, begins_digit}
 use Rattle.patterns.proofs.EndTexts.{after-begins, after_word, are_small, end-cut, end-parts, first-same, idle-begins, idle-no_number, numbers-assoc, numbers-rest, word-no_space, word_of}
 use Rattle.patterns.proofs.PatternRows.{all_fit, no_mark}
 

@@ -1,4 +1,3 @@
-pub mod Bytes
 pub mod EndTexts
 pub mod FirstMatch
 pub mod JustOneText

@@ -7,9 +7,9 @@ use Rattle.std.proofs.lemmas.List.{append-nil}
 use Rattle.std.proofs.lemmas.List.Folds.{list_all-append}
 use Rattle.patterns.specs.declared.standings.Standing.{Standing}
 use Rattle.patterns.specs.declared.standings.Standing.TheVariants as standing
-use Rattle.patterns.specs.Cuts.{has_no, begins_at}
+use Rattle.texts.specs.Cuts.{has_no, begins_at}
+use Rattle.texts.proofs.Bytes.{IsCut, cut_same, cut_is}
 use Rattle.patterns.specs.PatternText.{FitsPattern, IsBadAt, ended_text, pattern_text, standing_fits, standing_text}
-use Rattle.patterns.proofs.Bytes.{IsCut, cut_same, cut_is}
 use Rattle.patterns.proofs.EndTexts.{mark_outside, none-end}
 
 abbrev pub all_fit : List Standing → Bool

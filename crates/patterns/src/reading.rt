@@ -3,17 +3,16 @@
 ghost use Rattle.std.specs.Prelude.{◌≡◌, ◌≢◌, ◌≤◌, ◌++◌, ◌∷◌, ℕ, Bool, IfErr, IfNone, IfOk, IfSome, List, codes, true};
 ghost use Rattle.regmodel.specs.declared.outcomes.End.{End};
 ghost use Rattle.regmodel.specs.declared.outcomes.ProcEnd.{ProcEnd};
+ghost use Rattle.texts.specs.Cuts.{begins_at};
 ghost use Rattle.texts.specs.NumberText.{numbers_text};
 ghost use Rattle.texts.specs.OutcomeText.{end_text};
 ghost use Rattle.patterns.specs.declared.standings.Standing.{Standing};
-ghost use Rattle.patterns.specs.Cuts.{begins_at};
 ghost use Rattle.patterns.specs.PatternText.{FitsPattern, IsBadAt, code_fits, code_text, end_fits, idle_text, numbers_fit, pattern_text, standing_fits, standing_text};
 
-use crate::cuts::cut_at;
-use crate::numbers::number_of;
 use crate::standings::{Pattern, Standing};
 use arrayvec::ArrayVec;
 use regmodel::{End, Numbers, ProcEnd};
+use texts::{cut_at, number_of};
 use thiserror::Error;
 
 /// A text that no pattern has.

@@ -1,10 +1,12 @@
-//! Texts: what can be written as one, its parts, blocks in which it goes to a writer, and what
-//! gives its bytes where it is read.
+//! Texts: what can be written as one, its parts, blocks in which it goes to a writer; what gives
+//! its bytes where it is read, where it is cut, and which numbers its words write.
 #![tactic(auto)]
 
 mod blocks;
+mod cuts;
 mod faults;
-mod numbers;
+mod number_lines;
+mod number_words;
 mod outcomes;
 mod parts;
 mod readers;
@@ -13,8 +15,10 @@ mod schedules;
 mod texts;
 
 pub use blocks::Block;
+pub use cuts::cut_at;
 pub use faults::{ANSWERED_ERROR, ReadFault, TOOK_NO_BYTE, WriteFault};
-pub use numbers::NumberLine;
+pub use number_lines::NumberLine;
+pub use number_words::{long_number_of, number_of};
 pub use outcomes::OutcomeLine;
 pub use readers::ByteReader;
 pub use rows::{Joined, Led};

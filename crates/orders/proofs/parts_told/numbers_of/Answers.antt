@@ -1,4 +1,4 @@
-use Rattle.patterns.proofs.Bytes.{IsCut}
+use Rattle.texts.proofs.Bytes.{IsCut}
 use Rattle.orders.proofs.PartWords.{cut_word, digits_are, no_rest, numbers_are}
 use Rattle.orders.proofs.parts_told.numbers_of.Goals as goal
 

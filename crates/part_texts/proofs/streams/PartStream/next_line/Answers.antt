@@ -2,7 +2,7 @@ use Rattle.std.proofs.Common.{◌≡◌, ◌∷◌, ◌++◌, [], ◌&&◌, not,
 use Rattle.std.specs.Io.KnownBytes.{Consumes, IsAtEnd}
 use Rattle.std.proofs.KnownBytes.{Consumes-trans}
 use Rattle.std.proofs.lemmas.Result.{err_from_is_err_and}
-use Rattle.patterns.proofs.Bytes.{has_no-append}
+use Rattle.texts.proofs.Bytes.{has_no-append}
 use Rattle.part_texts.proofs.WholeTexts.{not_ended, within_line}
 use Rattle.part_texts.proofs.streams.PartStream.next_line.Goals as goal
 

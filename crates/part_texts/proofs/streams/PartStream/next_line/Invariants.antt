@@ -1,6 +1,6 @@
 use Rattle.std.proofs.Common.{◌≡◌, ◌-◌, length, true}
 use Rattle.std.specs.Io.KnownBytes.{Consumes}
-use Rattle.patterns.specs.Cuts.{has_no}
+use Rattle.texts.specs.Cuts.{has_no}
 use Rattle.part_texts.proofs.streams.PartStream.next_line.Given as goal
 
 abbrev pub invariant-loop-byte : goal.invariant-loop-byte

@@ -1,6 +1,6 @@
 use Rattle.std.proofs.Common.{arith, ◌∙◌, sym}
 use Rattle.std.proofs.lemmas.Fmt.{decimal_injective}
-use Rattle.patterns.proofs.numbers.number_of.Goals as goal
+use Rattle.texts.proofs.number_words.number_of.Goals as goal
 
 pub returns-in_err-number : goal.returns-in_err-number
 returns-in_err-number c = rw c.from_residual.ensures (record { some = tt; small = tt; none = λ n low e. c.in_err-number.ensures.none n (omega (arith, low)) e })

@@ -2,7 +2,7 @@
 
 ghost use Rattle.std.specs.Prelude.{◌≡◌, ◌++◌, ◌==◌, ◌≤◌, length, not, true};
 ghost use Rattle.std.specs.List.{prefix_len};
-ghost use Rattle.patterns.specs.Cuts.{begins_at, has_no};
+ghost use Rattle.texts.specs.Cuts.{begins_at, has_no};
 
 /// What stands before the first byte of this value, and the rest from that byte on; all and nothing
 /// where there is none.

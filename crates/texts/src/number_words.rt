@@ -1,7 +1,7 @@
-//! Numbers as words.
+//! The numbers that words write.
 
 ghost use Rattle.std.specs.Prelude.{◌≡◌, ◌<◌, ◌≤◌, ◌^◌, ℕ, Some, decimal};
-ghost use Rattle.patterns.specs.Numbers.{IsNumberIn};
+ghost use Rattle.texts.specs.NumberWords.{IsNumberIn};
 ghost use Rattle.regmodel.specs.declared.limits.TheConstants.{GREATEST_VALUE};
 
 use itoa::Buffer;

@@ -1,4 +1,4 @@
--- Numbers as words.
+-- The numbers that words write.
 use Rattle.std.specs.Prelude.{◌≡◌, ◌≢◌, ℕ, List, Option, IfNone, IfSome, decimal}
 
 -- the number that a word writes in decimal, without a sign and without a 0 before other digits,

@@ -2,7 +2,7 @@ use Rattle.std.proofs.Common.{◌≡◌, Ok, decimal, sym, subst, ◌∙◌, ari
 use Rattle.std.specs.Str.{IsUtf8}
 use Rattle.std.proofs.lemmas.Fmt.{IsAscii-decimal, parse-decimal}
 use Rattle.std.proofs.lemmas.Str.{IsUtf8-from_ascii}
-use Rattle.patterns.proofs.numbers.number_in.Goals as goal
+use Rattle.texts.proofs.number_words.number_in.Goals as goal
 
 pub returns-in-Err : goal.returns-in-Err
 returns-in-Err c = λ n low e. absurd (c.in-Err.ensures.cases.0 (subst IsUtf8 e (IsUtf8-from_ascii (decimal n) (IsAscii-decimal n (omega arith)))))

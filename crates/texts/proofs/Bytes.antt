@@ -7,7 +7,7 @@ use Rattle.std.proofs.lemmas.Bool.{and_parts, and_from}
 use Rattle.std.proofs.lemmas.Bool.Decides.{nat_tests}
 use Rattle.std.proofs.lemmas.Fmt.{decimal_is_IsNumeral}
 use Rattle.std.proofs.lemmas.Str.Parse.{digit_from_value}
-use Rattle.patterns.specs.Cuts.{has_no, begins_at}
+use Rattle.texts.specs.Cuts.{has_no, begins_at}
 
 -- a text, cut at the first byte of a value
 pub record IsCut (byte : ℕ) (text front rest : List ℕ) : Type 0 where
