@@ -3,7 +3,7 @@
 ghost use Rattle.std.specs.Prelude.{◌≡◌, ◌≤◌, ◌⊎◌, Bool, IfErr, IfOk, IsNone, List, None, Option, Some, false, if◌then◌else◌, option_and_then, true, ℕ};
 ghost use Rattle.std.specs.Result.{result_ok};
 ghost use Rattle.findings.specs.FindingText.{finding_text};
-ghost use Rattle.report.specs.declared.effort.Effort.{Effort};
+ghost use Rattle.regmodel.specs.declared.effort.Effort.{Effort};
 ghost use Rattle.orders.specs.declared.tasks.Task.TheVariants as asked;
 ghost use Rattle.cli.specs.Answers.{IsAnswered, IsCutShort, IsRefusedWith, IsTold, IsUnanswered};
 ghost use Rattle.cli.specs.Refusals.{Finds};

@@ -8,9 +8,9 @@ use Rattle.clap.specs.declared.parser.matches.Found.{Found}
 use Rattle.patterns.specs.PatternText.{pattern_text}
 use Rattle.regmodel.specs.Settings.{AreSettingsWithin, Bounds, setting_fault}
 use Rattle.regmodel.specs.declared.limits.TheConstants.{MOST_LETTERS}
+use Rattle.regmodel.specs.declared.effort.Effort.{Effort}
+use Rattle.regmodel.specs.declared.parts.Part.{Part}
 use Rattle.regmodel.specs.ScheduleText.{schedule_text}
-use Rattle.report.specs.declared.effort.Effort.{Effort}
-use Rattle.report.specs.declared.parts.Part.{Part}
 use Rattle.orders.specs.Bounds.{IsBoundRefused, IsBoundTold}
 use Rattle.orders.specs.Inputs.{is_standard}
 use Rattle.orders.specs.Flags.{IsFlagTold}

@@ -3,13 +3,13 @@
 ghost use Rattle.std.specs.Prelude.{◌≡◌, ◌≢◌, ◌≤◌, ◌++◌, ℕ, IfErr, IfNone, IfOk, IfSome, Option, Some, codes, decimal};
 ghost use Rattle.clap.specs.Words.{found_of};
 ghost use Rattle.regmodel.specs.declared.limits.TheConstants.{GREATEST_VALUE};
-ghost use Rattle.report.specs.declared.parts.Part.{Part};
+ghost use Rattle.regmodel.specs.declared.parts.Part.{Part};
 ghost use Rattle.orders.specs.declared.parts_told.TheConstants.{PART_SETTING};
 ghost use Rattle.orders.specs.Orders.{IsPartTold, part_word, word_told};
 
 use crate::refusals::Refusal;
 use clap::ArgMatches;
-use report::Part;
+use regmodel::Part;
 use texts::{cut_at, number_of};
 
 /// The number of the setting that says which part is explored.

@@ -4,8 +4,7 @@ ghost use Rattle.std.specs.Prelude.{◌≡◌, None, Some, if◌then◌else◌, 
 
 use drawing::Breadth;
 use patterns::Pattern;
-use regmodel::Prefix;
-use report::{Effort, Part};
+use regmodel::{Effort, Part, Prefix};
 
 /// What to do with a source.
 #[derive(Debug, Drop)]

@@ -4,10 +4,10 @@
 ghost use Rattle.std.specs.Prelude.{◌≡◌, ◌^◌, ◌<◌, ◌∷◌, All, Bool, List, length};
 ghost use Rattle.regmodel.specs.Settings.{Bounds};
 ghost use Rattle.regmodel.specs.declared.outcomes.ProcEnd.{ProcEnd};
+ghost use Rattle.regmodel.specs.declared.parts.Part.{Part};
 ghost use Rattle.reglang.specs.Sources.{source_programs};
 ghost use Rattle.reglang.specs.declared.source.Source.{Source};
 ghost use Rattle.report.specs.PlainReport.{Findings, LeastFinding};
-ghost use Rattle.report.specs.declared.parts.Part.{Part};
 ghost use Rattle.part_texts.specs.FitsPart.{FitsPart};
 ghost use Rattle.part_texts.specs.PartText.{explored_part, least_part};
 ghost use Rattle.part_texts.specs.PlainHead.{FitsHead, PlainHead};

@@ -3,9 +3,8 @@
 ghost use Rattle.std.specs.Prelude.{◌≡◌, ◌↔◌, IfSome, IsSome};
 ghost use Rattle.part_texts.specs.PlainHead.{FitsHead, head_of};
 
-use regmodel::Settings;
 use regmodel::limits::{MOST_PROCESSES, MOST_SOURCE_BYTES};
-use report::Part;
+use regmodel::{Part, Settings};
 use std::marker::Model;
 
 /// Which part of which exploration something is told of: the part, the number of processes,

@@ -1,13 +1,11 @@
 //! Numbers within their ranges. No call takes memory.
 
 ghost use Rattle.std.specs.Prelude.{◌≡◌, ◌<◌, ◌≤◌, ◌^◌, IfErr, IfOk, IsOk};
-ghost use Rattle.regmodel.specs.declared.limits.TheConstants.{GREATEST_CUT, MOST_CRASHES, MOST_LETTERS};
-ghost use Rattle.report.specs.declared.parts.TheConstants.{MOST_PARTS};
+ghost use Rattle.regmodel.specs.declared.limits.TheConstants.{GREATEST_CUT, MOST_CRASHES, MOST_LETTERS, MOST_PARTS};
 ghost use Rattle.part_texts.specs.declared.faults.Cause.TheVariants.{OutOfRange};
 
 use crate::faults::Cause;
-use regmodel::Settings;
-use report::Part;
+use regmodel::{Part, Settings};
 
 /// The number where it has 32 bits.
 pub(crate) fn narrow(number: u64) -> Result<u32, Cause>

@@ -3,6 +3,7 @@
 
 mod accesses;
 mod clauses;
+mod effort;
 pub mod faults;
 mod fitting;
 mod judging;
@@ -11,6 +12,7 @@ mod letters;
 pub mod limits;
 mod memory;
 mod outcomes;
+mod parts;
 mod programs;
 mod reply;
 mod schedule_texts;
@@ -20,10 +22,12 @@ mod statements;
 
 pub use accesses::{Access, Footprint, Numbers, Pending};
 pub use clauses::{Clause, Clauses, Subject};
+pub use effort::Effort;
 pub use fitting::scan_fits;
 pub use letters::Letter;
 pub use memory::OutOfMemory;
 pub use outcomes::{End, Judge, Outcome, ProcEnd};
+pub use parts::Part;
 pub use programs::Prog;
 pub use reply::Reply;
 pub use schedule_texts::{read_schedule, write_schedule};

@@ -28,6 +28,9 @@ pub const GREATEST_CUT: u32 = 16;
 /// The most pieces that a worker may hand on.
 pub const GREATEST_ROOM: u32 = 65536;
 
+/// The most parts of one exploration.
+pub const MOST_PARTS: u32 = 65536;
+
 /// How many variables a process has.
 pub const VARIABLES: u8 = 16;
 

@@ -1,9 +1,9 @@
 use Rattle.std.proofs.Common.{ℕ, ◌-◌, List, arith}
 use Rattle.regmodel.specs.declared.letters.Letter.{Letter}
+use Rattle.regmodel.specs.declared.parts.Part.{Part}
 use Rattle.world.specs.Fit.{AreFit}
 use Rattle.reglang.specs.Sources.{source_programs}
 use Rattle.lists.specs.EveryNth.{every_nth}
-use Rattle.report.specs.declared.parts.Part.{Part}
 use Rattle.explorer.specs.Cutting.{pieces_at}
 use Rattle.explorer.specs.Searches.{Search, search_of}
 use Rattle.part_laws.proofs.FoundParts.{explored-fits, lowest-fits}

@@ -1,6 +1,6 @@
 //! How far a source is explored, and with how much.
 
-use regmodel::Settings;
+use crate::settings::Settings;
 
 /// How far a source is explored and by how many workers, and with how much memory for the
 /// states that they meet.

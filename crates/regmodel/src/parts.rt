@@ -1,10 +1,9 @@
 //! Which part of an exploration is explored, where it is shared among several runs.
 
 ghost use Rattle.std.specs.Prelude.{◌≡◌, ◌≤◌, ◌↔◌, IfSome, IsSome};
-ghost use Rattle.report.specs.declared.parts.TheConstants.{MOST_PARTS};
+ghost use Rattle.regmodel.specs.declared.limits.TheConstants.{MOST_PARTS};
 
-/// The most parts of one exploration.
-pub const MOST_PARTS: u32 = 65536;
+use crate::limits::MOST_PARTS;
 
 /// One of several parts of an exploration, by its number, counted from 1.
 #[derive(Clone, Copy, PartialEq, Eq, Debug)]
