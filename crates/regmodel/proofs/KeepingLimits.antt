@@ -151,7 +151,7 @@ module _ (n : ℕ) where
   with_value-fits P (Err code) go h k = h
 
   answer_read-fits : (env : Env) (p : Place) (r : ℕ) (s : Replies) → r < n → EnvFits env → AreValues s → FlowFits (answer_read env p r s)
-  answer_read-fits env p r [] there h each = (omega arith, omega arith, omega (arith, there))
+  answer_read-fits env p r [] there h each = ((omega arith, omega arith, omega (arith, there)), tt)
   answer_read-fits env p r (reply ∷ s) there h each = (store-fits env p (value_of reply) h (value_of-low reply (All-head (All IsValue) reply s each)), All-tail (All IsValue) reply s each)
 
   answer_scan-fits : (env : Env) (cell first count : ℕ) (s : Replies) → scan_fits n cell first count ≡ true → EnvFits env → AreValues s → FlowFits (answer_scan env cell first count s)
@@ -159,11 +159,11 @@ module _ (n : ℕ) where
       let parts = and_parts (nat_lt 0 count && nat_le (cell + count) CELLS) (nat_le (first + count) n) fits in
       let here = and_parts (nat_lt 0 count) (nat_le (cell + count) CELLS) parts.0 in
       let cells = leb-true (cell + count) CELLS here.1 in
-      (ltb-true 0 count here.0, omega (arith, cells), leb-true (first + count) n parts.1)
+      ((ltb-true 0 count here.0, omega (arith, cells), leb-true (first + count) n parts.1), tt)
   answer_scan-fits env cell first count (reply ∷ s) fits h each = (store_from-fits env cell reply h (All-head (All IsValue) reply s each), All-tail (All IsValue) reply s each)
 
   answer_write-fits : (env : Env) (r v : ℕ) (s : Replies) → r < n → IsValue v → EnvFits env → AreValues s → FlowFits (answer_write env r v s)
-  answer_write-fits env r v [] there low h each = (there, low)
+  answer_write-fits env r v [] there low h each = (tt, (there, low))
   answer_write-fits env r v (reply ∷ s) there low h each = (h, All-tail (All IsValue) reply s each)
 
   choose-fits : (v : ℕ) (first second : Flow) → FlowFits first → FlowFits second → FlowFits (choose v first second)

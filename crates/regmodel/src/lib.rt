@@ -20,7 +20,7 @@ mod schedules;
 mod settings;
 mod statements;
 
-pub use accesses::{Access, Footprint, Numbers, Pending};
+pub use accesses::{Access, Footprint, Numbers, Pending, Reads, Writes};
 pub use clauses::{Clause, Clauses, Subject};
 pub use effort::Effort;
 pub use fitting::scan_fits;
