@@ -70,7 +70,7 @@ pub trait Machine: Drop + Send {
         ensures { result ≡ rest self.now [] };
 
     /// Goes on past one reply: the value of each register that was read, rising, each at most
-    /// 1000000000; or one 0 to a write.
+    /// 1000000000; or one 0 where none was.
     fn feed(&mut self, reply: &[u32])
         requires { IsReplyTo (rest self.old []) reply.now }
         ensures same { IsSameMachine program resumed self.old self.new }
