@@ -8,7 +8,7 @@ use natives::{Grid, MakeFault, NameSlots, Names, Split, Tree};
 use rand::rngs::SmallRng;
 use rand::{RngExt, SeedableRng};
 use regmodel::limits::MOST_SCANNED;
-use regmodel::{Footprint, Numbers, Pending};
+use regmodel::{Numbers, Pending};
 use std::alloc::Global;
 use std::process::Abort;
 use std::test::Fail;
@@ -34,9 +34,9 @@ fn give<M: Machine>(machine: &mut M, reply: &[u32]) -> bool {
     let Pending::Wants(access) = machine.pending() else {
         return false;
     };
-    match access.footprint() {
-        Footprint::Reads(_, count) if are_values(reply, count) => machine.feed(reply),
-        Footprint::Writes(_, _) if reply == [0].as_slice() => machine.feed(reply),
+    match access.footprint().reads {
+        Some(reads) if are_values(reply, reads.count) => machine.feed(reply),
+        None if reply == [0].as_slice() => machine.feed(reply),
         _ => return false,
     }
     true
@@ -101,19 +101,20 @@ fn beside<M: Machine>(
             return pending;
         };
         let mut values = [0; MOST_SCANNED];
-        let count = match access.footprint() {
-            Footprint::Reads(_, count) => {
-                let count = usize::from(count).min(MOST_SCANNED);
+        let footprint = access.footprint();
+        let count = match footprint.reads {
+            Some(reads) => {
+                let count = usize::from(reads.count).min(MOST_SCANNED);
                 for at in 0..count {
                     values[at] = value(random, written, echoes);
                 }
                 count
             }
-            Footprint::Writes(_, number) => {
-                written = number;
-                1
-            }
+            None => 1,
         };
+        if let Some(writes) = footprint.writes {
+            written = writes.value;
+        }
         assert!(rt; give(native, &values[..count]));
         assert!(rt; give(text, &values[..count]));
     }
