@@ -12,7 +12,7 @@ use Rattle.world.specs.Fit.{AreFit}
 use Rattle.world.proofs.ValueLimits.{WantsWithin, pending_after-there}
 
 read-within : (n : ℕ) (x : Pending) (r : ℕ) → access_of x ≡ Some (access.Read r) → IsAccessWithin n x → r < n
-read-within n (Wants (access.Read q)) r e h = let same : q ≡ r = cc in omega (arith, same, h.2)
+read-within n (Wants (access.Read q)) r e h = let same : q ≡ r = cc in omega (arith, same, h.0.2)
 read-within n (Wants (access.Write q v)) r e h = absurd (cc e)
 read-within n (Wants (access.Scan first count)) r e h = absurd (cc e)
 read-within n (Done numbers) r e h = absurd (cc e)
