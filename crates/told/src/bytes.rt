@@ -7,7 +7,7 @@ ghost use Rattle.told.specs.declared.bytes.TheConstants.{SMALL};
 /// A number below it is small. Two small ones share a byte: 15 times the first, and the second.
 pub(crate) const SMALL: u32 = 15;
 
-/// The byte of the small number 0 that shares it with none; those of the other small numbers follow.
+/// The byte of the small number 0 that shares it with none; those of other small ones follow.
 pub(crate) const ALONE: u32 = 225;
 
 /// The first byte of numbers that have two: the upper one, from here on, and the lower one.
