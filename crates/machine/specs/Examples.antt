@@ -107,9 +107,9 @@ four_are_read = refl
 pub nine_is_behind : past_sparse 4 (10 ∷ 5 ∷ 7 ∷ 9 ∷ []) ≡ 9 ∷ []
 nine_is_behind = refl
 
--- ---- what is told at the read, before which nothing was emitted and all values are 0: statement 1, a read of register 0 into variable 0
-pub the_read_is_told : access_numbers (state_at kept_at_the_read 1) ≡ 2 ∷ 0 ∷ 0 ∷ 8 ∷ 0 ∷ 0 ∷ []
+-- ---- what is told at the read, before which nothing was emitted and all values are 0: place 1, a read, of register 0 into variable 0
+pub the_read_is_told : access_numbers (state_at kept_at_the_read 1) ≡ 2 ∷ 0 ∷ 0 ∷ 1 ∷ 0 ∷ 0 ∷ 0 ∷ []
 the_read_is_told = refl
 
-pub its_reply_is_emitted_again : resumed_by write_and_read (2 ∷ 0 ∷ 0 ∷ 8 ∷ 0 ∷ 0 ∷ []) (one 7 ∷ []) ≡ pending.Done (record { items = 7 ∷ [] })
+pub its_reply_is_emitted_again : resumed_by write_and_read (2 ∷ 0 ∷ 0 ∷ 1 ∷ 0 ∷ 0 ∷ 0 ∷ []) (one 7 ∷ []) ≡ pending.Done (record { items = 7 ∷ [] })
 its_reply_is_emitted_again = refl
