@@ -5,6 +5,7 @@ mod CountedFiles
 mod CutOffsFound
 mod CutVerdicts
 mod FilesRead
+mod InterpretedProcesses
 mod LengthsTried
 mod ShortestFound
 mod SearchesFound

@@ -88,6 +88,28 @@ impl Machine for ProcessMachine {
         }
     }
 
+    fn most_accesses(&self) -> Option<u32> {
+        match self {
+            ProcessMachine::Text(machine) => machine.most_accesses(),
+            ProcessMachine::Split(machine) => machine.most_accesses(),
+            ProcessMachine::Grid(machine) => machine.most_accesses(),
+            ProcessMachine::Tree(machine) => machine.most_accesses(),
+            ProcessMachine::Name(machine) => machine.most_accesses(),
+            ProcessMachine::Names(machine) => machine.most_accesses(),
+        }
+    }
+
+    fn last_write(&self, register: u8) -> Option<u32> {
+        match self {
+            ProcessMachine::Text(machine) => machine.last_write(register),
+            ProcessMachine::Split(machine) => machine.last_write(register),
+            ProcessMachine::Grid(machine) => machine.last_write(register),
+            ProcessMachine::Tree(machine) => machine.last_write(register),
+            ProcessMachine::Name(machine) => machine.last_write(register),
+            ProcessMachine::Names(machine) => machine.last_write(register),
+        }
+    }
+
     fn tell(&self, numbers: &mut Told) -> bool {
         match self {
             ProcessMachine::Text(machine) => machine.tell(numbers),

@@ -1,8 +1,10 @@
 pub mod BlockEnds
 pub mod Blocks
 pub mod CellLists
+pub mod CheckedNumbers
 pub mod ForgottenTargets
 pub mod KeptStates
+pub mod LastAccesses
 pub mod NumberedBlocks
 pub mod PaddedValues
 pub mod PastReplies

@@ -5,7 +5,7 @@ use Rattle.regmodel.specs.declared.accesses.Pending.TheVariants as pending
 use Rattle.regmodel.specs.declared.statements.Expr.TheVariants.{One}
 use Rattle.regmodel.specs.declared.statements.Operand.TheVariants as operand
 use Rattle.regmodel.specs.declared.statements.Target.TheVariants as target
-use Rattle.regmodel.specs.Program.{Program, Stop, Read, Write, Repeat, Emit}
+use Rattle.regmodel.specs.Program.{Block, Program, Stop, Read, Write, Repeat, Emit}
 use Rattle.regmodel.specs.Reply.{one}
 use Rattle.regmodel.specs.Values.{InVar, start_env, store}
 use Rattle.machine.specs.declared.run.BlockExit.TheVariants as block
@@ -17,6 +17,7 @@ use Rattle.machine.specs.declared.states.Kept.{Kept}
 use Rattle.machine.specs.Rest.{Asks, from_place, rest_from}
 use Rattle.machine.specs.Forgetting.{forgotten}
 use Rattle.machine.specs.Keeping.{IsStart, LeadsTo, state_at}
+use Rattle.machine.specs.Lasts.{accesses_of, last_write}
 use Rattle.machine.specs.Sparse.{past_sparse, sparse, spread}
 use Rattle.machine.specs.Standings.{access_numbers, resumed_by}
 
@@ -61,7 +62,30 @@ one_more_write = refl
 pub no_more_write : from_place three_writes in_the_second_turn start_env (one 0 ∷ one 0 ∷ []) ≡ pending.Done (record { items = [] })
 no_more_write = refl
 
--- what is over stays so, whatever comes
+-- ---- how far they go
+pub two_accesses : accesses_of write_and_read.body ≡ 2
+two_accesses = refl
+
+pub the_first_is_the_last_write : last_write 0 write_and_read.body ≡ 1
+the_first_is_the_last_write = refl
+
+pub three_accesses : accesses_of three_writes.body ≡ 3
+three_accesses = refl
+
+pub the_third_is_the_last_write : last_write 0 three_writes.body ≡ 3
+the_third_is_the_last_write = refl
+
+pub no_other_register_is_written : last_write 1 three_writes.body ≡ 0
+no_other_register_is_written = refl
+
+-- a `repeat` of unknown count may make 99 turns, and a write of unknown register may come to each
+abbrev pub reads_and_writes : Block
+reads_and_writes = Repeat (One (operand.Var 0)) (Read (target.Var 1) (operand.Number 0) (Write (operand.Var 1) (One (operand.Number 5)) Stop)) Stop
+
+pub the_last_of_99_turns : last_write 7 reads_and_writes ≡ 198
+the_last_of_99_turns = refl
+
+-- ---- what is over stays so, whatever comes
 pub a_fault_stays : rest_from (pending.Fault 2) (from_place write_and_read at_the_read start_env) (one 7 ∷ []) ≡ pending.Fault 2
 a_fault_stays = refl
 

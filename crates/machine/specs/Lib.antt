@@ -6,6 +6,7 @@ pub mod Following
 pub mod Forgetting
 pub mod Interps
 pub mod Keeping
+pub mod Lasts
 pub mod Paths
 pub mod Rest
 pub mod Runs

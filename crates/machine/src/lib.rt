@@ -1,7 +1,7 @@
 //! Machines: programs in progress, which go on by one reply after another.
 #![tactic(auto)]
 
-ghost use Rattle.std.specs.Prelude.{◌≡◌, ◌≤◌, ℕ, IsTrue, List, [], ◌∷◌, length, map, take};
+ghost use Rattle.std.specs.Prelude.{◌≡◌, ◌≤◌, ℕ, IfSome, IsTrue, List, [], ◌∷◌, length, map, take};
 ghost use Rattle.told.specs.Numbers.{numbers_in};
 ghost use Rattle.regmodel.specs.declared.accesses.Pending.{Pending};
 ghost use Rattle.regmodel.specs.declared.accesses.Pending.TheVariants.{Done};
@@ -12,12 +12,14 @@ ghost use Rattle.regmodel.specs.Lawful.{IsReplyTo, IsAtStart};
 ghost use Rattle.regmodel.specs.Reply as spec;
 ghost use Rattle.regmodel.specs.Reply.{Replies};
 ghost use Rattle.machine.specs.Following.{Follows};
+ghost use Rattle.machine.specs.Lasts.{EndsBy, WritesBy};
 ghost use Rattle.machine.specs.Same.{IsSameMachine};
 ghost use Rattle.machine.specs.Telling.{Tells};
 
 mod culprits;
 mod emitted;
 mod interp;
+mod lasts;
 mod numbering;
 mod resume;
 mod rows;
@@ -75,6 +77,22 @@ pub trait Machine: Drop + Send {
         requires { IsReplyTo (rest self.old []) reply.now }
         ensures same { IsSameMachine program resumed self.old self.new }
         ensures goes_on { (s : Replies) → rest self.new s ≡ rest self.old (reply.now ∷ s) };
+
+    /// How many accesses its program does at most, from its start on; None where it cannot tell.
+    fn most_accesses(&self) -> Option<u32>
+        ensures { IfSome result (λ most. EndsBy (program self.now) most) }
+    {
+        None
+    }
+
+    /// By how many accesses from its start on its program has written to a register for the last
+    /// time, 0 where it never does; None where it cannot tell.
+    fn last_write(&self, register: u8) -> Option<u32>
+        ensures { IfSome result (λ last. WritesBy (program self.now) register last) }
+    {
+        let _ = register;
+        None
+    }
 
     /// Gives up what it holds; it is done with no numbers until it is reset.
     fn end(&mut self)
@@ -153,4 +171,19 @@ pub fn tell_box(machine: &Box<dyn Machine + Send>, numbers: &mut Told) -> bool
         (numbers_in numbers.new) }
 {
     machine.tell(numbers)
+}
+
+/// How many accesses a boxed machine's program does at most, where it can tell.
+pub fn most_accesses_of_box(machine: &Box<dyn Machine + Send>) -> Option<u32>
+    ensures { IfSome result (λ most. EndsBy (program machine.now) most) }
+{
+    machine.most_accesses()
+}
+
+/// By how many accesses a boxed machine's program has written to a register for the last time,
+/// where it can tell.
+pub fn last_write_of_box(machine: &Box<dyn Machine + Send>, register: u8) -> Option<u32>
+    ensures { IfSome result (λ last. WritesBy (program machine.now) register last) }
+{
+    machine.last_write(register)
 }
