@@ -7,7 +7,7 @@ use Rattle.regmodel.specs.declared.statements.Stmt.TheVariants as stmt
 use Rattle.regmodel.specs.Program as program
 use Rattle.regmodel.specs.Program.{Block, Stop}
 use Rattle.regmodel.specs.Blocks.{with_stmt, block_of}
-use Rattle.regmodel.specs.Limits.{nesting, statements, operands_fit, target_fits, operand_fits, expr_fits, scan_fits}
+use Rattle.regmodel.specs.Limits.{nesting, statements, operands_fit}
 use Rattle.regmodel.proofs.Rows.{with_stmt-If, with_stmt-Repeat}
 
 pub block_of-drop : (xs : List Stmt) (i : ℕ) (x : Stmt) → i < length xs → x ≡ get_or xs i x → block_of (drop i xs) ≡ with_stmt x (block_of (drop (i + 1) xs))
@@ -29,14 +29,8 @@ parted true b = refl
 parted false b = refl
 
 operands_fit-with_stmt : (n : ℕ) (s : Stmt) (b : Block) → operands_fit n (with_stmt s b) ≡ operands_fit n (with_stmt s Stop) && operands_fit n b
-operands_fit-with_stmt n (stmt.Assign t e) b = parted (target_fits t && expr_fits e) (operands_fit n b)
-operands_fit-with_stmt n (stmt.Read t a) b = parted (target_fits t && operand_fits a) (operands_fit n b)
-operands_fit-with_stmt n (stmt.Write a e) b = parted (operand_fits a && expr_fits e) (operands_fit n b)
-operands_fit-with_stmt n (stmt.Scan cell first count) b = parted (scan_fits n cell first count) (operands_fit n b)
-operands_fit-with_stmt n (stmt.If' e m first k second) b = parted _ (operands_fit n b)
-operands_fit-with_stmt n (stmt.Repeat' e m body) b = parted _ (operands_fit n b)
-operands_fit-with_stmt n (stmt.Emit e) b = parted (expr_fits e) (operands_fit n b)
 operands_fit-with_stmt n stmt.Halt b = refl
+operands_fit-with_stmt n _ b = parted _ (operands_fit n b)
 
 -- ---- a loop over a list of statements, at statement x
 

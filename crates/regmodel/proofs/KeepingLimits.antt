@@ -4,11 +4,11 @@ use Rattle.std.proofs.lemmas.Bool.{and_parts, leb-true, ltb-true}
 use Rattle.std.proofs.lemmas.List.{length-append}
 use Rattle.std.proofs.lemmas.List.Elements.{All-append, All-cons, All-head, All-nil, All-tail}
 use Rattle.std.specs.Prelude.{nat_lt, nat_le, ◌==◌}
-use Rattle.regmodel.specs.Act.{Flow, GoesOn, Wants, Ends, Faults, with_value, answer_read, answer_scan, answer_write, then_do, choose, emit, times, times_or_fault, exec, flow_pending, act_of}
+use Rattle.regmodel.specs.Act.{Flow, GoesOn, Wants, Ends, Faults, with_value, answer_read, answer_scan, answer_write, then_do, choose, emit, times, times_or_fault, exec_simple, exec, flow_pending, act_of}
 use Rattle.regmodel.specs.Footprints.{footprint_of}
 use Rattle.regmodel.specs.Lawful.{IsAccessWithin, TouchesWithin}
-use Rattle.regmodel.specs.Limits.{IsWithin, operands_fit, operand_fits, expr_fits, scan_fits, target_fits}
-use Rattle.regmodel.specs.Program.{Block, Program, Stop, Assign, Read, Write, Scan, If, Repeat, Emit, Halt}
+use Rattle.regmodel.specs.Limits.{IsWithin, operands_fit, simple_fits, operand_fits, expr_fits, scan_fits, target_fits}
+use Rattle.regmodel.specs.Program.{Block, Program, Simple, Stop, Do, Assign, Read, Write, Scan, If, Repeat, Emit, Halt}
 use Rattle.regmodel.specs.Reply.{Reply, Replies, value_of}
 use Rattle.regmodel.specs.Values.{Env, start_env, Place, InVar, InCell, expr_value, operand_value, and_then, below_or_fault, within, apply_op, target_place, store, store_from}
 use Rattle.regmodel.specs.declared.accesses.Pending.{Pending}
@@ -194,27 +194,27 @@ module _ (n : ℕ) where
           } in
           (record { vars = h.vars; cells = h.cells; emitted = emitted }, each)
 
+  exec_simple-fits : (c : Simple) → simple_fits n c ≡ true → GoFits (exec_simple c n)
+  exec_simple-fits (Assign t e) ok env s h each =
+      let here = and_parts (target_fits t) (expr_fits e) ok in
+      with_value-fits IsValue (expr_value env e) (λ v. with_value (target_place env t) (λ place. GoesOn (store env place v) s)) (expr_value-fits env e h here.1) (λ v low.
+      with_value-fits IsPlace (target_place env t) (λ place. GoesOn (store env place v) s) (target_place-fits env t) (λ place _. (store-fits env place v h low, each)))
+  exec_simple-fits (Read t a) ok env s h each =
+      let here = and_parts (target_fits t) (operand_fits a) ok in
+      with_value-fits (λ r. r < n) (and_then (operand_value env a) (below_or_fault n)) (λ r. with_value (target_place env t) (λ place. answer_read env place r s)) (register-fits env a n h here.1) (λ r there.
+      with_value-fits IsPlace (target_place env t) (λ place. answer_read env place r s) (target_place-fits env t) (λ place _. answer_read-fits env place r s there h each))
+  exec_simple-fits (Write a e) ok env s h each =
+      let here = and_parts (operand_fits a) (expr_fits e) ok in
+      with_value-fits (λ r. r < n) (and_then (operand_value env a) (below_or_fault n)) (λ r. with_value (expr_value env e) (λ v. answer_write env r v s)) (register-fits env a n h here.0) (λ r there.
+      with_value-fits IsValue (expr_value env e) (λ v. answer_write env r v s) (expr_value-fits env e h here.1) (λ v low. answer_write-fits env r v s there low h each))
+  exec_simple-fits (Scan cell first count) ok env s h each = answer_scan-fits env cell first count s ok h each
+  exec_simple-fits (Emit e) ok env s h each = with_value-fits IsValue (expr_value env e) (λ v. emit env v s) (expr_value-fits env e h ok) (λ v low. emit-fits env v s h low each)
+
   exec-fits : (b : Block) → operands_fit n b ≡ true → GoFits (exec b n)
   exec-fits Stop ok env s h each = (h, each)
-  exec-fits (Assign t e rest) ok env s h each =
-      let parts = and_parts (target_fits t && expr_fits e) (operands_fit n rest) ok in
-      with_value-fits IsValue (expr_value env e) (λ v. with_value (target_place env t) (λ place. exec rest n (store env place v) s)) (expr_value-fits env e h (and_parts (target_fits t) (expr_fits e) parts.0).1) (λ v low.
-      with_value-fits IsPlace (target_place env t) (λ place. exec rest n (store env place v) s) (target_place-fits env t) (λ place _.
-      exec-fits rest parts.1 (store env place v) s (store-fits env place v h low) each))
-  exec-fits (Read t a rest) ok env s h each =
-      let parts = and_parts (target_fits t && operand_fits a) (operands_fit n rest) ok in
-      with_value-fits (λ r. r < n) (and_then (operand_value env a) (below_or_fault n)) (λ r. with_value (target_place env t) (λ place. then_do (answer_read env place r s) (exec rest n))) (register-fits env a n h (and_parts (target_fits t) (operand_fits a) parts.0).1) (λ r there.
-      with_value-fits IsPlace (target_place env t) (λ place. then_do (answer_read env place r s) (exec rest n)) (target_place-fits env t) (λ place _.
-      then_do-fits (answer_read env place r s) (exec rest n) (answer_read-fits env place r s there h each) (exec-fits rest parts.1)))
-  exec-fits (Write a e rest) ok env s h each =
-      let parts = and_parts (operand_fits a && expr_fits e) (operands_fit n rest) ok in
-      let here = and_parts (operand_fits a) (expr_fits e) parts.0 in
-      with_value-fits (λ r. r < n) (and_then (operand_value env a) (below_or_fault n)) (λ r. with_value (expr_value env e) (λ v. then_do (answer_write env r v s) (exec rest n))) (register-fits env a n h here.0) (λ r there.
-      with_value-fits IsValue (expr_value env e) (λ v. then_do (answer_write env r v s) (exec rest n)) (expr_value-fits env e h here.1) (λ v low.
-      then_do-fits (answer_write env r v s) (exec rest n) (answer_write-fits env r v s there low h each) (exec-fits rest parts.1)))
-  exec-fits (Scan cell first count rest) ok env s h each =
-      let parts = and_parts (scan_fits n cell first count) (operands_fit n rest) ok in
-      then_do-fits (answer_scan env cell first count s) (exec rest n) (answer_scan-fits env cell first count s parts.0 h each) (exec-fits rest parts.1)
+  exec-fits (Do c rest) ok env s h each =
+      let parts = and_parts (simple_fits n c) (operands_fit n rest) ok in
+      then_do-fits (exec_simple c n env s) (exec rest n) (exec_simple-fits c parts.0 env s h each) (exec-fits rest parts.1)
   exec-fits (If e first second rest) ok env s h each =
       let parts = and_parts ((expr_fits e && operands_fit n first) && operands_fit n second) (operands_fit n rest) ok in
       let blocks = and_parts (expr_fits e && operands_fit n first) (operands_fit n second) parts.0 in
@@ -226,10 +226,6 @@ module _ (n : ℕ) where
       let here = and_parts (expr_fits e) (operands_fit n body) parts.0 in
       with_value-fits IsValue (expr_value env e) (λ m. then_do (times_or_fault m (exec body n) env s) (exec rest n)) (expr_value-fits env e h here.0) (λ m _.
       then_do-fits (times_or_fault m (exec body n) env s) (exec rest n) (times_or_fault-fits m (exec body n) (exec-fits body here.1) env s h each) (exec-fits rest parts.1))
-  exec-fits (Emit e rest) ok env s h each =
-      let parts = and_parts (expr_fits e) (operands_fit n rest) ok in
-      with_value-fits IsValue (expr_value env e) (λ v. then_do (emit env v s) (exec rest n)) (expr_value-fits env e h parts.0) (λ v low.
-      then_do-fits (emit env v s) (exec rest n) (emit-fits env v s h low each) (exec-fits rest parts.1))
   exec-fits (Halt rest) ok env s h each = h.emitted
 
   -- how a flow stands, and what it wants

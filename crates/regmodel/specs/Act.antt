@@ -8,7 +8,7 @@ use Rattle.regmodel.specs.declared.accesses.Pending.TheVariants as pending
 use Rattle.regmodel.specs.declared.limits.TheConstants.{MOST_NUMBERS, MOST_TURNS}
 use Rattle.regmodel.specs.declared.faults.TheConstants.{TOO_MANY_NUMBERS, TOO_MANY_TURNS}
 use Rattle.regmodel.specs.Values.{Env, Place, start_env, below_or_fault, and_then, operand_value, expr_value, target_place, store, store_from}
-use Rattle.regmodel.specs.Program.{Block, Program, Stop, Assign, Read, Write, Scan, If, Repeat, Emit, Halt}
+use Rattle.regmodel.specs.Program.{Block, Program, Simple, Stop, Do, Assign, Read, Write, Scan, If, Repeat, Emit, Halt}
 
 -- what a block leads to: it goes on with what is left of the replies, wants an access, is done with
 -- numbers, or is at fault
@@ -65,27 +65,28 @@ emit env v replies =
     if nat_lt (length env.emitted) MOST_NUMBERS then GoesOn (record env { emitted = env.emitted ++ v ∷ [] }) replies
     else Faults TOO_MANY_NUMBERS
 
--- a block over so many registers, from an environment, on a list of replies; each fault of a
--- statement comes before the access that it wants
+-- a simple statement over so many registers; each fault comes before the access that is wanted
+abbrev pub exec_simple : Simple → ℕ → Env → Replies → Flow
+exec_simple (Assign to value) registers env replies =
+    with_value (expr_value env value) (λ v. with_value (target_place env to) (λ place. GoesOn (store env place v) replies))
+exec_simple (Read to from) registers env replies =
+    with_value (and_then (operand_value env from) (below_or_fault registers)) (λ r.
+    with_value (target_place env to) (λ place. answer_read env place r replies))
+exec_simple (Write to value) registers env replies =
+    with_value (and_then (operand_value env to) (below_or_fault registers)) (λ r.
+    with_value (expr_value env value) (λ v. answer_write env r v replies))
+exec_simple (Scan cell first count) registers env replies = answer_scan env cell first count replies
+exec_simple (Emit value) registers env replies = with_value (expr_value env value) (λ v. emit env v replies)
+
+-- a block over so many registers, from an environment, on a list of replies
 abbrev pub exec : Block → ℕ → Env → Replies → Flow
 exec Stop registers env replies = GoesOn env replies
-exec (Assign to value rest) registers env replies =
-    with_value (expr_value env value) (λ v. with_value (target_place env to) (λ place.
-    exec rest registers (store env place v) replies))
-exec (Read to from rest) registers env replies =
-    with_value (and_then (operand_value env from) (below_or_fault registers)) (λ r. with_value (target_place env to) (λ place.
-    then_do (answer_read env place r replies) (exec rest registers)))
-exec (Write to value rest) registers env replies =
-    with_value (and_then (operand_value env to) (below_or_fault registers)) (λ r. with_value (expr_value env value) (λ v.
-    then_do (answer_write env r v replies) (exec rest registers)))
-exec (Scan cell first count rest) registers env replies = then_do (answer_scan env cell first count replies) (exec rest registers)
+exec (Do statement rest) registers env replies = then_do (exec_simple statement registers env replies) (exec rest registers)
 exec (If test first second rest) registers env replies =
     with_value (expr_value env test) (λ v.
     then_do (choose v (exec first registers env replies) (exec second registers env replies)) (exec rest registers))
 exec (Repeat count body rest) registers env replies =
     with_value (expr_value env count) (λ n. then_do (times_or_fault n (exec body registers) env replies) (exec rest registers))
-exec (Emit value rest) registers env replies =
-    with_value (expr_value env value) (λ v. then_do (emit env v replies) (exec rest registers))
 exec (Halt rest) registers env replies = Ends env.emitted
 
 -- how a flow shows from outside: going on past the end is done

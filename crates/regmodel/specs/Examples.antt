@@ -11,7 +11,7 @@ use Rattle.regmodel.specs.declared.statements.Expr.TheVariants.{One, Two}
 use Rattle.regmodel.specs.declared.statements.Op.TheVariants.{Add, Sub, Less}
 use Rattle.regmodel.specs.declared.statements.Operand.TheVariants as operand
 use Rattle.regmodel.specs.declared.statements.Target.TheVariants as target
-use Rattle.regmodel.specs.Program.{Block, Program, Stop, Assign, Read, Write, Scan, If, Repeat, Emit}
+use Rattle.regmodel.specs.Program.{Block, Program, Stop, Do, Assign, Read, Write, Scan, If, Repeat, Emit}
 use Rattle.regmodel.specs.Act.{act_of}
 use Rattle.regmodel.specs.Reply.{one}
 use Rattle.regmodel.specs.AllSchedules.{all_schedules}
@@ -28,10 +28,10 @@ over registers body = record { registers = registers; body = body }
 -- read v0 0; if v0 < 3, emit 1, else emit v0 + 1
 abbrev branches : Program
 branches = over 1
-    (Read (target.Var 0) (operand.Number 0)
+    (Do (Read (target.Var 0) (operand.Number 0))
     (If (Two (operand.Var 0) Less (operand.Number 3))
-    (Emit (One (operand.Number 1)) Stop)
-    (Emit (Two (operand.Var 0) Add (operand.Number 1)) Stop)
+    (Do (Emit (One (operand.Number 1))) Stop)
+    (Do (Emit (Two (operand.Var 0) Add (operand.Number 1))) Stop)
     Stop))
 
 pub wants_a_read : act_of branches [] ≡ pending.Wants (access.Read 0)
@@ -47,10 +47,10 @@ takes_the_second_part = refl
 abbrev loops : Program
 loops = over 1
     (Repeat (One (operand.Number 2))
-    (Write (operand.Number 0) (One (operand.Var 1))
-    (Read (target.Var 0) (operand.Number 0)
-    (Emit (One (operand.Var 0))
-    (Assign (target.Var 1) (Two (operand.Var 1) Add (operand.Number 1))
+    (Do (Write (operand.Number 0) (One (operand.Var 1)))
+    (Do (Read (target.Var 0) (operand.Number 0))
+    (Do (Emit (One (operand.Var 0)))
+    (Do (Assign (target.Var 1) (Two (operand.Var 1) Add (operand.Number 1)))
     Stop))))
     Stop)
 
@@ -62,7 +62,7 @@ two_turns = refl
 
 -- scan 0 0 2: both registers at once into cells 0 and 1, which are emitted
 abbrev pub scans_two : Program
-scans_two = over 2 (Scan 0 0 2 (Emit (One (operand.Cell 0)) (Emit (One (operand.Cell 1)) Stop)))
+scans_two = over 2 (Do (Scan 0 0 2) (Do (Emit (One (operand.Cell 0))) (Do (Emit (One (operand.Cell 1))) Stop)))
 
 pub wants_a_scan : act_of scans_two [] ≡ pending.Wants (access.Scan 0 2)
 wants_a_scan = refl
@@ -72,16 +72,16 @@ both_values = refl
 
 -- ---- each fault at run time
 
-pub below_zero : act_of (over 1 (Emit (Two (operand.Number 2) Sub (operand.Number 3)) Stop)) [] ≡ pending.Fault 1
+pub below_zero : act_of (over 1 (Do (Emit (Two (operand.Number 2) Sub (operand.Number 3))) Stop)) [] ≡ pending.Fault 1
 below_zero = refl
 
-pub no_such_register : act_of (over 1 (Write (operand.Number 3) (One (operand.Number 1)) Stop)) [] ≡ pending.Fault 2
+pub no_such_register : act_of (over 1 (Do (Write (operand.Number 3) (One (operand.Number 1))) Stop)) [] ≡ pending.Fault 2
 no_such_register = refl
 
 pub no_such_cell : act_of
     (over 1
-    (Assign (target.Var 0) (One (operand.Number 32))
-    (Assign (target.CellOf 0) (One (operand.Number 1))
+    (Do (Assign (target.Var 0) (One (operand.Number 32)))
+    (Do (Assign (target.CellOf 0) (One (operand.Number 1)))
     Stop))) []
     ≡ pending.Fault 2
 no_such_cell = refl
@@ -89,18 +89,18 @@ no_such_cell = refl
 pub count_too_large : act_of (over 1 (Repeat (One (operand.Number 100)) Stop Stop)) [] ≡ pending.Fault 3
 count_too_large = refl
 
-pub ninth_number : act_of (over 1 (Repeat (One (operand.Number 9)) (Emit (One (operand.Number 1)) Stop) Stop)) [] ≡ pending.Fault 4
+pub ninth_number : act_of (over 1 (Repeat (One (operand.Number 9)) (Do (Emit (One (operand.Number 1))) Stop) Stop)) [] ≡ pending.Fault 4
 ninth_number = refl
 
 -- of two faults in a write, that of the register comes first
-pub register_before_value : act_of (over 1 (Write (operand.Number 3) (Two (operand.Number 2) Sub (operand.Number 3)) Stop)) [] ≡ pending.Fault 2
+pub register_before_value : act_of (over 1 (Do (Write (operand.Number 3) (Two (operand.Number 2) Sub (operand.Number 3))) Stop)) [] ≡ pending.Fault 2
 register_before_value = refl
 
 -- of two faults in an assignment, that of the value comes first
 pub value_before_cell : act_of
     (over 1
-    (Assign (target.Var 0) (One (operand.Number 32))
-    (Assign (target.CellOf 0) (Two (operand.Number 2) Sub (operand.Number 3))
+    (Do (Assign (target.Var 0) (One (operand.Number 32)))
+    (Do (Assign (target.CellOf 0) (Two (operand.Number 2) Sub (operand.Number 3)))
     Stop))) []
     ≡ pending.Fault 1
 value_before_cell = refl
@@ -108,10 +108,10 @@ value_before_cell = refl
 -- ---- a writer and a reader of one register
 
 abbrev pub writes : ℕ → ℕ → ℕ → Program
-writes registers register value = over registers (Write (operand.Number register) (One (operand.Number value)) Stop)
+writes registers register value = over registers (Do (Write (operand.Number register) (One (operand.Number value))) Stop)
 
 abbrev pub writer_and_reader : List Program
-writer_and_reader = writes 1 0 5 ∷ over 1 (Read (target.Var 0) (operand.Number 0) (Emit (One (operand.Var 0)) Stop)) ∷ []
+writer_and_reader = writes 1 0 5 ∷ over 1 (Do (Read (target.Var 0) (operand.Number 0)) (Do (Emit (One (operand.Var 0))) Stop)) ∷ []
 
 abbrev pub started : List ℕ → ProcEnd
 started numbers = record { started = true; fate = end.Done (record { items = numbers }) }

@@ -7,7 +7,7 @@ use Rattle.regmodel.specs.declared.statements.Operand.{Operand}
 use Rattle.regmodel.specs.declared.statements.Operand.TheVariants as operand
 use Rattle.regmodel.specs.declared.statements.Expr.{Expr}
 use Rattle.regmodel.specs.declared.statements.Expr.TheVariants.{One, Two}
-use Rattle.regmodel.specs.Program.{Block, Program, Stop, Assign, Read, Write, Scan, If, Repeat, Emit, Halt}
+use Rattle.regmodel.specs.Program.{Block, Program, Simple, Stop, Do, Assign, Read, Write, Scan, If, Repeat, Emit, Halt}
 
 -- 16 variables and 32 cells
 abbrev pub target_fits : Target → Bool
@@ -31,41 +31,38 @@ expr_fits (Two a op b) = operand_fits a && operand_fits b
 abbrev pub scan_fits : ℕ → ℕ → ℕ → ℕ → Bool
 scan_fits registers cell first count = nat_lt 0 count && nat_le (cell + count) CELLS && nat_le (first + count) registers
 
--- each target, operand and scan of a block is within its limit, where there are so many registers
+-- each target, operand and scan of a simple statement is within its limit, where there are so many
+-- registers
+abbrev pub simple_fits : ℕ → Simple → Bool
+simple_fits n (Assign t e) = target_fits t && expr_fits e
+simple_fits n (Read t a) = target_fits t && operand_fits a
+simple_fits n (Write a e) = operand_fits a && expr_fits e
+simple_fits n (Scan cell first count) = scan_fits n cell first count
+simple_fits n (Emit e) = expr_fits e
+
+-- so it is in each statement of a block
 abbrev pub operands_fit : ℕ → Block → Bool
 operands_fit n Stop = true
-operands_fit n (Assign t e rest) = target_fits t && expr_fits e && operands_fit n rest
-operands_fit n (Read t a rest) = target_fits t && operand_fits a && operands_fit n rest
-operands_fit n (Write a e rest) = operand_fits a && expr_fits e && operands_fit n rest
-operands_fit n (Scan cell first count rest) = scan_fits n cell first count && operands_fit n rest
+operands_fit n (Do statement rest) = simple_fits n statement && operands_fit n rest
 operands_fit n (If e first second rest) = expr_fits e && operands_fit n first && operands_fit n second && operands_fit n rest
 operands_fit n (Repeat e body rest) = expr_fits e && operands_fit n body && operands_fit n rest
-operands_fit n (Emit e rest) = expr_fits e && operands_fit n rest
 operands_fit n (Halt rest) = operands_fit n rest
 
 -- how many statements there are, those of inner blocks counted
 abbrev pub statements : Block → ℕ
 statements Stop = 0
-statements (Assign t e rest) = 1 + statements rest
-statements (Read t a rest) = 1 + statements rest
-statements (Write a e rest) = 1 + statements rest
-statements (Scan cell first count rest) = 1 + statements rest
+statements (Do statement rest) = 1 + statements rest
 statements (If e first second rest) = 1 + statements first + statements second + statements rest
 statements (Repeat e body rest) = 1 + statements body + statements rest
-statements (Emit e rest) = 1 + statements rest
 statements (Halt rest) = 1 + statements rest
 
 -- how deep blocks are nested: a `repeat` around them makes one deeper, an `if` makes this of the
 -- depth within it
 abbrev pub nesting : (ℕ → ℕ) → Block → ℕ
 nesting around_if Stop = 0
-nesting around_if (Assign t e rest) = nesting around_if rest
-nesting around_if (Read t a rest) = nesting around_if rest
-nesting around_if (Write a e rest) = nesting around_if rest
-nesting around_if (Scan cell first count rest) = nesting around_if rest
+nesting around_if (Do statement rest) = nesting around_if rest
 nesting around_if (If e first second rest) = max (around_if (max (nesting around_if first) (nesting around_if second))) (nesting around_if rest)
 nesting around_if (Repeat e body rest) = max (nesting around_if body + 1) (nesting around_if rest)
-nesting around_if (Emit e rest) = nesting around_if rest
 nesting around_if (Halt rest) = nesting around_if rest
 
 -- how deep `if` and `repeat` are nested

@@ -103,12 +103,12 @@ fn stmt_nests_within(stmt: &Stmt, blocks: u32, repeats: u32) -> bool
             }
             nests_within(body.as_slice(), blocks - 1, repeats - 1)
         }
-        Stmt::Assign(_, _) => true,
-        Stmt::Read(_, _) => true,
-        Stmt::Write(_, _) => true,
-        Stmt::Scan(_, _, _) => true,
-        Stmt::Emit(_) => true,
-        Stmt::Halt => true,
+        Stmt::Assign(_, _)
+        | Stmt::Read(_, _)
+        | Stmt::Write(_, _)
+        | Stmt::Scan(_, _, _)
+        | Stmt::Emit(_)
+        | Stmt::Halt => true,
     }
 }
 
@@ -145,11 +145,11 @@ fn room_after_stmt(stmt: &Stmt, room: u32) -> Option<u32>
             None => None,
         },
         Stmt::Repeat(_, body) => room_after(body.as_slice(), inner),
-        Stmt::Assign(_, _) => Some(inner),
-        Stmt::Read(_, _) => Some(inner),
-        Stmt::Write(_, _) => Some(inner),
-        Stmt::Scan(_, _, _) => Some(inner),
-        Stmt::Emit(_) => Some(inner),
-        Stmt::Halt => Some(inner),
+        Stmt::Assign(_, _)
+        | Stmt::Read(_, _)
+        | Stmt::Write(_, _)
+        | Stmt::Scan(_, _, _)
+        | Stmt::Emit(_)
+        | Stmt::Halt => Some(inner),
     }
 }
