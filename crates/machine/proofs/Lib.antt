@@ -15,5 +15,4 @@ pub mod SparseValues
 pub mod StandingNumbers
 pub mod StoppedPrograms
 pub mod TestBits
-pub mod WalkedAccesses
 pub mod WalkedBlocks

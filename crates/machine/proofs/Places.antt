@@ -8,13 +8,7 @@ use Rattle.machine.specs.Paths.{rest_of, skip}
 
 pub rest_of-with_stmt : (s : Stmt) (b : Block) → rest_of (with_stmt s b) ≡ b
 rest_of-with_stmt (stmt.Assign t e) b = refl
-rest_of-with_stmt (stmt.Read t a) b = refl
-rest_of-with_stmt (stmt.Write a e) b = refl
-rest_of-with_stmt (stmt.Scan cell first count) b = refl
-rest_of-with_stmt (stmt.If' e m first k second) b = refl
-rest_of-with_stmt (stmt.Repeat' e m body) b = refl
-rest_of-with_stmt (stmt.Emit e) b = refl
-rest_of-with_stmt stmt.Halt b = refl
+rest_of-with_stmt _ b = refl
 
 skip-Stop : (k : ℕ) → skip k Stop ≡ Stop
 skip-Stop zero = refl

@@ -25,37 +25,16 @@ then_over (Faults code) go h = tt
 
 access_over : (n : ℕ) (b : Block) (f : Flow) → IsOver f → IsOver (access_flow n b f)
 access_over n program.Stop f h = tt
-access_over n (program.Assign t e rest) f h = then_over f _ h
-access_over n (program.Read t a rest) f h = then_over f _ h
-access_over n (program.Write a e rest) f h = then_over f _ h
-access_over n (program.Scan cell first count rest) f h = then_over f _ h
-access_over n (program.If e first second rest) f h = then_over f _ h
-access_over n (program.Repeat e body rest) f h = then_over f _ h
-access_over n (program.Emit e rest) f h = then_over f _ h
-access_over n (program.Halt rest) f h = then_over f _ h
+access_over n _ f h = then_over f _ h
 
 part_over : (part : Part) (n : ℕ) (b : Block) (go : Block → Env → Replies → Flow) (env : Env) → ((b : Block) → IsOver (go b env [])) → IsOver (part_flow part n b go env [])
 part_over (Reading r place) n b go env h = access_over n b _ tt
 part_over (Writing r v) n b go env h = access_over n b _ tt
 part_over (Scanning cell first count) n b go env h = access_over n b _ tt
-part_over (Within arm) n program.Stop go env h = tt
-part_over (Within arm) n (program.Assign t e rest) go env h = tt
-part_over (Within arm) n (program.Read t a rest) go env h = tt
-part_over (Within arm) n (program.Write a e rest) go env h = tt
-part_over (Within arm) n (program.Scan cell first count rest) go env h = tt
 part_over (Within arm) n (program.If e first second rest) go env h = then_over _ _ (h (of_arm arm first second))
-part_over (Within arm) n (program.Repeat e body rest) go env h = tt
-part_over (Within arm) n (program.Emit e rest) go env h = tt
-part_over (Within arm) n (program.Halt rest) go env h = tt
-part_over (Turn left) n program.Stop go env h = tt
-part_over (Turn left) n (program.Assign t e rest) go env h = tt
-part_over (Turn left) n (program.Read t a rest) go env h = tt
-part_over (Turn left) n (program.Write a e rest) go env h = tt
-part_over (Turn left) n (program.Scan cell first count rest) go env h = tt
-part_over (Turn left) n (program.If e first second rest) go env h = tt
+part_over (Within arm) n _ go env h = tt
 part_over (Turn left) n (program.Repeat e body rest) go env h = then_over _ _ (then_over _ _ (h body))
-part_over (Turn left) n (program.Emit e rest) go env h = tt
-part_over (Turn left) n (program.Halt rest) go env h = tt
+part_over (Turn left) n _ go env h = tt
 
 pub resume_over : (n : ℕ) (fs : List Frame) (b : Block) (env : Env) → IsOver (resume n fs b env [])
 resume_over n [] b env = tt

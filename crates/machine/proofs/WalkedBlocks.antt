@@ -4,63 +4,53 @@ use Rattle.regmodel.specs.Reply.{Replies}
 use Rattle.regmodel.specs.declared.statements.Expr.{Expr}
 use Rattle.regmodel.specs.declared.statements.Stmt.{Stmt}
 use Rattle.regmodel.specs.declared.statements.Stmt.TheVariants as stmt
-use Rattle.regmodel.specs.Values.{Env, and_then, below_or_fault, expr_value, operand_value, store, target_place}
-use Rattle.regmodel.specs.Act.{Flow, GoesOn, Wants, Ends, Faults, exec, then_do, times, times_or_fault, with_value, choose, answer_read, answer_scan, answer_write, emit}
+use Rattle.regmodel.specs.Values.{Env, expr_value}
+use Rattle.regmodel.specs.Act.{Flow, GoesOn, exec, exec_simple, then_do, times, times_or_fault, with_value, choose}
 use Rattle.regmodel.specs.Limits.{statements}
 use Rattle.regmodel.specs.Program as program
-use Rattle.regmodel.specs.Program.{Block, Stop}
+use Rattle.regmodel.specs.Program.{Block, Simple, Stop, Do}
 use Rattle.regmodel.specs.Blocks.{block_of, row_block, with_stmt}
 use Rattle.regmodel.proofs.Blocks.{block_of-drop}
 use Rattle.machine.specs.Stops.{in_either, in_repeat, in_turns, past, stopped_at, stops_in}
+use Rattle.machine.specs.Exits.{stmt_flow}
+use Rattle.machine.specs.Runs.{StmtRunsTo}
+use Rattle.machine.specs.Stores.{env_of}
+use Rattle.machine.specs.Walks.{BlockWalks, WalksPast, replies_of}
+use Rattle.machine.specs.declared.run.StmtExit.{StmtExit}
 use Rattle.machine.specs.declared.stops.Stopped.{Stopped}
+use Rattle.machine.specs.declared.stops.Walk.{Walk}
 
 -- ---- flows
 
 -- past one flow and then past another
 past-then : (f : Flow) (at : Option Stopped) (more : Env → Replies → Flow) (stops go : Env → Replies → Option Stopped) → past (then_do f more) (past f at stops) go ≡ past f at (λ env s. past (more env s) (stops env s) go)
 past-then (GoesOn env s) at more stops go = refl
-past-then (Wants a) at more stops go = refl
-past-then (Ends numbers) at more stops go = refl
-past-then (Faults code) at more stops go = refl
+past-then _ at more stops go = refl
 
 past-again : (f : Flow) (at : Option Stopped) (stops go : Env → Replies → Option Stopped) → past f (past f at stops) go ≡ past f at go
 past-again (GoesOn env s) at stops go = refl
-past-again (Wants a) at stops go = refl
-past-again (Ends numbers) at stops go = refl
-past-again (Faults code) at stops go = refl
+past-again _ at stops go = refl
 
 past-same : (f : Flow) (at : Option Stopped) (go other : Env → Replies → Option Stopped) → ((env : Env) (s : Replies) → go env s ≡ other env s) → past f at go ≡ past f at other
 past-same (GoesOn env s) at go other h = h env s
-past-same (Wants a) at go other h = refl
-past-same (Ends numbers) at go other h = refl
-past-same (Faults code) at go other h = refl
+past-same _ at go other h = refl
 
 then-Stop : (f : Flow) (n : ℕ) (more : Env → Replies → Flow) → then_do f more ≡ then_do (then_do f (exec Stop n)) more
 then-Stop (GoesOn env s) n more = refl
-then-Stop (Wants a) n more = refl
-then-Stop (Ends numbers) n more = refl
-then-Stop (Faults code) n more = refl
+then-Stop _ n more = refl
 
--- what is done with one value, or with two
-one-then : {A : Type 0} (r : Result A ℕ) (f : A → Flow) (n : ℕ) (more : Env → Replies → Flow) → with_value r (λ x. then_do (f x) more) ≡ then_do (with_value r (λ x. then_do (f x) (exec Stop n))) more
+-- what is done with a value
+one-then : (r : Result ℕ ℕ) (f : ℕ → Flow) (n : ℕ) (more : Env → Replies → Flow) → with_value r (λ x. then_do (f x) more) ≡ then_do (with_value r (λ x. then_do (f x) (exec Stop n))) more
 one-then (Ok x) f n more = then-Stop (f x) n more
 one-then (Err code) f n more = refl
-
-two-then : {A B : Type 0} (r : Result A ℕ) (p : Result B ℕ) (f : A → B → Flow) (n : ℕ) (more : Env → Replies → Flow) → with_value r (λ x. with_value p (λ y. then_do (f x y) more)) ≡ then_do (with_value r (λ x. with_value p (λ y. then_do (f x y) (exec Stop n)))) more
-two-then (Ok x) p f n more = one-then p (f x) n more
-two-then (Err code) p f n more = refl
 
 -- ---- a statement before the rest of its block
 
 exec-then : (x : Stmt) (n : ℕ) (rest : Block) (env : Env) (s : Replies) → exec (with_stmt x rest) n env s ≡ then_do (exec (with_stmt x Stop) n env s) (exec rest n)
-exec-then (stmt.Assign to value) n rest env s = two-then (expr_value env value) (target_place env to) (λ v place. GoesOn (store env place v) s) n (exec rest n)
-exec-then (stmt.Read to from) n rest env s = two-then (and_then (operand_value env from) (below_or_fault n)) (target_place env to) (λ r place. answer_read env place r s) n (exec rest n)
-exec-then (stmt.Write to value) n rest env s = two-then (and_then (operand_value env to) (below_or_fault n)) (expr_value env value) (λ r v. answer_write env r v s) n (exec rest n)
-exec-then (stmt.Scan cell first count) n rest env s = then-Stop (answer_scan env cell first count s) n (exec rest n)
 exec-then (stmt.If' test m first k second) n rest env s = one-then (expr_value env test) (λ v. choose v (exec (row_block first) n env s) (exec (row_block second) n env s)) n (exec rest n)
 exec-then (stmt.Repeat' count m body) n rest env s = one-then (expr_value env count) (λ turns. times_or_fault turns (exec (row_block body) n) env s) n (exec rest n)
-exec-then (stmt.Emit value) n rest env s = one-then (expr_value env value) (λ v. emit env v s) n (exec rest n)
 exec-then stmt.Halt n rest env s = refl
+exec-then _ n rest env s = then-Stop _ n (exec rest n)
 
 alone : (f : Flow) (at : Option Stopped) (n next behind : ℕ) (rest : Block) → next ≡ behind → past f at (stops_in rest n next) ≡ past f (past f at (stops_in Stop n next)) (stops_in rest n behind)
 alone f at n next behind rest h = ap (λ k. past f at (stops_in rest n k)) h ∙ sym (past-again f at (stops_in Stop n next) (stops_in rest n behind))
@@ -72,11 +62,10 @@ either test first second n number env s = in_either (expr_value env test) (Some 
 abbrev a_turn : Expr → Block → ℕ → ℕ → Env → Replies → Option Stopped
 a_turn count body n number env s = in_repeat (expr_value env count) (Some (stopped_at (program.Repeat count body Stop) n number env)) (λ turns. in_turns turns (exec body n) (stops_in body n (number + 1)) env s)
 
+simple-then : (c : Simple) (n number : ℕ) (rest : Block) (env : Env) (s : Replies) → stops_in (Do c rest) n number env s ≡ past (exec (Do c Stop) n env s) (stops_in (Do c Stop) n number env s) (stops_in rest n (number + 1))
+simple-then c n number rest env s = sym (past-then (exec_simple c n env s) (Some (stopped_at (Do c Stop) n number env)) (exec Stop n) (stops_in Stop n (number + 1)) (stops_in rest n (number + 1)))
+
 stops-then : (x : Stmt) (n number : ℕ) (rest : Block) (env : Env) (s : Replies) → stops_in (with_stmt x rest) n number env s ≡ past (exec (with_stmt x Stop) n env s) (stops_in (with_stmt x Stop) n number env s) (stops_in rest n (number + statements (with_stmt x Stop)))
-stops-then (stmt.Assign to value) n number rest env s = alone (exec (program.Assign to value Stop) n env s) (Some (stopped_at (program.Assign to value Stop) n number env)) n (number + 1) (number + 1) rest refl
-stops-then (stmt.Read to from) n number rest env s = alone (exec (program.Read to from Stop) n env s) (Some (stopped_at (program.Read to from Stop) n number env)) n (number + 1) (number + 1) rest refl
-stops-then (stmt.Write to value) n number rest env s = alone (exec (program.Write to value Stop) n env s) (Some (stopped_at (program.Write to value Stop) n number env)) n (number + 1) (number + 1) rest refl
-stops-then (stmt.Scan cell first count) n number rest env s = alone (exec (program.Scan cell first count Stop) n env s) (Some (stopped_at (program.Scan cell first count Stop) n number env)) n (number + 1) (number + 1) rest refl
 stops-then (stmt.If' test m first k second) n number rest env s =
     let a : Block = row_block first in
     let b : Block = row_block second in
@@ -84,8 +73,12 @@ stops-then (stmt.If' test m first k second) n number rest env s =
 stops-then (stmt.Repeat' count m body) n number rest env s =
     let a : Block = row_block body in
     alone (exec (program.Repeat count a Stop) n env s) (a_turn count a n number env s) n (number + 1 + statements a) (number + statements (program.Repeat count a Stop)) rest (omega arith)
-stops-then (stmt.Emit value) n number rest env s = alone (exec (program.Emit value Stop) n env s) (Some (stopped_at (program.Emit value Stop) n number env)) n (number + 1) (number + 1) rest refl
 stops-then stmt.Halt n number rest env s = refl
+stops-then (stmt.Assign to value) n number rest env s = simple-then (program.Assign to value) n number rest env s
+stops-then (stmt.Read to from) n number rest env s = simple-then (program.Read to from) n number rest env s
+stops-then (stmt.Write to value) n number rest env s = simple-then (program.Write to value) n number rest env s
+stops-then (stmt.Scan cell first count) n number rest env s = simple-then (program.Scan cell first count) n number rest env s
+stops-then (stmt.Emit value) n number rest env s = simple-then (program.Emit value) n number rest env s
 
 -- past the first statement, and then past the rest
 past-stmt : (x : Stmt) (n number : ℕ) (rest : Block) (env : Env) (s : Replies) (go : Env → Replies → Option Stopped) → past (exec (with_stmt x rest) n env s) (stops_in (with_stmt x rest) n number env s) go ≡ past (exec (with_stmt x Stop) n env s) (stops_in (with_stmt x Stop) n number env s) (λ env s. past (exec rest n env s) (stops_in rest n (number + statements (with_stmt x Stop)) env s) go)
@@ -113,13 +106,24 @@ stops_nowhere_else (x ∷ xs) n number env s =
 
 -- ---- parts of a block
 
--- a statement with no blocks, which can stop at itself only
-pub past-plain : (b : Block) (n number : ℕ) (env : Env) (s : Replies) (stops : Env → Replies → Option Stopped) (f : Flow) (so : Stopped) (go : Env → Replies → Option Stopped) → stops_in b n number env s ≡ past (exec b n env s) (Some (stopped_at b n number env)) stops → exec b n env s ≡ f → so ≡ stopped_at b n number env → past (exec b n env s) (stops_in b n number env s) go ≡ past f (Some so) go
-past-plain b n number env s stops f so go h k e =
-    ap (λ at. past (exec b n env s) at go) h
-    ∙ past-again (exec b n env s) (Some (stopped_at b n number env)) stops go
-    ∙ ap (λ f. past f (Some (stopped_at b n number env)) go) k
-    ∙ ap (λ so. past f (Some so) go) (sym e)
+-- a simple statement can stop at itself only
+past-simple : (f : Flow) (at : Option Stopped) (n next : ℕ) (go : Env → Replies → Option Stopped) → past (then_do f (exec Stop n)) (past f at (stops_in Stop n next)) go ≡ past (then_do f (exec Stop n)) at go
+past-simple (GoesOn env s) at n next go = refl
+past-simple _ at n next go = refl
+
+-- so one is walked over as it was left
+pub simple_walks : (c : Simple) (n number : ℕ) (old : Walk) {new : Walk} {b : Block} {exit : Result StmtExit ℕ} {env : Env} {so : Stopped} {result : Result (Unit {0}) Stopped} → b ≡ Do c Stop → StmtRunsTo (exec (Do c Stop) n (env_of old.store)) exit n [] (Do c Stop) Stop env → so ≡ stopped_at b n number (env_of old.store) → WalksPast (stmt_flow exit n [] (Do c Stop) Stop env (replies_of old)) (Some so) result new → BlockWalks result n number b old new
+simple_walks c n number old {new} {b} {exit} {env} {so} {result} is runs stops walks =
+    let from = env_of old.store in
+    let s = replies_of old in
+    let at = Some (stopped_at (Do c Stop) n number from) in
+    rw is (record {
+      same = λ go.
+          past-simple (exec_simple c n from s) at n (number + 1) go
+          ∙ ap (λ f. past f at go) (runs.flow s)
+          ∙ ap (λ so. past (stmt_flow exit n [] (Do c Stop) Stop env s) (Some so) go) (sym (stops ∙ ap (λ b. stopped_at b n number from) is))
+          ∙ walks.same go;
+    })
 
 -- one of the turns that are left
 pub past-turn : (left : ℕ) (turn : Env → Replies → Flow) (stops : Env → Replies → Option Stopped) (env : Env) (s : Replies) (go : Env → Replies → Option Stopped) → 0 < left → past (times left turn env s) (in_turns left turn stops env s) go ≡ past (turn env s) (stops env s) (λ env s. past (times (left - 1) turn env s) (in_turns (left - 1) turn stops env s) go)

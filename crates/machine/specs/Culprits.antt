@@ -9,7 +9,7 @@ use Rattle.regmodel.specs.declared.statements.Operand.{Operand}
 use Rattle.regmodel.specs.declared.statements.Operand.TheVariants as operand
 use Rattle.regmodel.specs.declared.statements.Target.{Target}
 use Rattle.regmodel.specs.declared.statements.Target.TheVariants as target
-use Rattle.regmodel.specs.Program.{Block, Stop, Assign, Read, Write, Scan, If, Repeat, Emit, Halt}
+use Rattle.regmodel.specs.Program.{Block, Simple, Stop, Do, Assign, Read, Write, Scan, If, Repeat, Emit, Halt}
 use Rattle.regmodel.specs.Values.{Env, apply_op, expr_value, operand_value}
 use Rattle.machine.specs.declared.culprits.Culprit.{Culprit}
 use Rattle.machine.specs.declared.culprits.Culprit.TheVariants.{Register, Cell, Value, Turns}
@@ -62,14 +62,18 @@ turns_culprit env count =
     option_or (expr_culprit env count)
     (of_value (expr_value env count) (λ turns. if nat_lt MOST_TURNS turns then Some (Turns turns) else None))
 
--- what is out of range in the first statement of a block over so many registers, if anything
+-- what is out of range in a simple statement over so many registers, if anything
+abbrev pub simple_culprit : Simple → (registers : ℕ) → Env → Option Culprit
+simple_culprit (Assign to value) registers env = option_or (expr_culprit env value) (target_culprit env to)
+simple_culprit (Read to from) registers env = option_or (register_culprit registers env from) (target_culprit env to)
+simple_culprit (Write to value) registers env = option_or (register_culprit registers env to) (expr_culprit env value)
+simple_culprit (Scan cell first count) registers env = None
+simple_culprit (Emit value) registers env = expr_culprit env value
+
+-- what is out of range in the first statement of a block
 abbrev pub culprit_of : Block → (registers : ℕ) → Env → Option Culprit
 culprit_of Stop registers env = None
-culprit_of (Assign to value rest) registers env = option_or (expr_culprit env value) (target_culprit env to)
-culprit_of (Read to from rest) registers env = option_or (register_culprit registers env from) (target_culprit env to)
-culprit_of (Write to value rest) registers env = option_or (register_culprit registers env to) (expr_culprit env value)
-culprit_of (Scan cell first count rest) registers env = None
+culprit_of (Do statement rest) registers env = simple_culprit statement registers env
 culprit_of (If test first second rest) registers env = expr_culprit env test
 culprit_of (Repeat count body rest) registers env = turns_culprit env count
-culprit_of (Emit value rest) registers env = expr_culprit env value
 culprit_of (Halt rest) registers env = None

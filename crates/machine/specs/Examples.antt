@@ -5,7 +5,7 @@ use Rattle.regmodel.specs.declared.accesses.Pending.TheVariants as pending
 use Rattle.regmodel.specs.declared.statements.Expr.TheVariants.{One}
 use Rattle.regmodel.specs.declared.statements.Operand.TheVariants as operand
 use Rattle.regmodel.specs.declared.statements.Target.TheVariants as target
-use Rattle.regmodel.specs.Program.{Block, Program, Stop, Read, Write, Repeat, Emit}
+use Rattle.regmodel.specs.Program.{Block, Program, Stop, Do, Read, Write, Repeat, Emit}
 use Rattle.regmodel.specs.Reply.{one}
 use Rattle.regmodel.specs.Values.{InVar, start_env, store}
 use Rattle.machine.specs.declared.run.BlockExit.TheVariants as block
@@ -25,9 +25,9 @@ use Rattle.machine.specs.Standings.{access_numbers, resumed_by}
 abbrev pub write_and_read : Program
 write_and_read = record {
   registers = 1;
-  body = Write (operand.Number 0) (One (operand.Number 5))
-      (Read (target.Var 0) (operand.Number 0)
-      (Emit (One (operand.Var 0))
+  body = Do (Write (operand.Number 0) (One (operand.Number 5)))
+      (Do (Read (target.Var 0) (operand.Number 0))
+      (Do (Emit (One (operand.Var 0)))
       Stop));
 }
 
@@ -47,7 +47,7 @@ it_is_forgotten = refl
 
 -- ---- three turns of a write
 abbrev pub three_writes : Program
-three_writes = record { registers = 1; body = Repeat (One (operand.Number 3)) (Write (operand.Number 0) (One (operand.Number 5)) Stop) Stop }
+three_writes = record { registers = 1; body = Repeat (One (operand.Number 3)) (Do (Write (operand.Number 0) (One (operand.Number 5))) Stop) Stop }
 
 -- a frame for the turn, after which one is left, and one for the write in it
 abbrev pub in_the_second_turn : List Frame
@@ -80,7 +80,7 @@ no_other_register_is_written = refl
 
 -- a `repeat` of unknown count may make 99 turns, and a write of unknown register may come to each
 abbrev pub reads_and_writes : Block
-reads_and_writes = Repeat (One (operand.Var 0)) (Read (target.Var 1) (operand.Number 0) (Write (operand.Var 1) (One (operand.Number 5)) Stop)) Stop
+reads_and_writes = Repeat (One (operand.Var 0)) (Do (Read (target.Var 1) (operand.Number 0)) (Do (Write (operand.Var 1) (One (operand.Number 5))) Stop)) Stop
 
 pub the_last_of_99_turns : last_write 7 reads_and_writes ≡ 198
 the_last_of_99_turns = refl

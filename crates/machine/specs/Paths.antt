@@ -3,7 +3,7 @@ use Rattle.std.specs.Prelude.{ℕ, zero, suc, List, [], ◌∷◌}
 use Rattle.regmodel.specs.Reply.{Replies}
 use Rattle.regmodel.specs.Values.{Env}
 use Rattle.regmodel.specs.Act.{Flow, Faults, exec, answer_read, answer_scan, answer_write, then_do, times}
-use Rattle.regmodel.specs.Program.{Block, Stop, Assign, Read, Write, Scan, If, Repeat, Emit, Halt}
+use Rattle.regmodel.specs.Program.{Block, Stop, Do, If, Repeat, Halt}
 use Rattle.machine.specs.declared.run.Arm.{Arm}
 use Rattle.machine.specs.declared.run.Arm.TheVariants.{First, Second}
 use Rattle.machine.specs.declared.run.Part.{Part}
@@ -24,13 +24,9 @@ arm_at (suc n) = First
 -- a block without its first statement
 abbrev pub rest_of : Block → Block
 rest_of Stop = Stop
-rest_of (Assign t e rest) = rest
-rest_of (Read t a rest) = rest
-rest_of (Write a e rest) = rest
-rest_of (Scan cell first count rest) = rest
+rest_of (Do statement rest) = rest
 rest_of (If e first second rest) = rest
 rest_of (Repeat e body rest) = rest
-rest_of (Emit e rest) = rest
 rest_of (Halt rest) = rest
 
 -- a block without its first statements
@@ -41,14 +37,7 @@ skip (suc k) b = skip k (rest_of b)
 -- past the access of the first statement, where there is one
 abbrev pub access_flow : ℕ → Block → Flow → Flow
 access_flow n Stop f = Faults 0
-access_flow n (Assign t e rest) f = then_do f (exec rest n)
-access_flow n (Read t a rest) f = then_do f (exec rest n)
-access_flow n (Write a e rest) f = then_do f (exec rest n)
-access_flow n (Scan cell first count rest) f = then_do f (exec rest n)
-access_flow n (If e first second rest) f = then_do f (exec rest n)
-access_flow n (Repeat e body rest) f = then_do f (exec rest n)
-access_flow n (Emit e rest) f = then_do f (exec rest n)
-access_flow n (Halt rest) f = then_do f (exec rest n)
+access_flow n b f = then_do f (exec (rest_of b) n)
 
 -- from within an arm, where go says what the arm's block does from within
 abbrev pub arm_flow : Arm → ℕ → Block → (Block → Env → Replies → Flow) → Env → Replies → Flow

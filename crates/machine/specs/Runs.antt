@@ -3,7 +3,7 @@ use Rattle.std.specs.Prelude.{◌≡◌, ℕ, ◌+◌, ◌<◌, ◌≤◌, IsTru
 use Rattle.regmodel.specs.Reply.{Replies}
 use Rattle.regmodel.specs.Values.{Env}
 use Rattle.regmodel.specs.Act.{Flow, exec}
-use Rattle.regmodel.specs.Program.{Block}
+use Rattle.regmodel.specs.Program.{Block, Simple, Do}
 use Rattle.regmodel.specs.Limits.{open_blocks, operands_fit}
 use Rattle.regmodel.specs.declared.limits.TheConstants.{MOST_REGISTERS}
 use Rattle.machine.specs.declared.run.Frame.{Frame}
@@ -26,9 +26,9 @@ pub record StmtRunsTo (run : Replies → Flow) (result : Result StmtExit ℕ) (n
 abbrev pub StmtRuns : Result StmtExit ℕ → ℕ → List Frame → (Block → Block) → Env → Env → Type 0
 StmtRuns result n fs before old new = (rest : Block) → StmtRunsTo (exec (before rest) n old) result n fs (before rest) rest new
 
--- so does one that comes to its access, or to a fault before it, and changes nothing
-abbrev pub ComesTo : Result StmtExit ℕ → ℕ → (Block → Block) → Env → Type 0
-ComesTo result n before env = (fs : List Frame) → StmtRuns result n fs before env env
+-- so does a simple one that comes to its access, or to a fault before it, and changes nothing
+abbrev pub ComesTo : Result StmtExit ℕ → ℕ → Simple → Env → Type 0
+ComesTo result n statement env = (fs : List Frame) → StmtRuns result n fs (Do statement) env env
 
 -- a run comes to what is left to do after a block, and the access that is told is the one that is wanted
 pub record BlockRunsTo (run : Replies → Flow) (result : Result BlockExit ℕ) (n : ℕ) (fs : List Frame) (b : Block) (env : Env) : Type 0 where

@@ -4,7 +4,7 @@ use Rattle.regmodel.specs.declared.statements.Expr.TheVariants.{One, Two}
 use Rattle.regmodel.specs.declared.statements.Op.TheVariants.{Sub}
 use Rattle.regmodel.specs.declared.statements.Operand.TheVariants as operand
 use Rattle.regmodel.specs.declared.statements.Target.TheVariants as target
-use Rattle.regmodel.specs.Program.{Program, Stop, Assign, Read, Write, If, Repeat, Emit, Halt}
+use Rattle.regmodel.specs.Program.{Program, Stop, Do, Assign, Read, Write, If, Repeat, Emit, Halt}
 use Rattle.regmodel.specs.Reply.{one}
 use Rattle.machine.specs.Stops.{stops_at}
 use Rattle.machine.specs.declared.culprits.Culprit.{Culprit}
@@ -24,13 +24,13 @@ at_fault statement culprit = Some (record { at = statement; culprit = Some culpr
 abbrev pub tells_and_asks : Program
 tells_and_asks = record {
   registers = 2;
-  body = Write (operand.Number 0) (One (operand.Number 5))
+  body = Do (Write (operand.Number 0) (One (operand.Number 5)))
       (Repeat (One (operand.Number 2))
-      (Read (target.Var 0) (operand.Number 0) (Emit (One (operand.Var 0)) Stop))
+      (Do (Read (target.Var 0) (operand.Number 0)) (Do (Emit (One (operand.Var 0))) Stop))
       (If (One (operand.Var 0))
       (Halt Stop)
-      (Read (target.Var 1) (operand.Var 0) Stop)
-      (Emit (One (operand.Var 1)) Stop)));
+      (Do (Read (target.Var 1) (operand.Var 0)) Stop)
+      (Do (Emit (One (operand.Var 1))) Stop)));
 }
 
 pub at_the_write : stops_at tells_and_asks [] ≡ in_order 0
@@ -56,10 +56,10 @@ past_the_end = refl
 abbrev pub is_at_fault : Program
 is_at_fault = record {
   registers = 1;
-  body = Read (target.Var 0) (operand.Number 0)
+  body = Do (Read (target.Var 0) (operand.Number 0))
       (If (One (operand.Number 0))
       Stop
-      (Assign (target.CellOf 0) (One (operand.Number 1)) Stop)
+      (Do (Assign (target.CellOf 0) (One (operand.Number 1))) Stop)
       (Repeat (One (operand.Number 100)) Stop Stop));
 }
 
@@ -74,7 +74,7 @@ at_a_count_too_large = refl
 abbrev pub writes_where_it_read : Program
 writes_where_it_read = record {
   registers = 3;
-  body = Read (target.Var 0) (operand.Number 0) (Write (operand.Var 0) (Two (operand.Var 0) Sub (operand.Number 2)) Stop);
+  body = Do (Read (target.Var 0) (operand.Number 0)) (Do (Write (operand.Var 0) (Two (operand.Var 0) Sub (operand.Number 2))) Stop);
 }
 
 pub at_a_register_that_is_not_there : stops_at writes_where_it_read (one 9 ∷ []) ≡ at_fault 1 (Register 9 3)

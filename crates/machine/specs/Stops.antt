@@ -4,9 +4,9 @@ use Rattle.std.specs.Prelude.{ℕ, zero, suc, ◌+◌, Result, Ok, Err, Option, 
 use Rattle.regmodel.specs.Reply.{Replies}
 use Rattle.regmodel.specs.declared.limits.TheConstants.{MOST_TURNS}
 use Rattle.regmodel.specs.Values.{Env, expr_value, start_env}
-use Rattle.regmodel.specs.Act.{Flow, GoesOn, Wants, Ends, Faults, exec}
+use Rattle.regmodel.specs.Act.{Flow, GoesOn, Wants, Ends, Faults, exec, exec_simple}
 use Rattle.regmodel.specs.Limits.{statements}
-use Rattle.regmodel.specs.Program.{Block, Program, Stop, Assign, Read, Write, Scan, If, Repeat, Emit, Halt}
+use Rattle.regmodel.specs.Program.{Block, Program, Stop, Do, If, Repeat, Halt}
 use Rattle.machine.specs.Culprits.{culprit_of}
 use Rattle.machine.specs.declared.stops.Stopped.{Stopped}
 
@@ -42,18 +42,9 @@ in_repeat (Err code) at turns = at
 -- goes on past its last one
 abbrev pub stops_in : Block → (registers number : ℕ) → Env → Replies → Option Stopped
 stops_in Stop registers number env replies = None
-stops_in (Assign to value rest) registers number env replies =
-    past (exec (Assign to value Stop) registers env replies)
-    (Some (stopped_at (Assign to value Stop) registers number env)) (stops_in rest registers (number + 1))
-stops_in (Read to from rest) registers number env replies =
-    past (exec (Read to from Stop) registers env replies)
-    (Some (stopped_at (Read to from Stop) registers number env)) (stops_in rest registers (number + 1))
-stops_in (Write to value rest) registers number env replies =
-    past (exec (Write to value Stop) registers env replies)
-    (Some (stopped_at (Write to value Stop) registers number env)) (stops_in rest registers (number + 1))
-stops_in (Scan cell first count rest) registers number env replies =
-    past (exec (Scan cell first count Stop) registers env replies)
-    (Some (stopped_at (Scan cell first count Stop) registers number env)) (stops_in rest registers (number + 1))
+stops_in (Do statement rest) registers number env replies =
+    past (exec_simple statement registers env replies)
+    (Some (stopped_at (Do statement Stop) registers number env)) (stops_in rest registers (number + 1))
 stops_in (If test first second rest) registers number env replies =
     past (exec (If test first second Stop) registers env replies)
     (in_either (expr_value env test) (Some (stopped_at (If test first second Stop) registers number env))
@@ -65,9 +56,6 @@ stops_in (Repeat count body rest) registers number env replies =
     (in_repeat (expr_value env count) (Some (stopped_at (Repeat count body Stop) registers number env))
     (λ turns. in_turns turns (exec body registers) (stops_in body registers (number + 1)) env replies))
     (stops_in rest registers (number + 1 + statements body))
-stops_in (Emit value rest) registers number env replies =
-    past (exec (Emit value Stop) registers env replies)
-    (Some (stopped_at (Emit value Stop) registers number env)) (stops_in rest registers (number + 1))
 stops_in (Halt rest) registers number env replies = Some (stopped_at (Halt Stop) registers number env)
 
 -- where a program stops on these replies: at the statement that wants an access, halts or is at

@@ -34,11 +34,11 @@ pub fn behind_stmt(stmt: &Stmt, number: usize) -> usize
             behind(second.as_slice(), second_at)
         }
         Stmt::Repeat(_, body) => behind(body.as_slice(), number + 1),
-        Stmt::Assign(_, _) => number + 1,
-        Stmt::Read(_, _) => number + 1,
-        Stmt::Write(_, _) => number + 1,
-        Stmt::Scan(_, _, _) => number + 1,
-        Stmt::Emit(_) => number + 1,
-        Stmt::Halt => number + 1,
+        Stmt::Assign(_, _)
+        | Stmt::Read(_, _)
+        | Stmt::Write(_, _)
+        | Stmt::Scan(_, _, _)
+        | Stmt::Emit(_)
+        | Stmt::Halt => number + 1,
     }
 }

@@ -2,7 +2,7 @@
 
 ghost use Rattle.std.specs.Prelude.{◌≡◌, ℕ, ◌+◌, ◌≤◌, IsTrue, List, Ok, drop};
 ghost use Rattle.regmodel.specs.declared.statements.Expr.{Expr};
-ghost use Rattle.regmodel.specs.Program.{Block, Stop, Assign, Read, Write, Scan, Repeat, Emit};
+ghost use Rattle.regmodel.specs.Program.{Block, Stop, Do, Assign, Read, Write, Scan, Repeat, Emit};
 ghost use Rattle.regmodel.specs.Blocks.{with_stmt, block_of};
 ghost use Rattle.regmodel.specs.Act.{exec};
 ghost use Rattle.regmodel.specs.Values.{Env, operand_value, and_then, below_or_fault};
@@ -70,7 +70,8 @@ pub enum BlockExit {
 /// Evaluates the expression, then stores its value.
 pub fn assign(target: Target, value: &Expr, store: &mut Store) -> Result<StmtExit, u8>
     ensures { (n : ℕ) (fs : List Frame)
-        → StmtRuns result n fs (Assign target value.now) (env_of store.old) (env_of store.new) }
+        → StmtRuns result n fs (Do (Assign target value.now)) (env_of store.old)
+        (env_of store.new) }
 {
     let number = store.expr(value)?;
     let place = store.place(target)?;
@@ -131,7 +132,7 @@ pub fn scan(cell: u32, first: u32, count: u32, registers: u32) -> StmtExit
 /// Appends a number to those of the process; a fault where there are as many as may be.
 pub fn emit(value: &Expr, store: &mut Store) -> Result<StmtExit, u8>
     ensures { (n : ℕ) (fs : List Frame)
-        → StmtRuns result n fs (Emit value.now) (env_of store.old) (env_of store.new) }
+        → StmtRuns result n fs (Do (Emit value.now)) (env_of store.old) (env_of store.new) }
 {
     let number = store.expr(value)?;
     if store.emitted.is_full() {

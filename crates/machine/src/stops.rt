@@ -1,10 +1,9 @@
 //! At which statement a program stops.
 
 ghost use Rattle.std.specs.Prelude.{◌≡◌, ℕ, map};
-ghost use Rattle.regmodel.specs.declared.statements.Stmt.{Stmt};
 ghost use Rattle.regmodel.specs.OfProg.{program_of};
 ghost use Rattle.regmodel.specs.Kept.{values_in};
-ghost use Rattle.regmodel.specs.Program.{Stop, If, Repeat};
+ghost use Rattle.regmodel.specs.Program.{Simple, Stop, Do, If, Repeat};
 ghost use Rattle.regmodel.specs.Blocks.{block_of, with_stmt};
 ghost use Rattle.machine.specs.Stops.{stopped_at, stops_at};
 ghost use Rattle.machine.specs.Stores.{env_of};
@@ -169,8 +168,8 @@ fn past_repeat(
 
 /// Goes on past a statement that was left so, or stops there so.
 fn past_exit(exit: Result<StmtExit, u8>, stopped: Stopped, walk: &mut Walk) -> Result<(), Stopped>
-    ensures { (x : Stmt) (n : ℕ)
-        → ExitWalks result exit n stopped (with_stmt x Stop) walk.old walk.new }
+    ensures { (s : Simple) (n : ℕ)
+        → ExitWalks result exit n stopped (Do s Stop) walk.old walk.new }
 {
     match exit {
         Ok(StmtExit::GoesOn) => Ok(()),
@@ -181,8 +180,8 @@ fn past_exit(exit: Result<StmtExit, u8>, stopped: Stopped, walk: &mut Walk) -> R
 
 /// Goes on past an access, where a reply is left for it, or stops there so. To a block comes none.
 fn past_access(part: Part, stopped: Stopped, walk: &mut Walk) -> Result<(), Stopped>
-    ensures { (x : Stmt) (n : ℕ)
-        → AccessWalks result part n stopped (with_stmt x Stop) walk.old walk.new }
+    ensures { (s : Simple) (n : ℕ)
+        → AccessWalks result part n stopped (Do s Stop) walk.old walk.new }
 {
     let Some((reply, others)) = walk.replies.split_first() else {
         return Err(stopped);

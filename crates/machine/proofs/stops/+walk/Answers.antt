@@ -1,8 +1,7 @@
-use Rattle.std.proofs.Common.{◌≡◌, ◌+◌, ◌-◌, [], drop, refl, ap, sym, subst, ◌∙◌, arith}
+use Rattle.std.proofs.Common.{◌≡◌, ◌+◌, ◌-◌, [], drop, ap, sym, subst, ◌∙◌, arith}
 use Rattle.std.proofs.lemmas.Result.{err_from_is_err_and}
 use Rattle.regmodel.specs.Act.{exec, times}
 use Rattle.regmodel.specs.Blocks.{block_of, with_stmt}
-use Rattle.regmodel.specs.declared.statements.Stmt.TheVariants as stmt
 use Rattle.regmodel.specs.Limits.{statements}
 use Rattle.regmodel.specs.Program as program
 use Rattle.regmodel.specs.Program.{Stop}
@@ -13,7 +12,7 @@ use Rattle.machine.specs.Stores.{env_of}
 use Rattle.machine.specs.Walks.{BlockWalks, CanWalk, replies_of}
 use Rattle.machine.proofs.Blocks.{if_rows, repeat_block}
 use Rattle.machine.proofs.NumberedBlocks.{can_walk_next, statements_left}
-use Rattle.machine.proofs.WalkedBlocks.{past-next, past-plain, past-turn}
+use Rattle.machine.proofs.WalkedBlocks.{past-next, past-turn, simple_walks}
 use Rattle.machine.proofs.stops.+walk.Goals as goal
 
 -- the number of a place is the one that it was made of
@@ -151,63 +150,33 @@ pub past_stmt-returns-in-Assign : goal.past_stmt-returns-in-Assign
 past_stmt-returns-in-Assign t c =
     let w = c.in-Assign in
     let n = c.args.registers in
-    let number = c.args.number in
-    let env = env_of c.args.walk.now.store in
-    let s = replies_of c.args.walk.now in
-    rw w.is (record {
-      same = λ go.
-          past-plain (program.Assign w.target w.value Stop) n number env s (stops_in Stop n (number + 1)) _ _ go refl ((c.assign-exit.ensures n [] Stop).flow s) (c.stopped_at-stopped.ensures ∙ ap (λ x. stopped_at (with_stmt x Stop) n number env) w.is)
-          ∙ (c.past_exit.ensures (stmt.Assign w.target w.value) n).same go;
-    })
+    let s = program.Assign w.target w.value in
+    simple_walks s n c.args.number c.args.walk.now (ap (λ x. with_stmt x Stop) w.is) (c.assign-exit.ensures n [] Stop) c.stopped_at-stopped.ensures (c.past_exit.ensures s n)
 
 pub past_stmt-returns-in-Read : goal.past_stmt-returns-in-Read
 past_stmt-returns-in-Read t c =
     let w = c.in-Read in
     let n = c.args.registers in
-    let number = c.args.number in
-    let env = env_of c.args.walk.now.store in
-    let s = replies_of c.args.walk.now in
-    rw w.is (record {
-      same = λ go.
-          past-plain (program.Read w.to w.from Stop) n number env s (stops_in Stop n (number + 1)) _ _ go refl ((c.read-exit.ensures [] Stop).flow s) (c.stopped_at-stopped.ensures ∙ ap (λ x. stopped_at (with_stmt x Stop) n number env) w.is)
-          ∙ (c.past_exit-in-Read.ensures (stmt.Read w.to w.from) n).same go;
-    })
+    let s = program.Read w.to w.from in
+    simple_walks s n c.args.number c.args.walk.now (ap (λ x. with_stmt x Stop) w.is) (c.read-exit.ensures [] Stop) c.stopped_at-stopped.ensures (c.past_exit-in-Read.ensures s n)
 
 pub past_stmt-returns-in-Write : goal.past_stmt-returns-in-Write
 past_stmt-returns-in-Write t c =
     let w = c.in-Write in
     let n = c.args.registers in
-    let number = c.args.number in
-    let env = env_of c.args.walk.now.store in
-    let s = replies_of c.args.walk.now in
-    rw w.is (record {
-      same = λ go.
-          past-plain (program.Write w.to w.value Stop) n number env s (stops_in Stop n (number + 1)) _ _ go refl ((c.write-exit.ensures [] Stop).flow s) (c.stopped_at-stopped.ensures ∙ ap (λ x. stopped_at (with_stmt x Stop) n number env) w.is)
-          ∙ (c.past_exit-in-Write.ensures (stmt.Write w.to w.value) n).same go;
-    })
+    let s = program.Write w.to w.value in
+    simple_walks s n c.args.number c.args.walk.now (ap (λ x. with_stmt x Stop) w.is) (c.write-exit.ensures [] Stop) c.stopped_at-stopped.ensures (c.past_exit-in-Write.ensures s n)
 
 pub past_stmt-returns-in-Scan : goal.past_stmt-returns-in-Scan
 past_stmt-returns-in-Scan t c =
     let w = c.in-Scan in
     let n = c.args.registers in
-    let number = c.args.number in
-    let env = env_of c.args.walk.now.store in
-    let s = replies_of c.args.walk.now in
-    rw w.is (record {
-      same = λ go.
-          past-plain (program.Scan w.cell w.first w.count Stop) n number env s (stops_in Stop n (number + 1)) _ _ go refl ((c.scan-exit.ensures env [] Stop).flow s) (c.stopped_at-stopped.ensures ∙ ap (λ x. stopped_at (with_stmt x Stop) n number env) w.is)
-          ∙ (c.past_exit-in-Scan.ensures (stmt.Scan w.cell w.first w.count) n).same go;
-    })
+    let s = program.Scan w.cell w.first w.count in
+    simple_walks s n c.args.number c.args.walk.now (ap (λ x. with_stmt x Stop) w.is) (c.scan-exit.ensures (env_of c.args.walk.now.store) [] Stop) c.stopped_at-stopped.ensures (c.past_exit-in-Scan.ensures s n)
 
 pub past_stmt-returns-in-Emit : goal.past_stmt-returns-in-Emit
 past_stmt-returns-in-Emit t c =
     let w = c.in-Emit in
     let n = c.args.registers in
-    let number = c.args.number in
-    let env = env_of c.args.walk.now.store in
-    let s = replies_of c.args.walk.now in
-    rw w.is (record {
-      same = λ go.
-          past-plain (program.Emit w.value Stop) n number env s (stops_in Stop n (number + 1)) _ _ go refl ((c.emit-exit.ensures n [] Stop).flow s) (c.stopped_at-stopped.ensures ∙ ap (λ x. stopped_at (with_stmt x Stop) n number env) w.is)
-          ∙ (c.past_exit-in-Emit.ensures (stmt.Emit w.value) n).same go;
-    })
+    let s = program.Emit w.value in
+    simple_walks s n c.args.number c.args.walk.now (ap (λ x. with_stmt x Stop) w.is) (c.emit-exit.ensures n [] Stop) c.stopped_at-stopped.ensures (c.past_exit-in-Emit.ensures s n)
