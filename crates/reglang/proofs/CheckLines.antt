@@ -7,13 +7,13 @@ use Rattle.std.proofs.lemmas.Grind.{flat_map-append}
 use Rattle.std.proofs.lemmas.Option.{slice_get-map}
 use Rattle.regmodel.specs.declared.clauses.Clause.{Clause}
 use Rattle.regmodel.specs.Program as program
-use Rattle.regmodel.specs.Program.{Block}
+use Rattle.regmodel.specs.Program.{Block, Simple}
 use Rattle.reglang.specs.Checks.{AreChecksOf, ChecksAt, checks_after, check_lines, number_of_check}
 use Rattle.reglang.specs.Contents.{Contents, Body, Text, Kind}
 use Rattle.reglang.specs.Drafts.{Reading, Empty, Between, Inside, Used, checks_in, take_if_said}
 use Rattle.reglang.specs.Faults.{Context, context_after_lines}
 use Rattle.reglang.specs.Forms.{read_line}
-use Rattle.reglang.specs.Grammar.{BlockSays, ElseSays, BodySays, Part, Process, Check, PartsSay, clauses_in, LinesSay, line_said, lines_said, Spells}
+use Rattle.reglang.specs.Grammar.{BlockSays, ElseSays, BodySays, Part, Process, Check, PartsSay, clauses_in, LinesSay, line_said, lines_said, Spells, simple_line}
 use Rattle.reglang.specs.Lines.{lines}
 use Rattle.reglang.specs.declared.arguments.Line.{Line}
 use Rattle.reglang.specs.declared.arguments.Line.TheVariants as line
@@ -36,12 +36,13 @@ else_asks : (second : Block) (lines : List Line) → ((ls : List Line) → Block
 else_asks second lines later (inl none) = ap asked none.1
 else_asks second lines later (inr h) = ap asked h.whole ∙ later h.more h.holds
 
+simple_asks : (s : Simple) → asked_by (simple_line s) ≡ []
+simple_asks (program.Assign to value) = refl
+simple_asks _ = refl
+
 block_asks : (b : Block) (lines : List Line) → BlockSays b lines → asked lines ≡ []
 block_asks program.Stop lines h = ap asked h
-block_asks (program.Assign to value rest) lines h = ap asked h.whole ∙ block_asks rest h.more h.holds
-block_asks (program.Read to from rest) lines h = ap asked h.whole ∙ block_asks rest h.more h.holds
-block_asks (program.Write to value rest) lines h = ap asked h.whole ∙ block_asks rest h.more h.holds
-block_asks (program.Scan cell first count rest) lines h = ap asked h.whole ∙ block_asks rest h.more h.holds
+block_asks (program.Do s rest) lines h = ap asked h.whole ∙ (ap (λ cs. cs ++ asked h.more) (simple_asks s) ∙ block_asks rest h.more h.holds)
 block_asks (program.If test first second rest) lines h =
     let t = h.holds in
     let u = t.after in
@@ -54,7 +55,6 @@ block_asks (program.Repeat count body rest) lines h =
     let v = t.after in
     let end = ap asked v.whole ∙ block_asks rest v.more v.holds in
     ap asked h.whole ∙ neither t.front t.back h.more t.whole (block_asks body t.front t.before) end
-block_asks (program.Emit value rest) lines h = ap asked h.whole ∙ block_asks rest h.more h.holds
 block_asks (program.Halt rest) lines h = ap asked h.whole ∙ block_asks rest h.more h.holds
 
 body_asks : (body : Body) (lines : List Line) → BodySays body lines → asked lines ≡ []

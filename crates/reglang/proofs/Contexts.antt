@@ -6,7 +6,7 @@ use Rattle.std.proofs.lemmas.Bool.{lt-ltb}
 use Rattle.std.proofs.lemmas.List.{append-nil, length-map}
 use Rattle.std.proofs.lemmas.Grind.{flat_map-append}
 use Rattle.regmodel.specs.declared.clauses.Clause.{Clause}
-use Rattle.regmodel.specs.Limits.{target_fits, operand_fits, expr_fits, scan_fits}
+use Rattle.regmodel.specs.Limits.{expr_fits}
 use Rattle.regmodel.specs.Program as program
 use Rattle.regmodel.specs.Program.{Block}
 use Rattle.reglang.specs.Contents.{Contents, Text, Kind}
@@ -105,11 +105,6 @@ halted before frames block n true h = (ap (λ t. if not t then Some PastLimit el
 halted before frames block n false h = ap (λ t. if not t then Some PastLimit else None) h
 
 inside : (before : Contents) (frames : List Frame) (block : Block) (n : ℕ) (l : Line) → Steps (Inside before frames block n) l (take_line (Inside before frames block n) l)
-inside before frames block n (line.Set to value) = limited (Inside before frames block n) (line.Set to value) _ (nat_lt n 200 && (target_fits to && expr_fits value)) refl refl
-inside before frames block n (line.Read to from) = limited (Inside before frames block n) (line.Read to from) _ (nat_lt n 200 && (target_fits to && operand_fits from)) refl refl
-inside before frames block n (line.Write to value) = limited (Inside before frames block n) (line.Write to value) _ (nat_lt n 200 && (operand_fits to && expr_fits value)) refl refl
-inside before frames block n (line.Scan cell first count) = limited (Inside before frames block n) (line.Scan cell first count) _ (nat_lt n 200 && scan_fits before.registers cell first count) refl refl
-inside before frames block n (line.Emit value) = limited (Inside before frames block n) (line.Emit value) _ (nat_lt n 200 && expr_fits value) refl refl
 inside before frames block n line.Halt = halted before frames block n (nat_lt n 200) refl
 inside before frames block n (line.If test) = entered before frames block n (line.If test) (First test block) (expr_fits test) refl refl
 inside before frames block n (line.Repeat count) = entered before frames block n (line.Repeat count) (Turn count block) (expr_fits count && nat_lt (turns frames) 3) refl refl
@@ -118,7 +113,10 @@ inside before frames block n line.Fi = fi_left before frames block n
 inside before frames block n line.Done = done_left before frames block n
 inside before frames block n line.End = ended before frames block n
 inside before frames block n (line.Use kind) = stood before frames block n kind (nat_lt 0 n) refl
-inside before frames block n _ = refl
+inside before frames block n (line.Registers r) = refl
+inside before frames block n line.Process = refl
+inside before frames block n (line.Check clause) = refl
+inside before frames block n l = limited (Inside before frames block n) l _ _ refl refl
 
 used : (before : Contents) (kind : Use) (l : Line) → Steps (Used before kind) l (take_line (Used before kind) l)
 used before kind line.End = (refl, ap (λ m. outside before.registers m (length before.clauses)) (one_more before.processes (Kind kind)))

@@ -4,12 +4,13 @@ use Rattle.std.specs.Prelude.{if◌then◌else◌, ◌&&◌, nat_lt}
 use Rattle.std.proofs.lemmas.Bool.{and_parts, and_from, leb-true, ltb-true}
 use Rattle.std.proofs.lemmas.List.Elements.{All-append, All-from_recursion}
 use Rattle.regmodel.specs.declared.statements.Expr.{Expr}
-use Rattle.regmodel.specs.Limits.{target_fits, operand_fits, expr_fits, scan_fits, operands_fit, statements, nesting, open_blocks, open_repeats}
+use Rattle.regmodel.specs.Limits.{expr_fits, simple_fits, operands_fit, statements, nesting, open_blocks, open_repeats}
 use Rattle.regmodel.specs.Program as program
-use Rattle.regmodel.specs.Program.{Block, Stop}
+use Rattle.regmodel.specs.Program.{Block, Simple, Stop}
 use Rattle.reglang.specs.Contents.{Contents, Body, Text, Kind, IsBodyWithin, IsSourceWithin, clause_fits}
-use Rattle.reglang.specs.Drafts.{Frame, First, Second, Turn, Reading, Empty, Between, Inside, Used, ◌⊕◌, turns, enter, enter_else, leave, leave_if, leave_repeat, take_line, take_if_said, BlockFits, FramesFit, statements_around, ContentsFit, InsideFits, UsedFits, ReadingFits}
+use Rattle.reglang.specs.Drafts.{Frame, First, Second, Turn, Reading, Empty, Between, Inside, Used, ◌⊕◌, turns, add_simple, enter, enter_else, leave, leave_if, leave_repeat, take_line, take_if_said, BlockFits, FramesFit, statements_around, ContentsFit, InsideFits, UsedFits, ReadingFits}
 use Rattle.reglang.specs.Forms.{read_line}
+use Rattle.reglang.specs.Statements.{simple_of}
 use Rattle.uses.specs.Uses.{is_between, use_fits}
 use Rattle.reglang.specs.declared.arguments.Line.{Line}
 use Rattle.reglang.specs.declared.arguments.Line.TheVariants as line
@@ -26,35 +27,23 @@ both false y z = refl
 
 pub operands-join : (n : ℕ) (a b : Block) → operands_fit n (a ⊕ b) ≡ operands_fit n a && operands_fit n b
 operands-join n Stop b = refl
-operands-join n (program.Assign t e rest) b = ap (λ x. target_fits t && expr_fits e && x) (operands-join n rest b) ∙ both (target_fits t && expr_fits e) (operands_fit n rest) (operands_fit n b)
-operands-join n (program.Read t a rest) b = ap (λ x. target_fits t && operand_fits a && x) (operands-join n rest b) ∙ both (target_fits t && operand_fits a) (operands_fit n rest) (operands_fit n b)
-operands-join n (program.Write a e rest) b = ap (λ x. operand_fits a && expr_fits e && x) (operands-join n rest b) ∙ both (operand_fits a && expr_fits e) (operands_fit n rest) (operands_fit n b)
-operands-join n (program.Scan cell first count rest) b = ap (λ x. scan_fits n cell first count && x) (operands-join n rest b) ∙ both (scan_fits n cell first count) (operands_fit n rest) (operands_fit n b)
+operands-join n (program.Do s rest) b = ap (λ x. simple_fits n s && x) (operands-join n rest b) ∙ both (simple_fits n s) (operands_fit n rest) (operands_fit n b)
 operands-join n (program.If e first second rest) b = ap (λ x. expr_fits e && operands_fit n first && operands_fit n second && x) (operands-join n rest b) ∙ both (expr_fits e && operands_fit n first && operands_fit n second) (operands_fit n rest) (operands_fit n b)
 operands-join n (program.Repeat e body rest) b = ap (λ x. expr_fits e && operands_fit n body && x) (operands-join n rest b) ∙ both (expr_fits e && operands_fit n body) (operands_fit n rest) (operands_fit n b)
-operands-join n (program.Emit e rest) b = ap (λ x. expr_fits e && x) (operands-join n rest b) ∙ both (expr_fits e) (operands_fit n rest) (operands_fit n b)
 operands-join n (program.Halt rest) b = operands-join n rest b
 
 pub statements-join : (a b : Block) → statements (a ⊕ b) ≡ statements a + statements b
 statements-join Stop b = omega arith
-statements-join (program.Assign t e rest) b = omega (arith, statements-join rest b)
-statements-join (program.Read t a rest) b = omega (arith, statements-join rest b)
-statements-join (program.Write a e rest) b = omega (arith, statements-join rest b)
-statements-join (program.Scan cell first count rest) b = omega (arith, statements-join rest b)
+statements-join (program.Do s rest) b = omega (arith, statements-join rest b)
 statements-join (program.If e first second rest) b = omega (arith, statements-join rest b)
 statements-join (program.Repeat e body rest) b = omega (arith, statements-join rest b)
-statements-join (program.Emit e rest) b = omega (arith, statements-join rest b)
 statements-join (program.Halt rest) b = omega (arith, statements-join rest b)
 
 nesting-join : (around_if : ℕ → ℕ) (a b : Block) → nesting around_if (a ⊕ b) ≡ max (nesting around_if a) (nesting around_if b)
 nesting-join around_if Stop b = omega arith
-nesting-join around_if (program.Assign t e rest) b = nesting-join around_if rest b
-nesting-join around_if (program.Read t a rest) b = nesting-join around_if rest b
-nesting-join around_if (program.Write a e rest) b = nesting-join around_if rest b
-nesting-join around_if (program.Scan cell first count rest) b = nesting-join around_if rest b
+nesting-join around_if (program.Do s rest) b = nesting-join around_if rest b
 nesting-join around_if (program.If e first second rest) b = omega (arith, nesting-join around_if rest b)
 nesting-join around_if (program.Repeat e body rest) b = omega (arith, nesting-join around_if rest b)
-nesting-join around_if (program.Emit e rest) b = nesting-join around_if rest b
 nesting-join around_if (program.Halt rest) b = nesting-join around_if rest b
 
 fits_join : (registers blocks repeats : ℕ) (a b : Block) → BlockFits registers blocks repeats a → BlockFits registers blocks repeats b → BlockFits registers blocks repeats (a ⊕ b)
@@ -235,15 +224,11 @@ tested before frames block n test h k deep =
     let turning = (innermost before.registers frames block h.nested).turning in
     (k, (nothing_fits _ _ _ (omega arith) (omega arith), h.nested))
 
-and_true : (x : Bool) → x ≡ true → x && true ≡ true
-and_true x h = ap (λ y. y && true) h
+added_simple : (before : Contents) (frames : List Frame) (block : Block) (n : ℕ) (s : Option Simple) → InsideFits before frames block n → Fitting (add_simple before frames block n s)
+added_simple before frames block n (Some s) h = added before frames block n (simple_fits before.registers s) (program.Do s Stop) h (ap (λ y. y && true)) refl refl refl
+added_simple before frames block n None h = tt
 
 inside : (before : Contents) (frames : List Frame) (block : Block) (n : ℕ) (l : Line) → InsideFits before frames block n → Fitting (take_line (Inside before frames block n) l)
-inside before frames block n (line.Set to value) h = added before frames block n (target_fits to && expr_fits value) (program.Assign to value Stop) h (and_true _) refl refl refl
-inside before frames block n (line.Read to from) h = added before frames block n (target_fits to && operand_fits from) (program.Read to from Stop) h (and_true _) refl refl refl
-inside before frames block n (line.Write to value) h = added before frames block n (operand_fits to && expr_fits value) (program.Write to value Stop) h (and_true _) refl refl refl
-inside before frames block n (line.Scan cell first count) h = added before frames block n (scan_fits before.registers cell first count) (program.Scan cell first count Stop) h (and_true _) refl refl refl
-inside before frames block n (line.Emit value) h = added before frames block n (expr_fits value) (program.Emit value Stop) h (and_true _) refl refl refl
 inside before frames block n line.Halt h = added before frames block n true (program.Halt Stop) h (λ k. refl) refl refl refl
 inside before frames block n (line.If test) h = entered before (First test block) frames block n (expr_fits test) h (tested before frames block n test h) refl
 inside before frames block n (line.Repeat count) h = entered before (Turn count block) frames block n (expr_fits count && nat_lt (turns frames) 3) h (turned before frames block n count h) refl
@@ -252,7 +237,7 @@ inside before frames block n line.Fi h = fi_left before frames block n h
 inside before frames block n line.Done h = done_left before frames block n h
 inside before frames block n line.End h = ended before frames block n h
 inside before frames block n (line.Use kind) h = stood before frames block n kind (nat_lt 0 n) h
-inside before frames block n _ h = tt
+inside before frames block n l h = added_simple before frames block n (simple_of l) h
 
 begins : (l : Line) → Fitting (take_line Empty l)
 begins (line.Registers n) =

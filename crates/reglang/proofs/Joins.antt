@@ -2,7 +2,7 @@
 use Rattle.std.proofs.Common.{◌≡◌, List, [], ◌∷◌, ◌++◌, refl, ap, ◌∙◌}
 use Rattle.regmodel.specs.declared.statements.Stmt.{Stmt}
 use Rattle.regmodel.specs.declared.statements.Stmt.TheVariants as stmt
-use Rattle.regmodel.specs.Program.{Block, Stop, Assign, Read, Write, Scan, If, Repeat, Emit, Halt}
+use Rattle.regmodel.specs.Program.{Block, Stop, Do, If, Repeat, Halt}
 use Rattle.regmodel.specs.Blocks.{block_of, with_stmt}
 use Rattle.reglang.specs.Drafts.{◌⊕◌}
 
@@ -18,22 +18,14 @@ block_of-push (x ∷ xs) s = ap (with_stmt x) (block_of-push xs s) ∙ with_stmt
 
 pub join-stop : (a : Block) → a ⊕ Stop ≡ a
 join-stop Stop = refl
-join-stop (Assign t e rest) = ap (Assign t e) (join-stop rest)
-join-stop (Read t o rest) = ap (Read t o) (join-stop rest)
-join-stop (Write o e rest) = ap (Write o e) (join-stop rest)
-join-stop (Scan cell first count rest) = ap (Scan cell first count) (join-stop rest)
+join-stop (Do statement rest) = ap (Do statement) (join-stop rest)
 join-stop (If e first second rest) = ap (If e first second) (join-stop rest)
 join-stop (Repeat e body rest) = ap (Repeat e body) (join-stop rest)
-join-stop (Emit e rest) = ap (Emit e) (join-stop rest)
 join-stop (Halt rest) = ap Halt (join-stop rest)
 
 pub join-assoc : (a b c : Block) → (a ⊕ b) ⊕ c ≡ a ⊕ (b ⊕ c)
 join-assoc Stop b c = refl
-join-assoc (Assign t e rest) b c = ap (Assign t e) (join-assoc rest b c)
-join-assoc (Read t o rest) b c = ap (Read t o) (join-assoc rest b c)
-join-assoc (Write o e rest) b c = ap (Write o e) (join-assoc rest b c)
-join-assoc (Scan cell first count rest) b c = ap (Scan cell first count) (join-assoc rest b c)
+join-assoc (Do statement rest) b c = ap (Do statement) (join-assoc rest b c)
 join-assoc (If e first second rest) b c = ap (If e first second) (join-assoc rest b c)
 join-assoc (Repeat e body rest) b c = ap (Repeat e body) (join-assoc rest b c)
-join-assoc (Emit e rest) b c = ap (Emit e) (join-assoc rest b c)
 join-assoc (Halt rest) b c = ap Halt (join-assoc rest b c)

@@ -7,12 +7,12 @@ use Rattle.std.proofs.lemmas.List.{append-nil}
 use Rattle.std.proofs.lemmas.List.Elements.{recursion_from_All}
 use Rattle.regmodel.specs.declared.clauses.Clause.{Clause}
 use Rattle.regmodel.specs.declared.statements.Expr.{Expr}
-use Rattle.regmodel.specs.Limits.{target_fits, operand_fits, expr_fits, scan_fits, operands_fit, statements, open_blocks, open_repeats}
+use Rattle.regmodel.specs.Limits.{expr_fits, simple_fits, operands_fit, statements, open_blocks, open_repeats}
 use Rattle.regmodel.specs.Program as program
-use Rattle.regmodel.specs.Program.{Block, Stop}
+use Rattle.regmodel.specs.Program.{Block, Simple, Stop}
 use Rattle.reglang.specs.Contents.{Contents, Body, Text, Kind, IsBodyWithin, IsSourceWithin}
-use Rattle.reglang.specs.Drafts.{Frame, First, Second, Turn, Reading, Empty, Between, Inside, Used, ◌⊕◌, turns, add, enter, take_line, with_body, with_clause, BlockFits}
-use Rattle.reglang.specs.Grammar.{Begins, Then, BlockSays, ElseSays, BodySays, Part, Process, Check, PartSays, PartsSay, processes_in, clauses_in, LinesSay}
+use Rattle.reglang.specs.Drafts.{Frame, First, Second, Turn, Reading, Empty, Between, Inside, Used, ◌⊕◌, turns, add, add_simple, enter, take_line, with_body, with_clause, BlockFits}
+use Rattle.reglang.specs.Grammar.{Begins, Then, BlockSays, ElseSays, BodySays, Part, Process, Check, PartSays, PartsSay, processes_in, clauses_in, LinesSay, simple_line}
 use Rattle.reglang.specs.declared.arguments.Line.{Line}
 use Rattle.reglang.specs.declared.arguments.Line.TheVariants as line
 use Rattle.reglang.specs.declared.refusals.LineFault.{LineFault}
@@ -136,30 +136,19 @@ later_fits registers blocks repeats whole rest x fits o b r =
     let turning = fits.turning in
     (parts.0, record { operands = parts.1; depth = omega arith; turning = omega arith })
 
+simple_taken : (before : Contents) (frames : List Frame) (block : Block) (n : ℕ) (s : Simple) → take_line (Inside before frames block n) (simple_line s) ≡ add_simple before frames block n (Some s)
+simple_taken before frames block n (program.Assign to value) = refl
+simple_taken before frames block n _ = refl
+
 block_leads : (b : Block) → BlockLeads b
 block_leads Stop lines h before frames block n fits few =
     ap (takes (Inside before frames block n)) h
     ∙ (ap (λ b. Ok (Inside before frames b n)) (sym (join-stop block)) ∙ ap (λ m. Ok (Inside before frames (block ⊕ Stop) m)) (omega arith))
-block_leads (program.Assign to value rest) lines h before frames block n fits few =
-    let parts = later_fits _ _ _ (program.Assign to value rest) rest (target_fits to && expr_fits value) fits refl refl refl in
-    simple (line.Set to value) rest (program.Assign to value Stop) (program.Assign to value rest) (block_leads rest) (λ b. join-assoc b (program.Assign to value Stop) rest) (omega arith)
-    lines h before frames block n parts.1 few (λ room. added before frames block n (target_fits to && expr_fits value) (program.Assign to value Stop) room parts.0)
-block_leads (program.Read to from rest) lines h before frames block n fits few =
-    let parts = later_fits _ _ _ (program.Read to from rest) rest (target_fits to && operand_fits from) fits refl refl refl in
-    simple (line.Read to from) rest (program.Read to from Stop) (program.Read to from rest) (block_leads rest) (λ b. join-assoc b (program.Read to from Stop) rest) (omega arith)
-    lines h before frames block n parts.1 few (λ room. added before frames block n (target_fits to && operand_fits from) (program.Read to from Stop) room parts.0)
-block_leads (program.Write to value rest) lines h before frames block n fits few =
-    let parts = later_fits _ _ _ (program.Write to value rest) rest (operand_fits to && expr_fits value) fits refl refl refl in
-    simple (line.Write to value) rest (program.Write to value Stop) (program.Write to value rest) (block_leads rest) (λ b. join-assoc b (program.Write to value Stop) rest) (omega arith)
-    lines h before frames block n parts.1 few (λ room. added before frames block n (operand_fits to && expr_fits value) (program.Write to value Stop) room parts.0)
-block_leads (program.Scan cell first count rest) lines h before frames block n fits few =
-    let parts = later_fits _ _ _ (program.Scan cell first count rest) rest (scan_fits before.registers cell first count) fits refl refl refl in
-    simple (line.Scan cell first count) rest (program.Scan cell first count Stop) (program.Scan cell first count rest) (block_leads rest) (λ b. join-assoc b (program.Scan cell first count Stop) rest) (omega arith)
-    lines h before frames block n parts.1 few (λ room. added before frames block n (scan_fits before.registers cell first count) (program.Scan cell first count Stop) room parts.0)
-block_leads (program.Emit value rest) lines h before frames block n fits few =
-    let parts = later_fits _ _ _ (program.Emit value rest) rest (expr_fits value) fits refl refl refl in
-    simple (line.Emit value) rest (program.Emit value Stop) (program.Emit value rest) (block_leads rest) (λ b. join-assoc b (program.Emit value Stop) rest) (omega arith)
-    lines h before frames block n parts.1 few (λ room. added before frames block n (expr_fits value) (program.Emit value Stop) room parts.0)
+block_leads (program.Do s rest) lines h before frames block n fits few =
+    let parts = later_fits _ _ _ (program.Do s rest) rest (simple_fits before.registers s) fits refl refl refl in
+    simple (simple_line s) rest (program.Do s Stop) (program.Do s rest) (block_leads rest) (λ b. join-assoc b (program.Do s Stop) rest) (omega arith)
+    lines h before frames block n parts.1 few
+    (λ room. simple_taken before frames block n s ∙ added before frames block n (simple_fits before.registers s) (program.Do s Stop) room parts.0)
 block_leads (program.Halt rest) lines h before frames block n fits few =
     let parts = later_fits _ _ _ (program.Halt rest) rest true fits refl refl refl in
     simple line.Halt rest (program.Halt Stop) (program.Halt rest) (block_leads rest) (λ b. join-assoc b (program.Halt Stop) rest) (omega arith)

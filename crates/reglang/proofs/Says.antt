@@ -1,16 +1,17 @@
 -- What was read says the lines of which it was read.
 use Rattle.std.proofs.Common.{◌≡◌, ℕ, suc, Bool, true, false, List, [], ◌∷◌, ◌++◌, length, Option, Some, None, Result, Ok, Err, inl, inr, refl, ap, sym, subst, ◌∙◌, append_assoc, arith}
 use Rattle.std.proofs.lemmas.List.{append-nil}
-use Rattle.std.specs.Prelude.{if◌then◌else◌, ◌&&◌, nat_lt, max, IsOk}
+use Rattle.std.specs.Prelude.{if◌then◌else◌, ◌&&◌, nat_lt, max, option_map, IsOk}
 use Rattle.std.specs.List.{AllByRecursion}
 use Rattle.std.proofs.lemmas.Bool.{ltb-true, ltb-false}
 use Rattle.regmodel.specs.declared.clauses.Clause.{Clause}
-use Rattle.regmodel.specs.Limits.{target_fits, operand_fits, expr_fits, scan_fits, statements}
+use Rattle.regmodel.specs.Limits.{expr_fits, simple_fits, statements}
 use Rattle.regmodel.specs.Program as program
-use Rattle.regmodel.specs.Program.{Block, Stop}
+use Rattle.regmodel.specs.Program.{Block, Simple, Stop}
 use Rattle.reglang.specs.Contents.{Contents, Body, Text, Kind, IsSourceWithin}
-use Rattle.reglang.specs.Drafts.{Frame, First, Second, Turn, Reading, Empty, Between, Inside, Used, ◌⊕◌, turns, enter, enter_else, leave, leave_if, leave_repeat, take_line, take_if_said, contents_at_end, read_from, faulty_at, goes_on, statements_around, ContentsFit, InsideFits, ReadingFits}
-use Rattle.reglang.specs.Grammar.{Begins, Then, BlockSays, Part, Process, Check, PartSays, PartsSay, processes_in, clauses_in, LinesSay, lines_said, line_said}
+use Rattle.reglang.specs.Drafts.{Frame, First, Second, Turn, Reading, Empty, Between, Inside, Used, ◌⊕◌, turns, add_simple, enter, enter_else, leave, leave_if, leave_repeat, take_line, take_if_said, contents_at_end, read_from, faulty_at, goes_on, statements_around, ContentsFit, InsideFits, ReadingFits}
+use Rattle.reglang.specs.Grammar.{Begins, Then, BlockSays, Part, Process, Check, PartSays, PartsSay, processes_in, clauses_in, LinesSay, lines_said, line_said, simple_line}
+use Rattle.reglang.specs.Statements.{simple_of}
 use Rattle.uses.specs.Uses.{is_between, use_fits}
 use Rattle.reglang.specs.declared.arguments.Line.{Line}
 use Rattle.reglang.specs.declared.arguments.Line.TheVariants as line
@@ -48,13 +49,9 @@ alone l = record { more = []; whole = refl; holds = refl }
 
 join : (a b : Block) (y : List Line) → BlockSays b y → (x : List Line) → BlockSays a x → BlockSays (a ⊕ b) (x ++ y)
 join Stop b y k x h = subst (BlockSays b) (sym (ap (λ lines. lines ++ y) h)) k
-join (program.Assign to value rest) b y k x h = begins_map _ _ _ y (join rest b y k) x h
-join (program.Read to from rest) b y k x h = begins_map _ _ _ y (join rest b y k) x h
-join (program.Write to value rest) b y k x h = begins_map _ _ _ y (join rest b y k) x h
-join (program.Scan cell first count rest) b y k x h = begins_map _ _ _ y (join rest b y k) x h
+join (program.Do s rest) b y k x h = begins_map _ _ _ y (join rest b y k) x h
 join (program.If test first second rest) b y k x h = begins_map _ _ _ y (then_map _ _ _ y (then_map _ _ _ y (begins_map _ _ _ y (join rest b y k)))) x h
 join (program.Repeat count body rest) b y k x h = begins_map _ _ _ y (then_map _ _ _ y (begins_map _ _ _ y (join rest b y k))) x h
-join (program.Emit value rest) b y k x h = begins_map _ _ _ y (join rest b y k) x h
 join (program.Halt rest) b y k x h = begins_map _ _ _ y (join rest b y k) x h
 
 -- one more part of the innermost block
@@ -149,6 +146,12 @@ added before frames block n l fits statement k =
     kept (Inside before frames block n) l _ (nat_lt n 200 && fits) PastLimit
     (inner before frames block n l frames (block ⊕ statement) (suc n) (open_more frames block statement (l ∷ []) k))
 
+added_simple : (before : Contents) (frames : List Frame) (block : Block) (n : ℕ) (l : Line) (s : Option Simple) → option_map simple_line s ≡ option_map (λ s. l) s → Keeps (Inside before frames block n) l (add_simple before frames block n s)
+added_simple before frames block n l (Some s) e =
+    let same : l ≡ simple_line s = cc in
+    added before frames block n l (simple_fits before.registers s) (program.Do s Stop) (record { more = []; whole = ap (λ l. l ∷ []) same; holds = refl })
+added_simple before frames block n l None e = tt
+
 entered : (before : Contents) (frames : List Frame) (block : Block) (n : ℕ) (l : Line) (frame : Frame) (fits : Bool) → ((x : List Line) → OpenSays frames block x → OpenSays (frame ∷ frames) Stop (x ++ l ∷ [])) → Keeps (Inside before frames block n) l (enter before frame frames n fits)
 entered before frames block n l frame fits k =
     kept (Inside before frames block n) l _ (nat_lt n 200 && fits && nat_lt (length frames) 16) PastLimit
@@ -238,11 +241,6 @@ stood before frames block n kind h false e =
     (λ x s. stood_within before kind block frames x s (no_frames frames (omega arith)) (no_statements block (omega arith)))
 
 inside : (before : Contents) (frames : List Frame) (block : Block) (n : ℕ) (l : Line) → InsideFits before frames block n → Keeps (Inside before frames block n) l (take_line (Inside before frames block n) l)
-inside before frames block n (line.Set to value) h = added before frames block n (line.Set to value) (target_fits to && expr_fits value) (program.Assign to value Stop) (alone _)
-inside before frames block n (line.Read to from) h = added before frames block n (line.Read to from) (target_fits to && operand_fits from) (program.Read to from Stop) (alone _)
-inside before frames block n (line.Write to value) h = added before frames block n (line.Write to value) (operand_fits to && expr_fits value) (program.Write to value Stop) (alone _)
-inside before frames block n (line.Scan cell first count) h = added before frames block n (line.Scan cell first count) (scan_fits before.registers cell first count) (program.Scan cell first count Stop) (alone _)
-inside before frames block n (line.Emit value) h = added before frames block n (line.Emit value) (expr_fits value) (program.Emit value Stop) (alone _)
 inside before frames block n line.Halt h = added before frames block n line.Halt true (program.Halt Stop) (alone _)
 inside before frames block n (line.If test) h = entered before frames block n (line.If test) (First test block) (expr_fits test) (then_new _ _ (line.If test ∷ []) (alone _))
 inside before frames block n (line.Repeat count) h = entered before frames block n (line.Repeat count) (Turn count block) (expr_fits count && nat_lt (turns frames) 3) (then_new _ _ (line.Repeat count ∷ []) (alone _))
@@ -251,7 +249,7 @@ inside before frames block n line.Fi h = fi_left before frames block n
 inside before frames block n line.Done h = done_left before frames block n
 inside before frames block n line.End h = ended before frames block n
 inside before frames block n (line.Use kind) h = stood before frames block n kind h (nat_lt 0 n) refl
-inside before frames block n _ h = tt
+inside before frames block n l h = added_simple before frames block n l (simple_of l) refl
 
 line_kept : (reading : Reading) (l : Line) → ReadingFits reading → Keeps reading l (take_line reading l)
 line_kept Empty l h = begins l

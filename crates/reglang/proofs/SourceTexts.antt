@@ -6,11 +6,11 @@ use Rattle.std.proofs.lemmas.List.{append_assoc}
 use Rattle.std.proofs.lemmas.List.Elements.{recursion_from_All}
 use Rattle.std.proofs.lemmas.List.Folds.{list_all-append}
 use Rattle.regmodel.specs.declared.clauses.Clause.{Clause}
-use Rattle.regmodel.specs.Limits.{expr_fits, operand_fits, operands_fit, scan_fits, target_fits}
+use Rattle.regmodel.specs.Limits.{expr_fits, operands_fit, simple_fits}
 use Rattle.regmodel.specs.Program as program
-use Rattle.regmodel.specs.Program.{Block}
+use Rattle.regmodel.specs.Program.{Block, Simple}
 use Rattle.reglang.specs.Contents.{IsSourceWithin, Body, Contents, IsBodyWithin, Kind, Text, clause_fits}
-use Rattle.reglang.specs.Grammar.{BlockSays, BodySays, Check, ElseSays, LinesSay, Part, PartSays, PartsSay, Process, Spells, clauses_in, processes_in}
+use Rattle.reglang.specs.Grammar.{BlockSays, BodySays, Check, ElseSays, LinesSay, Part, PartSays, PartsSay, Process, Spells, clauses_in, processes_in, simple_line}
 use Rattle.uses.specs.Uses.{is_between, is_mark, use_fits}
 use Rattle.reglang.specs.Writing.{block_lines, body_lines, check_line, else_lines, process_lines, source_lines, source_text}
 use Rattle.uses.specs.declared.kinds.Use.{Use}
@@ -29,10 +29,7 @@ else_says _ h = inr (record { more = _; whole = refl; holds = h })
 
 block_says : (block : Block) → BlockSays block (block_lines block)
 block_says program.Stop = refl
-block_says (program.Assign to value rest) = record { more = block_lines rest; whole = refl; holds = block_says rest }
-block_says (program.Read to from rest) = record { more = block_lines rest; whole = refl; holds = block_says rest }
-block_says (program.Write to value rest) = record { more = block_lines rest; whole = refl; holds = block_says rest }
-block_says (program.Scan cell first count rest) = record { more = block_lines rest; whole = refl; holds = block_says rest }
+block_says (program.Do s rest) = record { more = block_lines rest; whole = refl; holds = block_says rest }
 block_says (program.If test first second rest) = record {
   more = block_lines first ++ (else_lines second (block_lines second) ++ (line.Fi ∷ block_lines rest));
   whole = refl;
@@ -61,7 +58,6 @@ block_says (program.Repeat count body rest) = record {
     after = record { more = block_lines rest; whole = refl; holds = block_says rest };
   };
 }
-block_says (program.Emit value rest) = record { more = block_lines rest; whole = refl; holds = block_says rest }
 block_says (program.Halt rest) = record { more = block_lines rest; whole = refl; holds = block_says rest }
 
 body_says : (body : Body) → BodySays body (body_lines body)
@@ -126,28 +122,21 @@ else_fits : (second : Block) (lines : List Line) → list_all line_fits lines �
 else_fits program.Stop lines h = refl
 else_fits _ lines h = h
 
-scan_small : (n cell first count : ℕ) → n ≤ 64 → scan_fits n cell first count ≡ true → line_fits (line.Scan cell first count) ≡ true
-scan_small n cell first count few h =
+-- a scan stays within cells and registers, of which there are few
+simple_fits_line : (n : ℕ) → n ≤ 64 → (s : Simple) → simple_fits n s ≡ true → line_fits (simple_line s) ≡ true
+simple_fits_line n few (program.Scan cell first count) h =
     let outer = and_parts (ltb 0 count && leb (cell + count) 32) (leb (first + count) n) h in
     let inner = and_parts (ltb 0 count) (leb (cell + count) 32) outer.0 in
     let cells = leb-true (cell + count) 32 inner.1 in
     let registers = leb-true (first + count) n outer.1 in
     rw (le-leb cell 1000000000 (omega (arith, cells)), le-leb first 1000000000 (omega (arith, registers, few)), le-leb count 1000000000 (omega (arith, cells))) refl
+simple_fits_line n few _ h = h
 
 block_fits : (n : ℕ) → n ≤ 64 → (block : Block) → operands_fit n block ≡ true → list_all line_fits (block_lines block) ≡ true
 block_fits n few program.Stop h = refl
-block_fits n few (program.Assign to value rest) h =
-    let parts = and_parts (target_fits to && expr_fits value) (operands_fit n rest) h in
-    and_from (target_fits to && expr_fits value) (list_all line_fits (block_lines rest)) parts.0 (block_fits n few rest parts.1)
-block_fits n few (program.Read to from rest) h =
-    let parts = and_parts (target_fits to && operand_fits from) (operands_fit n rest) h in
-    and_from (target_fits to && operand_fits from) (list_all line_fits (block_lines rest)) parts.0 (block_fits n few rest parts.1)
-block_fits n few (program.Write to value rest) h =
-    let parts = and_parts (operand_fits to && expr_fits value) (operands_fit n rest) h in
-    and_from (operand_fits to && expr_fits value) (list_all line_fits (block_lines rest)) parts.0 (block_fits n few rest parts.1)
-block_fits n few (program.Scan cell first count rest) h =
-    let parts = and_parts (scan_fits n cell first count) (operands_fit n rest) h in
-    and_from (line_fits (line.Scan cell first count)) (list_all line_fits (block_lines rest)) (scan_small n cell first count few parts.0) (block_fits n few rest parts.1)
+block_fits n few (program.Do s rest) h =
+    let parts = and_parts (simple_fits n s) (operands_fit n rest) h in
+    and_from (line_fits (simple_line s)) (list_all line_fits (block_lines rest)) (simple_fits_line n few s parts.0) (block_fits n few rest parts.1)
 block_fits n few (program.If test first second rest) h =
     let outer = and_parts (expr_fits test && operands_fit n first && operands_fit n second) (operands_fit n rest) h in
     let middle = and_parts (expr_fits test && operands_fit n first) (operands_fit n second) outer.0 in
@@ -161,9 +150,6 @@ block_fits n few (program.Repeat count body rest) h =
     let inner = and_parts (expr_fits count) (operands_fit n body) outer.0 in
     and_from (expr_fits count) (list_all line_fits (block_lines body ++ (line.Done ∷ block_lines rest))) inner.0
     (both_fit (block_lines body) (line.Done ∷ block_lines rest) (block_fits n few body inner.1) (block_fits n few rest outer.1))
-block_fits n few (program.Emit value rest) h =
-    let parts = and_parts (expr_fits value) (operands_fit n rest) h in
-    and_from (expr_fits value) (list_all line_fits (block_lines rest)) parts.0 (block_fits n few rest parts.1)
 block_fits n few (program.Halt rest) h = block_fits n few rest h
 
 -- both kinds of renaming have a slot of so many

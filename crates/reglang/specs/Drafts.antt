@@ -7,13 +7,14 @@ use Rattle.regmodel.specs.declared.limits.TheConstants.{MOST_CHECKS, MOST_OPEN_B
 use Rattle.reglang.specs.LineFaults.{code_of}
 use Rattle.reglang.specs.declared.refusals.LineFault.{LineFault}
 use Rattle.reglang.specs.declared.refusals.LineFault.TheVariants.{Misplaced, NoClause, NoRegisters, PastLimit}
-use Rattle.regmodel.specs.Limits.{target_fits, operand_fits, expr_fits, scan_fits, operands_fit, statements, open_blocks, open_repeats}
+use Rattle.regmodel.specs.Limits.{expr_fits, simple_fits, operands_fit, statements, open_blocks, open_repeats}
 use Rattle.regmodel.specs.Program as program
-use Rattle.regmodel.specs.Program.{Block, Stop}
+use Rattle.regmodel.specs.Program.{Block, Simple, Stop}
 use Rattle.regmodel.specs.Blocks.{block_of, with_stmt}
 use Rattle.regmodel.specs.declared.statements.Stmt.{Stmt}
 use Rattle.reglang.specs.Forms.{read_line}
 use Rattle.reglang.specs.Contents.{Body, Text, Kind, Contents, IsBodyWithin, clause_fits}
+use Rattle.reglang.specs.Statements.{simple_of}
 use Rattle.reglang.specs.Sources.{check_lines_of, contents_of, contents_with}
 use Rattle.reglang.specs.declared.source.Source.{Source}
 use Rattle.reglang.specs.Faults.{Opened, If, Else, Repeat, repeats_in}
@@ -35,13 +36,9 @@ use Rattle.uses.specs.declared.kinds.Use.{Use}
 infixr 5 ◌⊕◌
 abbrev pub ◌⊕◌ : Block → Block → Block
 program.Stop ⊕ more = more
-(program.Assign to value rest) ⊕ more = program.Assign to value (rest ⊕ more)
-(program.Read to from rest) ⊕ more = program.Read to from (rest ⊕ more)
-(program.Write to value rest) ⊕ more = program.Write to value (rest ⊕ more)
-(program.Scan cell first count rest) ⊕ more = program.Scan cell first count (rest ⊕ more)
+(program.Do statement rest) ⊕ more = program.Do statement (rest ⊕ more)
 (program.If test first second rest) ⊕ more = program.If test first second (rest ⊕ more)
 (program.Repeat count body rest) ⊕ more = program.Repeat count body (rest ⊕ more)
-(program.Emit value rest) ⊕ more = program.Emit value (rest ⊕ more)
 (program.Halt rest) ⊕ more = program.Halt (rest ⊕ more)
 
 -- an open block: its test or count, the first part where its `else` came, and what stands before it
@@ -81,6 +78,11 @@ with_clause before clause = record before { clauses = before.clauses ++ clause �
 -- one statement more
 abbrev pub add : Contents → List Frame → Block → ℕ → Bool → Block → Result Reading LineFault
 add before frames block n fits statement = if nat_lt n MOST_STATEMENTS && fits then Ok (Inside before frames (block ⊕ statement) (suc n)) else Err PastLimit
+
+-- one simple statement more, where a line is one
+abbrev pub add_simple : Contents → List Frame → Block → ℕ → Option Simple → Result Reading LineFault
+add_simple before frames block n (Some statement) = add before frames block n (simple_fits before.registers statement) (program.Do statement Stop)
+add_simple before frames block n None = Err Misplaced
 
 -- one open block more
 abbrev pub enter : Contents → Frame → List Frame → ℕ → Bool → Result Reading LineFault
@@ -138,12 +140,6 @@ take_between before _ = Err Misplaced
 
 -- a line of a process
 abbrev pub take_inside : Contents → List Frame → Block → ℕ → Line → Result Reading LineFault
-take_inside before frames block n (line.Set to value) = add before frames block n (target_fits to && expr_fits value) (program.Assign to value Stop)
-take_inside before frames block n (line.Read to from) = add before frames block n (target_fits to && operand_fits from) (program.Read to from Stop)
-take_inside before frames block n (line.Write to value) = add before frames block n (operand_fits to && expr_fits value) (program.Write to value Stop)
-take_inside before frames block n (line.Scan cell first count) =
-    add before frames block n (scan_fits before.registers cell first count) (program.Scan cell first count Stop)
-take_inside before frames block n (line.Emit value) = add before frames block n (expr_fits value) (program.Emit value Stop)
 take_inside before frames block n line.Halt = add before frames block n true (program.Halt Stop)
 take_inside before frames block n (line.If test) = enter before (First test block) frames n (expr_fits test)
 take_inside before frames block n (line.Repeat count) = enter before (Turn count block) frames n (expr_fits count && nat_lt (turns frames) MOST_OPEN_REPEATS)
@@ -152,7 +148,7 @@ take_inside before frames block n line.Fi = leave_if before frames block n
 take_inside before frames block n line.Done = leave_repeat before frames block n
 take_inside before frames block n line.End = leave before frames block
 take_inside before frames block n (line.Use kind) = stand_for before n kind
-take_inside before frames block n _ = Err Misplaced
+take_inside before frames block n line = add_simple before frames block n (simple_of line)
 
 -- a line after a use line
 abbrev pub take_used : Contents → Use → Line → Result Reading LineFault

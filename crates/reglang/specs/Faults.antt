@@ -5,12 +5,14 @@ use Rattle.reglang.specs.declared.refusals.TheConstants.{NO_MEMORY}
 use Rattle.reglang.specs.LineFaults.{code_of, fault_of}
 use Rattle.reglang.specs.declared.refusals.LineFault.{LineFault}
 use Rattle.reglang.specs.declared.refusals.LineFault.TheVariants.{Misplaced, NoClause, NoRegisters, PastLimit}
-use Rattle.regmodel.specs.Limits.{target_fits, operand_fits, expr_fits, scan_fits}
+use Rattle.regmodel.specs.Limits.{expr_fits, simple_fits}
+use Rattle.regmodel.specs.Program.{Simple}
 use Rattle.reglang.specs.Lines.{lines}
 use Rattle.reglang.specs.Forms.{read_line}
 use Rattle.reglang.specs.Checks.{line_at}
 use Rattle.reglang.specs.Contents.{Contents}
 use Rattle.reglang.specs.Grammar.{Spells, line_said, lines_said}
+use Rattle.reglang.specs.Statements.{simple_of}
 use Rattle.uses.specs.Uses.{is_between, use_fits}
 use Rattle.reglang.specs.declared.arguments.Line.{Line}
 use Rattle.reglang.specs.declared.arguments.Line.TheVariants as line
@@ -60,12 +62,7 @@ place_after (line.Repeat count) (Inside opened n) = Inside (Repeat ∷ opened) (
 place_after line.Else (Inside opened n) = Inside (with_else opened) n
 place_after line.Fi (Inside opened n) = Inside (without_innermost opened) n
 place_after line.Done (Inside opened n) = Inside (without_innermost opened) n
-place_after (line.Set to value) (Inside opened n) = Inside opened (suc n)
-place_after (line.Read to from) (Inside opened n) = Inside opened (suc n)
-place_after (line.Write to value) (Inside opened n) = Inside opened (suc n)
-place_after (line.Scan cell first count) (Inside opened n) = Inside opened (suc n)
-place_after (line.Emit value) (Inside opened n) = Inside opened (suc n)
-place_after line.Halt (Inside opened n) = Inside opened (suc n)
+place_after statement (Inside opened n) = Inside opened (suc n)
 place_after _ place = place
 
 -- the number of registers after a line
@@ -182,21 +179,21 @@ has_depth place = nat_lt (length (opened_at place)) MOST_OPEN_BLOCKS
 abbrev pub has_turns : Place → Bool
 has_turns place = nat_lt (repeats_in (opened_at place)) MOST_OPEN_REPEATS
 
+-- whether a simple statement, where a line is one, is within the limits
+abbrev pub is_simple_within : Context → Option Simple → Bool
+is_simple_within context (Some statement) = has_room context.place && simple_fits (unwrap_or context.registers 0) statement
+is_simple_within context None = true
+
 -- whether a line is within the limits where it stands
 abbrev pub is_within : Context → Line → Bool
 is_within context (line.Registers n) = is_between 1 MOST_REGISTERS n
 is_within context line.Process = nat_lt context.processes MOST_PROCESSES
 is_within context (line.Check clause) = nat_lt context.checks MOST_CHECKS
 is_within context (line.Use kind) = use_fits kind (unwrap_or context.registers 0)
-is_within context (line.Set to value) = has_room context.place && (target_fits to && expr_fits value)
-is_within context (line.Read to from) = has_room context.place && (target_fits to && operand_fits from)
-is_within context (line.Write to value) = has_room context.place && (operand_fits to && expr_fits value)
-is_within context (line.Scan cell first count) = has_room context.place && scan_fits (unwrap_or context.registers 0) cell first count
 is_within context (line.If test) = has_room context.place && expr_fits test && has_depth context.place
 is_within context (line.Repeat count) = has_room context.place && (expr_fits count && has_turns context.place) && has_depth context.place
-is_within context (line.Emit value) = has_room context.place && expr_fits value
 is_within context line.Halt = has_room context.place
-is_within context _ = true
+is_within context line = is_simple_within context (simple_of line)
 
 -- too early: no `registers` line came, and this is none
 abbrev pub is_too_early : Context → Line → Bool

@@ -3,7 +3,7 @@ use Rattle.std.specs.Prelude.{◌≡◌, ℕ, ◌⊎◌, List, [], ◌∷◌, �
 use Rattle.std.specs.List.{flat_map}
 use Rattle.regmodel.specs.declared.clauses.Clause.{Clause}
 use Rattle.regmodel.specs.Program as program
-use Rattle.regmodel.specs.Program.{Block}
+use Rattle.regmodel.specs.Program.{Block, Simple}
 use Rattle.reglang.specs.Lines.{lines}
 use Rattle.reglang.specs.Forms.{read_line}
 use Rattle.reglang.specs.Contents.{Body, Text, Kind, Contents, IsSourceWithin}
@@ -29,17 +29,21 @@ pub record Then (first second : List Line → Type 0) (lines : List Line) : Type
 abbrev pub ElseSays : Block → (List Line → Type 0) → List Line → Type 0
 ElseSays second says lines = ((second ≡ program.Stop) × (lines ≡ [])) ⊎ Begins line.Else says lines
 
+-- the line of a simple statement
+abbrev pub simple_line : Simple → Line
+simple_line (program.Assign to value) = line.Set to value
+simple_line (program.Read to from) = line.Read to from
+simple_line (program.Write to value) = line.Write to value
+simple_line (program.Scan cell first count) = line.Scan cell first count
+simple_line (program.Emit value) = line.Emit value
+
 -- the lines of a block are those of its statements, one after another
 abbrev pub BlockSays : Block → List Line → Type 0
 BlockSays program.Stop lines = lines ≡ []
-BlockSays (program.Assign to value rest) lines = Begins (line.Set to value) (BlockSays rest) lines
-BlockSays (program.Read to from rest) lines = Begins (line.Read to from) (BlockSays rest) lines
-BlockSays (program.Write to value rest) lines = Begins (line.Write to value) (BlockSays rest) lines
-BlockSays (program.Scan cell first count rest) lines = Begins (line.Scan cell first count) (BlockSays rest) lines
+BlockSays (program.Do statement rest) lines = Begins (simple_line statement) (BlockSays rest) lines
 BlockSays (program.If test first second rest) lines =
     Begins (line.If test) (Then (BlockSays first) (Then (ElseSays second (BlockSays second)) (Begins line.Fi (BlockSays rest)))) lines
 BlockSays (program.Repeat count body rest) lines = Begins (line.Repeat count) (Then (BlockSays body) (Begins line.Done (BlockSays rest))) lines
-BlockSays (program.Emit value rest) lines = Begins (line.Emit value) (BlockSays rest) lines
 BlockSays (program.Halt rest) lines = Begins line.Halt (BlockSays rest) lines
 
 -- its statements, or a use line alone

@@ -3,7 +3,7 @@ use Rattle.std.specs.Prelude.{[], ◌∷◌, codes, refl}
 use Rattle.std.proofs.Common.{inl, inr}
 use Rattle.regmodel.specs.declared.statements.Expr.TheVariants.{One}
 use Rattle.regmodel.specs.declared.statements.Operand.TheVariants.{Var}
-use Rattle.regmodel.specs.Program.{Block, Stop, Scan, If, Halt}
+use Rattle.regmodel.specs.Program.{Block, Stop, Do, Scan, If, Halt}
 use Rattle.reglang.specs.Contents.{Contents, Text}
 use Rattle.reglang.specs.Grammar.{BlockSays, LinesSay, Process, lines_said}
 use Rattle.reglang.specs.declared.arguments.Line.TheVariants as line
@@ -71,7 +71,7 @@ with_else = record {
 }
 
 -- a scan is one line
-pub a_scan : BlockSays (Scan 0 1 2 (Halt Stop)) (line.Scan 0 1 2 ∷ line.Halt ∷ [])
+pub a_scan : BlockSays (Do (Scan 0 1 2) (Halt Stop)) (line.Scan 0 1 2 ∷ line.Halt ∷ [])
 a_scan = record {
   more = line.Halt ∷ [];
   whole = refl;

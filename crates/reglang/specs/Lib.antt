@@ -15,6 +15,7 @@ pub mod Lines
 pub mod Sorts
 pub mod Sources
 pub mod Spelling
+pub mod Statements
 pub mod Words
 pub mod Writing
 pub mod WritingExamples

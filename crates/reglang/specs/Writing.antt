@@ -15,6 +15,7 @@ use Rattle.regmodel.specs.Blocks.{block_of, with_stmt}
 use Rattle.regmodel.specs.declared.statements.Stmt.{Stmt}
 use Rattle.reglang.specs.Arguments.{clause_parts, line_parts, use_parts}
 use Rattle.reglang.specs.Spelling.{keyword_text, kind_text, operator_text, property_text}
+use Rattle.reglang.specs.Grammar.{simple_line}
 use Rattle.reglang.specs.Contents.{Body, Text, Kind, Contents}
 use Rattle.reglang.specs.Bodies.{body_of}
 use Rattle.reglang.specs.Sources.{contents_of}
@@ -118,13 +119,9 @@ else_lines second lines = line.Else ∷ lines
 -- the lines of the statements, one after another
 abbrev pub block_lines : Block → List Line
 block_lines program.Stop = []
-block_lines (program.Assign to value rest) = line.Set to value ∷ block_lines rest
-block_lines (program.Read to from rest) = line.Read to from ∷ block_lines rest
-block_lines (program.Write to value rest) = line.Write to value ∷ block_lines rest
-block_lines (program.Scan cell first count rest) = line.Scan cell first count ∷ block_lines rest
+block_lines (program.Do statement rest) = simple_line statement ∷ block_lines rest
 block_lines (program.If test first second rest) = line.If test ∷ (block_lines first ++ (else_lines second (block_lines second) ++ (line.Fi ∷ block_lines rest)))
 block_lines (program.Repeat count body rest) = line.Repeat count ∷ (block_lines body ++ (line.Done ∷ block_lines rest))
-block_lines (program.Emit value rest) = line.Emit value ∷ block_lines rest
 block_lines (program.Halt rest) = line.Halt ∷ block_lines rest
 
 -- its statements, or a use line

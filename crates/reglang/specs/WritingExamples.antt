@@ -38,7 +38,7 @@ one_part = refl
 pub second_part : source_text (record {
   registers = 2;
   processes =
-      Text (program.If (expr.One (operand.Cell 31)) program.Stop (program.Read (target.Var 1) (operand.Number 0) program.Stop) program.Stop)
+      Text (program.If (expr.One (operand.Cell 31)) program.Stop (program.Do (program.Read (target.Var 1) (operand.Number 0)) program.Stop) program.Stop)
       ∷ Kind (use_line.Split 0 7) ∷ [];
   clauses = [];
 }) ≡ codes "registers 2\nprocess\nif [31]\nelse\nread v1 0\nfi\nend\nprocess\nuse split 0 7\nend\n"
@@ -49,7 +49,7 @@ second_part = refl
 pub scans : source_text (record {
   registers = 2;
   processes =
-      Text (program.Repeat (expr.One (operand.Number 3)) (program.Scan 0 1 1 program.Stop) (program.Halt program.Stop))
+      Text (program.Repeat (expr.One (operand.Number 3)) (program.Do (program.Scan 0 1 1) program.Stop) (program.Halt program.Stop))
       ∷ Kind (use_line.Names 0 2 0) ∷ [];
   clauses = [];
 }) ≡ codes "registers 2\nprocess\nrepeat 3\nscan 0 1 1\ndone\nhalt\nend\nprocess\nuse names 0 2 0\nend\n"

@@ -7,7 +7,7 @@ use Rattle.regmodel.specs.declared.statements.Operand.TheVariants.{Number, Var, 
 use Rattle.regmodel.specs.declared.statements.Op.TheVariants.{Add, Sub, Mul, Equal, Less}
 use Rattle.regmodel.specs.declared.statements.Expr.{Expr}
 use Rattle.regmodel.specs.declared.statements.Expr.TheVariants.{One, Two}
-use Rattle.regmodel.specs.Program.{Block, Program, Stop, Assign, Read, Write, Scan, If, Repeat, Emit, Halt}
+use Rattle.regmodel.specs.Program.{Block, Program, Stop, Do, Assign, Read, Write, Scan, If, Repeat, Emit, Halt}
 use Rattle.uses.specs.declared.kinds.Use.{Use}
 use Rattle.uses.specs.declared.kinds.Use.TheVariants.{Split, Grid, Tree, Name, Names}
 
@@ -18,31 +18,39 @@ statement ▸ rest = statement rest
 
 -- sets a variable
 abbrev pub set : ℕ → Expr → Block → Block
-set i value rest = Assign (target.Var i) value rest
+set i value rest = Do (Assign (target.Var i) value) rest
 
 -- sets the cell that a variable names
 abbrev pub set_cell : ℕ → Expr → Block → Block
-set_cell i value rest = Assign (target.CellOf i) value rest
+set_cell i value rest = Do (Assign (target.CellOf i) value) rest
 
 -- reads a register into a variable
 abbrev pub read : ℕ → Operand → Block → Block
-read i register rest = Read (target.Var i) register rest
+read i register rest = Do (Read (target.Var i) register) rest
+
+-- writes a register
+abbrev pub write : Operand → Expr → Block → Block
+write register value rest = Do (Write register value) rest
+
+-- emits a number
+abbrev pub emit : Expr → Block → Block
+emit value rest = Do (Emit value) rest
 
 -- ---- split: register `base` tells who came last, the next is the door, 0 where it is open
 
 -- found the door closed: right
 abbrev pub split_right : Block
-split_right = Emit (One (Number 2)) ▸ Halt ▸ Stop
+split_right = emit (One (Number 2)) ▸ Halt ▸ Stop
 
 -- leaves its mark, tries the door and closes it; still the last one there: stop, else down
 abbrev pub split_body : ℕ → ℕ → Block
 split_body base id =
-    Write (Number base) (One (Number id)) ▸
+    write (Number base) (One (Number id)) ▸
     read 0 (Number (base + 1)) ▸
     If (One (Var 0)) split_right Stop ▸
-    Write (Number (base + 1)) (One (Number 1)) ▸
+    write (Number (base + 1)) (One (Number 1)) ▸
     read 0 (Number base) ▸
-    If (Two (Var 0) Equal (Number id)) (Emit (One (Number 1)) ▸ Stop) (Emit (One (Number 3)) ▸ Stop) ▸
+    If (Two (Var 0) Equal (Number id)) (emit (One (Number 1)) ▸ Stop) (emit (One (Number 3)) ▸ Stop) ▸
     Stop
 
 -- ---- grid: a splitter a vertex; variable 0 is row + column, variable 1 the name of the vertex
@@ -51,9 +59,9 @@ split_body base id =
 -- vertex below
 abbrev pub grid_down : ℕ → Block
 grid_down id =
-    Write (Var 3) (One (Number 1)) ▸
+    write (Var 3) (One (Number 1)) ▸
     read 4 (Var 2) ▸
-    If (Two (Var 4) Equal (Number id)) (Emit (One (Var 1)) ▸ Halt ▸ Stop) Stop ▸
+    If (Two (Var 4) Equal (Number id)) (emit (One (Var 1)) ▸ Halt ▸ Stop) Stop ▸
     set 1 (Two (Var 1) Add (Var 0)) ▸
     set 1 (Two (Var 1) Add (Number 1)) ▸
     Stop
@@ -72,7 +80,7 @@ grid_visit base id =
     set 2 (Two (Var 2) Add (Number base)) ▸
     set 2 (Two (Var 2) Sub (Number 2)) ▸
     set 3 (Two (Var 2) Add (Number 1)) ▸
-    Write (Var 2) (One (Number id)) ▸
+    write (Var 2) (One (Number id)) ▸
     read 4 (Var 3) ▸
     If (One (Var 4)) grid_right (grid_down id) ▸
     set 0 (Two (Var 0) Add (Number 1)) ▸
@@ -92,7 +100,7 @@ grid_body base side id =
 -- closes the door; still the last one there: stops, else goes to the left child
 abbrev pub tree_down : ℕ → Block
 tree_down id =
-    Write (Var 4) (One (Number 1)) ▸
+    write (Var 4) (One (Number 1)) ▸
     read 5 (Var 3) ▸
     If (Two (Var 5) Equal (Number id)) (set 1 (One (Number 1)) ▸ Stop) (set 0 (Two (Var 0) Mul (Number 2)) ▸ Stop) ▸
     Stop
@@ -112,8 +120,8 @@ tree_visit base id =
     set 2 (Two (Var 2) Add (Number base)) ▸
     set 3 (Two (Var 2) Add (Number 1)) ▸
     set 4 (Two (Var 2) Add (Number 2)) ▸
-    Write (Var 2) (One (Number 1)) ▸
-    Write (Var 3) (One (Number id)) ▸
+    write (Var 2) (One (Number 1)) ▸
+    write (Var 3) (One (Number id)) ▸
     read 5 (Var 4) ▸
     If (One (Var 5)) tree_right (tree_down id) ▸
     Stop
@@ -123,7 +131,7 @@ abbrev pub tree_marked : Block
 tree_marked =
     set 2 (Two (Var 2) Add (Number 3)) ▸
     read 3 (Var 2) ▸
-    If (One (Var 3)) (Emit (One (Var 3)) ▸ Stop) Stop ▸
+    If (One (Var 3)) (emit (One (Var 3)) ▸ Stop) Stop ▸
     set 3 (Two (Var 0) Mul (Number 2)) ▸
     set_cell 3 (One (Number 1)) ▸
     set 3 (Two (Var 3) Add (Number 1)) ▸
@@ -155,8 +163,8 @@ tree_collect base =
 abbrev pub tree_leave : ℕ → ℕ → ℕ → Block
 tree_leave base depth value =
     set 2 (Two (Var 2) Add (Number 3)) ▸
-    Write (Var 2) (One (Number value)) ▸
-    Assign (target.Cell 1) (One (Number 1)) ▸
+    write (Var 2) (One (Number value)) ▸
+    Do (Assign (target.Cell 1) (One (Number 1))) ▸
     set 0 (One (Number 0)) ▸
     Repeat (One (Number (2 ^ depth - 1))) (tree_collect base) ▸
     Stop
@@ -186,7 +194,7 @@ name_rank = If (One (CellOf 3)) (set 2 (Two (Var 2) Add (Number 1)) ▸ Stop) St
 abbrev pub name_other : ℕ → ℕ → Block
 name_other base slot =
     set 4 (Two (Var 3) Add (Number base)) ▸
-    Read (target.CellOf 3) (Var 4) ▸
+    Do (Read (target.CellOf 3) (Var 4)) ▸
     If (Two (CellOf 3) Equal (Var 0)) (set 1 (One (Number 1)) ▸ Stop) Stop ▸
     If (Two (Var 3) Less (Number slot)) name_rank Stop ▸
     Stop
@@ -222,7 +230,7 @@ name_turn slots = If (One (Var 2)) (name_next slots) Stop ▸ Stop
 -- once the slots were read: keeps the proposal where no other slot held it, or makes the next one
 abbrev pub name_after : ℕ → Block
 name_after slots =
-    If (Two (Var 1) Equal (Number 0)) (Emit (One (Var 0)) ▸ Halt ▸ Stop) Stop ▸
+    If (Two (Var 1) Equal (Number 0)) (emit (One (Var 0)) ▸ Halt ▸ Stop) Stop ▸
     set 4 (One (Number 0)) ▸
     Repeat (One (Number (2 * slots - 1))) (name_turn slots) ▸
     set 0 (One (Var 4)) ▸
@@ -240,7 +248,7 @@ name_looked slots look =
 -- writes the proposal, reads the other slots, and keeps the proposal or makes the next one
 abbrev pub name_round : ℕ → ℕ → ℕ → Block
 name_round base slots slot =
-    Write (Number (base + slot)) (One (Var 0)) ▸
+    write (Number (base + slot)) (One (Var 0)) ▸
     name_looked slots (name_slot base slot)
 
 -- such rounds until no other slot holds the proposal, or there were as many as a `repeat` has
@@ -269,9 +277,9 @@ names_slot slot =
 -- proposal or makes the next one
 abbrev pub names_round : ℕ → ℕ → ℕ → Block
 names_round base slots slot =
-    Write (Number (base + slot)) (One (Var 0)) ▸
-    Scan 0 base slots ▸
-    Assign (target.Cell slot) (One (Number 0)) ▸
+    write (Number (base + slot)) (One (Var 0)) ▸
+    Do (Scan 0 base slots) ▸
+    Do (Assign (target.Cell slot) (One (Number 0))) ▸
     name_looked slots (names_slot slot)
 
 -- rounds that scan the slots
