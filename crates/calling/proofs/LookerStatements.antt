@@ -17,7 +17,7 @@ ends (stmt.Assign to value ∷ rest) h = absurd cc
 ends (_ ∷ rest) h = absurd cc
 
 -- it emits what it read, and that is all
-emits : (stmts : List Stmt) → block_of stmts ≡ program.Emit (One (operand.Var 0)) program.Stop → stmts ≡ stmt.Emit (One (operand.Var 0)) ∷ []
+emits : (stmts : List Stmt) → block_of stmts ≡ program.Do (program.Emit (One (operand.Var 0))) program.Stop → stmts ≡ stmt.Emit (One (operand.Var 0)) ∷ []
 emits [] h = absurd cc
 emits (stmt.Emit value ∷ rest) h =
     let same : value ≡ One (operand.Var 0) = cc in
@@ -25,12 +25,12 @@ emits (stmt.Emit value ∷ rest) h =
     ap (λ v. stmt.Emit v ∷ rest) same ∙ ap (λ r. stmt.Emit (One (operand.Var 0)) ∷ r) (ends rest over)
 emits (_ ∷ rest) h = absurd cc
 
-reads : (stmts : List Stmt) (register : ℕ) → block_of stmts ≡ program.Read (target.Var 0) (operand.Number register) (program.Emit (One (operand.Var 0)) program.Stop) → stmts ≡ stmt.Read (target.Var 0) (operand.Number register) ∷ stmt.Emit (One (operand.Var 0)) ∷ []
+reads : (stmts : List Stmt) (register : ℕ) → block_of stmts ≡ program.Do (program.Read (target.Var 0) (operand.Number register)) (program.Do (program.Emit (One (operand.Var 0))) program.Stop) → stmts ≡ stmt.Read (target.Var 0) (operand.Number register) ∷ stmt.Emit (One (operand.Var 0)) ∷ []
 reads [] register h = absurd cc
 reads (stmt.Read to from ∷ rest) register h =
     let same_to : to ≡ target.Var 0 = cc in
     let same_from : from ≡ operand.Number register = cc in
-    let more : block_of rest ≡ program.Emit (One (operand.Var 0)) program.Stop = cc in
+    let more : block_of rest ≡ program.Do (program.Emit (One (operand.Var 0))) program.Stop = cc in
     rw (same_to, same_from, emits rest more) refl
 reads (_ ∷ rest) register h = absurd cc
 

@@ -5,7 +5,7 @@ use Rattle.regmodel.specs.declared.accesses.Pending.TheVariants.{Done}
 use Rattle.regmodel.specs.declared.statements.Expr.TheVariants.{One}
 use Rattle.regmodel.specs.declared.statements.Operand.TheVariants as operand
 use Rattle.regmodel.specs.declared.statements.Target.TheVariants as target
-use Rattle.regmodel.specs.Program.{Program, Read, Emit, Stop}
+use Rattle.regmodel.specs.Program.{Program, Do, Read, Emit, Stop}
 use Rattle.regmodel.specs.Act.{act_of}
 use Rattle.regmodel.specs.Reply.{Replies}
 use Rattle.calling.specs.declared.looker.Stage.{Stage}
@@ -13,7 +13,7 @@ use Rattle.calling.specs.declared.looker.Stage.TheVariants.{Looks, Saw, Ended}
 
 -- it reads this register and emits what it read
 abbrev pub looking : ℕ → ℕ → Program
-looking registers register = record { registers = registers; body = Read (target.Var 0) (operand.Number register) (Emit (One (operand.Var 0)) Stop) }
+looking registers register = record { registers = registers; body = Do (Read (target.Var 0) (operand.Number register)) (Do (Emit (One (operand.Var 0))) Stop) }
 
 -- it is the program of no looker
 abbrev pub IsNoLooker : Program → Type 0

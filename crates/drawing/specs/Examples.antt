@@ -6,7 +6,7 @@ use Rattle.regmodel.specs.declared.outcomes.End.TheVariants as end
 use Rattle.regmodel.specs.declared.statements.Expr.TheVariants.{One}
 use Rattle.regmodel.specs.declared.statements.Operand.TheVariants as operand
 use Rattle.regmodel.specs.declared.statements.Target.TheVariants as target
-use Rattle.regmodel.specs.Program.{Assign, Emit, Read, Stop, Write}
+use Rattle.regmodel.specs.Program.{Assign, Do, Emit, Read, Stop, Write}
 use Rattle.regmodel.specs.Wanted.{wanted_after}
 use Rattle.regmodel.specs.Examples.{scans_two, two_writers, writer_and_reader}
 use Rattle.regmodel.specs.Replies.{value_after}
@@ -57,8 +57,8 @@ first_register_changed = refl
 abbrev writes_and_reads : Contents
 writes_and_reads = record {
   registers = 1;
-  processes = Text (Write (operand.Number 0) (One (operand.Number 5)) Stop)
-      ∷ Text (Read (target.Var 0) (operand.Number 0) (Emit (One (operand.Var 0)) Stop)) ∷ [];
+  processes = Text (Do (Write (operand.Number 0) (One (operand.Number 5))) Stop)
+      ∷ Text (Do (Read (target.Var 0) (operand.Number 0)) (Do (Emit (One (operand.Var 0))) Stop)) ∷ [];
   clauses = [];
 }
 
@@ -100,7 +100,7 @@ text_of_both = refl
 abbrev stands_at_its_second : Contents
 stands_at_its_second = record {
   registers = 2;
-  processes = Text Stop ∷ Text (Assign (target.Var 0) (One (operand.Number 5)) (Write (operand.Number 0) (One (operand.Var 0)) Stop)) ∷ [];
+  processes = Text Stop ∷ Text (Do (Assign (target.Var 0) (One (operand.Number 5))) (Do (Write (operand.Number 0) (One (operand.Var 0))) Stop)) ∷ [];
   clauses = [];
 }
 

@@ -1,23 +1,19 @@
 -- On which line of a text a process has a statement.
-use Rattle.std.specs.Prelude.{ℕ, suc, ◌+◌, ◌==◌, ◌&&◌, Bool, true, false, if◌then◌else◌, List, [], ◌∷◌, ◌++◌, Option, Some, Result, Ok, slice_get}
+use Rattle.std.specs.Prelude.{ℕ, suc, ◌+◌, ◌==◌, ◌&&◌, Bool, true, false, if◌then◌else◌, List, [], ◌∷◌, ◌++◌, Option, Some, is_some, Result, Ok, slice_get}
 use Rattle.reglang.specs.Forms.{read_line}
 use Rattle.reglang.specs.Lines.{lines}
+use Rattle.reglang.specs.Statements.{simple_of}
 use Rattle.reglang.specs.declared.arguments.Line.{Line}
 use Rattle.reglang.specs.declared.arguments.Line.TheVariants as line
 use Rattle.reglang.specs.declared.refusals.LineFault.{LineFault}
 
 -- whether a line is a statement, or the use line that stands for all of them; one that parts or ends a block is none
 abbrev pub is_statement : Line → Bool
-is_statement (line.Set to value) = true
-is_statement (line.Read to from) = true
-is_statement (line.Write to value) = true
-is_statement (line.Scan cell first count) = true
 is_statement (line.If test) = true
 is_statement (line.Repeat count) = true
-is_statement (line.Emit value) = true
 is_statement line.Halt = true
 is_statement (line.Use kind) = true
-is_statement _ = false
+is_statement line = is_some (simple_of line)
 
 -- the same of what a line says, if anything
 abbrev pub says_statement : Result (Option Line) LineFault → Bool

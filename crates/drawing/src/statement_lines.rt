@@ -52,10 +52,9 @@ fn is_statement(line: Line) -> bool
     ensures { result ≡ spec.is_statement line }
 {
     match line {
-        Line::Set(..) | Line::Read(..) | Line::Write(..) | Line::Scan(..) => true,
-        Line::If(_) | Line::Repeat(_) | Line::Emit(_) | Line::Halt | Line::Use(_) => true,
         Line::Registers(_) | Line::Check(_) | Line::Process | Line::End => false,
         Line::Else | Line::Fi | Line::Done => false,
+        _ => true,
     }
 }
 

@@ -3,8 +3,8 @@ use Rattle.std.proofs.Common.{◌≡◌, ℕ, zero, suc, ◌+◌, ◌≤◌, Boo
 use Rattle.std.proofs.lemmas.Bool.{ltb-true, ltb-false}
 use Rattle.std.proofs.lemmas.List.{length-append}
 use Rattle.std.specs.Prelude.{⊤, nat_lt}
-use Rattle.regmodel.specs.Act.{Flow, GoesOn, Wants, Ends, Faults, with_value, answer_read, answer_scan, answer_write, then_do, choose, emit, times, times_or_fault, exec, flow_pending, act_of}
-use Rattle.regmodel.specs.Program.{Block, Program, Stop, Assign, Read, Write, Scan, If, Repeat, Emit, Halt}
+use Rattle.regmodel.specs.Act.{Flow, GoesOn, Wants, Ends, Faults, with_value, answer_read, answer_scan, answer_write, then_do, choose, emit, times, times_or_fault, exec_simple, exec, flow_pending, act_of}
+use Rattle.regmodel.specs.Program.{Block, Program, Simple, Stop, Do, Assign, Read, Write, Scan, If, Repeat, Emit, Halt}
 use Rattle.regmodel.specs.Reply.{Reply, Replies, value_of}
 use Rattle.regmodel.specs.Values.{Env, start_env, Place, InVar, InCell, expr_value, operand_value, and_then, below_or_fault, target_place, store, store_from}
 use Rattle.regmodel.specs.declared.faults.TheConstants.{TOO_MANY_NUMBERS, TOO_MANY_TURNS}
@@ -12,7 +12,7 @@ use Rattle.regmodel.specs.declared.limits.TheConstants.{MOST_NUMBERS, MOST_TURNS
 use Rattle.regmodel.specs.declared.statements.Expr.{Expr}
 use Rattle.regmodel.specs.declared.statements.Expr.TheVariants.{One, Two}
 use Rattle.regmodel.specs.declared.statements.Operand.TheVariants as operand
-use Rattle.verdict.specs.Emissions.{EmitsAtMost, most_before, most_emitted, most_from, most_turns}
+use Rattle.verdict.specs.Emissions.{EmitsAtMost, most_before, most_emitted, most_from, most_from_simple, most_turns}
 
 -- a flow keeps to a limit, where at most so many numbers are emitted after it
 abbrev Keeps : ℕ → ℕ → Flow → Type 0
@@ -82,6 +82,21 @@ module _ (limit most : ℕ) where
           let longer = length-append env.emitted (v ∷ []) in
           (omega (arith, below, longer), omega (arith, below, longer, h))
 
+  exec_simple-keeps : (n : ℕ) (statement : Simple) → GoKeeps limit (most_from_simple statement most) most (exec_simple statement n)
+  exec_simple-keeps n (Assign t e) env s few h =
+      with_value-keeps limit most (expr_value env e) (λ v. with_value (target_place env t) (λ place. GoesOn (store env place v) s)) (λ v _.
+      with_value-keeps limit most (target_place env t) (λ place. GoesOn (store env place v) s) (λ place _.
+      same-few env.emitted (store env place v).emitted (store-emitted env place v) (few, h)))
+  exec_simple-keeps n (Read t a) env s few h =
+      with_value-keeps limit most (and_then (operand_value env a) (below_or_fault n)) (λ r. with_value (target_place env t) (λ place. answer_read env place r s)) (λ r _.
+      with_value-keeps limit most (target_place env t) (λ place. answer_read env place r s) (λ place _. answer_read-keeps env place r s (few, h)))
+  exec_simple-keeps n (Write a e) env s few h =
+      with_value-keeps limit most (and_then (operand_value env a) (below_or_fault n)) (λ r. with_value (expr_value env e) (λ v. answer_write env r v s)) (λ r _.
+      with_value-keeps limit most (expr_value env e) (λ v. answer_write env r v s) (λ v _. answer_write-keeps env r v s (few, h)))
+  exec_simple-keeps n (Scan cell first count) env s few h = answer_scan-keeps env cell first count s (few, h)
+  exec_simple-keeps n (Emit e) env s few h =
+      with_value-keeps limit most (expr_value env e) (λ v. emit env v s) (λ v _. emit-keeps env v s few h)
+
 -- ---- turns
 
 -- more turns have no fewer numbers
@@ -119,24 +134,9 @@ times_or_fault-keeps limit after e before block k env s few h m told false below
 
 exec-keeps : (n : ℕ) (b : Block) (limit after : ℕ) → GoKeeps limit (most_from b after) after (exec b n)
 exec-keeps n Stop limit after env s few h = (few, h)
-exec-keeps n (Assign t e rest) limit after env s few h =
-    with_value-keeps limit after (expr_value env e) (λ v. with_value (target_place env t) (λ place. exec rest n (store env place v) s)) (λ v _.
-    with_value-keeps limit after (target_place env t) (λ place. exec rest n (store env place v) s) (λ place _.
-    let same = same-few limit (most_from rest after) env.emitted (store env place v).emitted (store-emitted env place v) (few, h) in
-    exec-keeps n rest limit after (store env place v) s same.0 same.1))
-exec-keeps n (Read t a rest) limit after env s few h =
+exec-keeps n (Do statement rest) limit after env s few h =
     let most = most_from rest after in
-    with_value-keeps limit after (and_then (operand_value env a) (below_or_fault n)) (λ r. with_value (target_place env t) (λ place. then_do (answer_read env place r s) (exec rest n))) (λ r _.
-    with_value-keeps limit after (target_place env t) (λ place. then_do (answer_read env place r s) (exec rest n)) (λ place _.
-    then_do-keeps limit most after (answer_read env place r s) (exec rest n) (answer_read-keeps limit most env place r s (few, h)) (exec-keeps n rest limit after)))
-exec-keeps n (Write a e rest) limit after env s few h =
-    let most = most_from rest after in
-    with_value-keeps limit after (and_then (operand_value env a) (below_or_fault n)) (λ r. with_value (expr_value env e) (λ v. then_do (answer_write env r v s) (exec rest n))) (λ r _.
-    with_value-keeps limit after (expr_value env e) (λ v. then_do (answer_write env r v s) (exec rest n)) (λ v _.
-    then_do-keeps limit most after (answer_write env r v s) (exec rest n) (answer_write-keeps limit most env r v s (few, h)) (exec-keeps n rest limit after)))
-exec-keeps n (Scan cell first count rest) limit after env s few h =
-    let most = most_from rest after in
-    then_do-keeps limit most after (answer_scan env cell first count s) (exec rest n) (answer_scan-keeps limit most env cell first count s (few, h)) (exec-keeps n rest limit after)
+    then_do-keeps limit most after (exec_simple statement n env s) (exec rest n) (exec_simple-keeps limit most n statement env s few h) (exec-keeps n rest limit after)
 exec-keeps n (If e first second rest) limit after env s few h =
     let most = most_from rest after in
     with_value-keeps limit after (expr_value env e) (λ v. then_do (choose v (exec first n env s) (exec second n env s)) (exec rest n)) (λ v _.
@@ -145,10 +145,6 @@ exec-keeps n (Repeat e body rest) limit after env s few h =
     let most = most_from rest after in
     with_value-keeps limit after (expr_value env e) (λ m. then_do (times_or_fault m (exec body n) env s) (exec rest n)) (λ m told.
     then_do-keeps limit most after (times_or_fault m (exec body n) env s) (exec rest n) (times_or_fault-keeps limit most e (most_from body) (exec body n) (exec-keeps n body limit) env s few h m told (nat_lt MOST_TURNS m) refl) (exec-keeps n rest limit after))
-exec-keeps n (Emit e rest) limit after env s few h =
-    let most = most_from rest after in
-    with_value-keeps limit after (expr_value env e) (λ v. then_do (emit env v s) (exec rest n)) (λ v _.
-    then_do-keeps limit most after (emit env v s) (exec rest n) (emit-keeps limit most env v s few h) (exec-keeps n rest limit after))
 exec-keeps n (Halt rest) limit after env s few h = omega (arith, few, h)
 
 -- how a flow stands after which nothing more is emitted

@@ -4,7 +4,7 @@ use Rattle.regmodel.specs.declared.outcomes.End.TheVariants as end
 use Rattle.regmodel.specs.declared.statements.Expr.{Expr}
 use Rattle.regmodel.specs.declared.statements.Expr.TheVariants.{One}
 use Rattle.regmodel.specs.declared.statements.Operand.TheVariants as operand
-use Rattle.regmodel.specs.Program.{Stop, If, Repeat, Emit, Halt}
+use Rattle.regmodel.specs.Program.{Block, Stop, Do, If, Repeat, Emit, Halt}
 use Rattle.patterns.specs.declared.standings.Standing.{Standing}
 use Rattle.patterns.specs.declared.standings.Standing.TheVariants.{Any, Just}
 use Rattle.verdict.specs.Emissions.{most_from}
@@ -17,20 +17,24 @@ number n = One (operand.Number n)
 abbrev variable : Expr
 variable = One (operand.Var 0)
 
+-- emits a number, and goes on
+abbrev emit : ℕ → Block → Block
+emit n rest = Do (Emit (number n)) rest
+
 -- `if v0`, `emit 1`, `halt`, `end`, `emit 2`: one of them
-pub one_of_two : most_from (If variable (Emit (number 1) (Halt Stop)) Stop (Emit (number 2) Stop)) 0 ≡ 1
+pub one_of_two : most_from (If variable (emit 1 (Halt Stop)) Stop (emit 2 Stop)) 0 ≡ 1
 one_of_two = refl
 
 -- `repeat 3`, `emit 1`, `end`, `emit 2`: three and one
-pub three_and_one : most_from (Repeat (number 3) (Emit (number 1) Stop) (Emit (number 2) Stop)) 0 ≡ 4
+pub three_and_one : most_from (Repeat (number 3) (emit 1 Stop) (emit 2 Stop)) 0 ≡ 4
 three_and_one = refl
 
 -- `repeat v0`, `emit 1`, `end`: as many as may be
-pub as_many_as_may_be : most_from (Repeat variable (Emit (number 1) Stop) Stop) 0 ≡ 8
+pub as_many_as_may_be : most_from (Repeat variable (emit 1 Stop) Stop) 0 ≡ 8
 as_many_as_may_be = refl
 
 -- `repeat v0`, `if v0`, `emit 1`, `halt`, `end`, `end`: the first `emit` is the last
-pub ends_in_a_turn : most_from (Repeat variable (If variable (Emit (number 1) (Halt Stop)) Stop Stop) Stop) 0 ≡ 1
+pub ends_in_a_turn : most_from (Repeat variable (If variable (emit 1 (Halt Stop)) Stop Stop) Stop) 0 ≡ 1
 ends_in_a_turn = refl
 
 -- done with these numbers

@@ -7,7 +7,7 @@ use Rattle.regmodel.specs.declared.statements.Operand.{Operand}
 use Rattle.regmodel.specs.declared.statements.Operand.TheVariants as operand
 use Rattle.regmodel.specs.declared.statements.Expr.{Expr}
 use Rattle.regmodel.specs.declared.statements.Expr.TheVariants.{One, Two}
-use Rattle.regmodel.specs.Program.{Block, Program, Stop, Assign, Read, Write, Scan, If, Repeat, Emit, Halt}
+use Rattle.regmodel.specs.Program.{Block, Program, Simple, Stop, Do, If, Repeat, Emit, Halt}
 
 -- how often a block is run at most that an operand has repeated: as often as a number says, and
 -- never more often than the most turns
@@ -27,17 +27,18 @@ abbrev pub most_before : (ℕ → ℕ) → ℕ → ℕ → ℕ
 most_before before zero after = after
 most_before before (suc turns) after = let less = most_before before turns after in max less (before less)
 
--- the most numbers that are emitted from a block on, where after it at most so many are: an `emit`
--- adds one, an `if` has those of its greater branch, and behind a `halt` there are none
+-- the most numbers from a simple statement on, where after it at most so many are: an `emit` adds one
+abbrev pub most_from_simple : Simple → ℕ → ℕ
+most_from_simple (Emit value) after = min MOST_NUMBERS (after + 1)
+most_from_simple _ after = after
+
+-- the most numbers that are emitted from a block on, where after it at most so many are: an `if` has
+-- those of its greater branch, and behind a `halt` there are none
 abbrev pub most_from : Block → ℕ → ℕ
 most_from Stop after = after
-most_from (Assign to value rest) after = most_from rest after
-most_from (Read to from rest) after = most_from rest after
-most_from (Write to value rest) after = most_from rest after
-most_from (Scan cell first count rest) after = most_from rest after
+most_from (Do statement rest) after = most_from_simple statement (most_from rest after)
 most_from (If test first second rest) after = max (most_from first (most_from rest after)) (most_from second (most_from rest after))
 most_from (Repeat count body rest) after = most_before (most_from body) (most_turns count) (most_from rest after)
-most_from (Emit value rest) after = min MOST_NUMBERS (most_from rest after + 1)
 most_from (Halt rest) after = 0
 
 -- the most numbers that a program emits
