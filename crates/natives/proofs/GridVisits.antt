@@ -70,16 +70,16 @@ module _ (base id registers level vertex : ℕ) (h : IsVertex base registers lev
   visit-open a b c w door s e = rw (double, first, above, next, mark_there, door_there, e) refl
 
   pub visit-closes : (a b c : ℕ) (w : Reply) → exec (grid_visit base id) registers (at_vertex_with level vertex a b c) (w ∷ one 0 ∷ []) ≡ Wants (access.Write (mark + 1) 1)
-  visit-closes a b c w = rw (double, first, above, next, mark_there, door_there) refl
+  visit-closes a b c w = rw (double, first, above, next, mark_there, door_there, door_there) refl
 
   pub visit-looks : (a b c : ℕ) (w x : Reply) → exec (grid_visit base id) registers (at_vertex_with level vertex a b c) (w ∷ one 0 ∷ x ∷ []) ≡ Wants (access.Read mark)
-  visit-looks a b c w x = rw (double, first, above, next, mark_there, door_there) refl
+  visit-looks a b c w x = rw (double, first, above, next, mark_there, door_there, door_there, mark_there) refl
 
   pub visit-stops : (a b c : ℕ) (w x last : Reply) (s : Replies) → value_of last ≡ id → exec (grid_visit base id) registers (at_vertex_with level vertex a b c) (w ∷ one 0 ∷ x ∷ last ∷ s) ≡ Ends (vertex ∷ [])
-  visit-stops a b c w x last s e = rw (double, first, above, next, mark_there, door_there, eq_yes (value_of last) id e) refl
+  visit-stops a b c w x last s e = rw (double, first, above, next, mark_there, door_there, door_there, mark_there, eq_yes (value_of last) id e) refl
 
   pub visit-down : (a b c : ℕ) (w x last : Reply) (s : Replies) → value_of last ≢ id → exec (grid_visit base id) registers (at_vertex_with level vertex a b c) (w ∷ one 0 ∷ x ∷ last ∷ s) ≡ GoesOn (at_vertex_with (level + 1) (vertex + level + 1) mark (mark + 1) (value_of last)) s
-  visit-down a b c w x last s e = rw (double, first, above, next, mark_there, door_there, eq_no (value_of last) id e, sum, sum_down, deeper) refl
+  visit-down a b c w x last s e = rw (double, first, above, next, mark_there, door_there, door_there, mark_there, eq_no (value_of last) id e, sum, sum_down, deeper) refl
 
   -- what is left of the last turn plays no part
   pub visit-same : (a b c : ℕ) (s : Replies) → exec (grid_visit base id) registers (at_vertex_with level vertex a b c) s ≡ exec (grid_visit base id) registers (at_vertex_with level vertex 0 0 0) s

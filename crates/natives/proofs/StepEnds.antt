@@ -43,3 +43,7 @@ then_stop (Faults code) registers = refl
 -- room for one more of eight
 pub not_full : (n : ℕ) → (n == 8) ≡ false → n ≤ 8 → n < 8
 not_full n e h = grind (arith, nat_tests)
+
+-- no room for one more
+pub full : (n : ℕ) → (n == 8) ≡ true → 8 ≤ n
+full n e = grind (arith, nat_tests)

@@ -79,16 +79,16 @@ module _ (base id registers vertex : ℕ) (h : IsNode base registers vertex) whe
   visit-open a b c d w x door s e = rw (not_below, times_4, with_base, plus_1, plus_2, mark_there, last_there, door_there, e) refl
 
   pub visit-closes : (a b c d : ℕ) (w x : Reply) → exec (tree_descend base id) registers (way_with vertex 0 a b c d) (w ∷ x ∷ one 0 ∷ []) ≡ Wants (access.Write (mark + 2) 1)
-  visit-closes a b c d w x = rw (not_below, times_4, with_base, plus_1, plus_2, mark_there, last_there, door_there) refl
+  visit-closes a b c d w x = rw (not_below, times_4, with_base, plus_1, plus_2, mark_there, last_there, door_there, door_there) refl
 
   pub visit-looks : (a b c d : ℕ) (w x y : Reply) → exec (tree_descend base id) registers (way_with vertex 0 a b c d) (w ∷ x ∷ one 0 ∷ y ∷ []) ≡ Wants (access.Read (mark + 1))
-  visit-looks a b c d w x y = rw (not_below, times_4, with_base, plus_1, plus_2, mark_there, last_there, door_there) refl
+  visit-looks a b c d w x y = rw (not_below, times_4, with_base, plus_1, plus_2, mark_there, last_there, door_there, door_there, last_there) refl
 
   pub visit-stops : (a b c d : ℕ) (w x y last : Reply) (s : Replies) → value_of last ≡ id → exec (tree_descend base id) registers (way_with vertex 0 a b c d) (w ∷ x ∷ one 0 ∷ y ∷ last ∷ s) ≡ GoesOn (way_with vertex 1 mark (mark + 1) (mark + 2) (value_of last)) s
-  visit-stops a b c d w x y last s e = rw (not_below, times_4, with_base, plus_1, plus_2, mark_there, last_there, door_there, eq_yes (value_of last) id e) refl
+  visit-stops a b c d w x y last s e = rw (not_below, times_4, with_base, plus_1, plus_2, mark_there, last_there, door_there, door_there, last_there, eq_yes (value_of last) id e) refl
 
   pub visit-down : (a b c d : ℕ) (w x y last : Reply) (s : Replies) → value_of last ≢ id → exec (tree_descend base id) registers (way_with vertex 0 a b c d) (w ∷ x ∷ one 0 ∷ y ∷ last ∷ s) ≡ GoesOn (way_with (vertex * 2) 0 mark (mark + 1) (mark + 2) (value_of last)) s
-  visit-down a b c d w x y last s e = rw (not_below, times_4, with_base, plus_1, plus_2, mark_there, last_there, door_there, eq_no (value_of last) id e, doubled) refl
+  visit-down a b c d w x y last s e = rw (not_below, times_4, with_base, plus_1, plus_2, mark_there, last_there, door_there, door_there, last_there, eq_no (value_of last) id e, doubled) refl
 
   -- what is left of the last turn plays no part
   pub visit-same : (a b c d : ℕ) (s : Replies) → exec (tree_descend base id) registers (way_with vertex 0 a b c d) s ≡ exec (tree_descend base id) registers (way_with vertex 0 0 0 0 0) s

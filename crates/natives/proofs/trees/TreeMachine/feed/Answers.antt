@@ -26,3 +26,18 @@ returns-in-Sees-2-clause-goes_on c = λ s.
 pub returns-in-Tries-2-clause-goes_on : goal.returns-in-Tries-2-clause-goes_on
 returns-in-Tries-2-clause-goes_on c = λ s.
     opens c.args.self.now c.args.reply.now s (c.in-At.is ∙ ap At c.in-Tries-2.is) (sym c.value_of-value.ensures ∙ c.if-value-ne0.false)
+
+pub returns-in-Tries-clause-same : goal.returns-in-Tries-clause-same
+returns-in-Tries-clause-same c = c.go_to.ensures.same
+
+pub returns-in-Looks-2-clause-same : goal.returns-in-Looks-2-clause-same
+returns-in-Looks-2-clause-same c = c.go_to-in-Looks-2.ensures.same
+
+pub returns-in-Leaves-clause-same : goal.returns-in-Leaves-clause-same
+returns-in-Leaves-clause-same c = c.collect.ensures.same
+
+pub returns-in-Sees-2-clause-same : goal.returns-in-Sees-2-clause-same
+returns-in-Sees-2-clause-same c = c.go_past.ensures.same
+
+pub returns-in-Takes-clause-same : goal.returns-in-Takes-clause-same
+returns-in-Takes-clause-same c = c.take.ensures.same
