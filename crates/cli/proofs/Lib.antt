@@ -7,5 +7,6 @@ mod CutVerdicts
 mod FilesRead
 mod InterpretedProcesses
 mod LengthsTried
+mod MachinesOfKinds
 mod ShortestFound
 mod SearchesFound
