@@ -13,7 +13,10 @@ use Rattle.calling.specs.declared.looker.Stage.TheVariants.{Looks, Saw, Ended}
 
 -- it reads this register and emits what it read
 abbrev pub looking : ℕ → ℕ → Program
-looking registers register = record { registers = registers; body = Do (Read (target.Var 0) (operand.Number register)) (Do (Emit (One (operand.Var 0))) Stop) }
+looking registers register = record {
+  registers = registers;
+  body = Do (Read (target.Var 0) (operand.Number register)) (Do (Emit (One (operand.Var 0))) Stop);
+}
 
 -- it is the program of no looker
 abbrev pub IsNoLooker : Program → Type 0
