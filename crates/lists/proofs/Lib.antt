@@ -1,4 +1,5 @@
 pub mod Balances
 pub mod CountedOff
+pub mod Members
 pub mod Ranges
 pub mod Sums

@@ -2,11 +2,11 @@
 use Rattle.std.proofs.Common.{◌≡◌, ℕ, zero, suc, ◌+◌, ◌<◌, ◌≤◌, Bool, true, false, ◌&&◌, max, List, [], ◌∷◌, Vec, Global, IsTrue, length, get_or, drop, refl, ap, ◌∙◌, subst, arith, drop-cons, add-one}
 use Rattle.std.proofs.lemmas.Bool.{and_parts}
 use Rattle.regmodel.specs.declared.statements.Expr.{Expr}
-use Rattle.regmodel.specs.declared.statements.Stmt.{Stmt, If, Repeat}
+use Rattle.regmodel.specs.Prelude.{Block, with_stmt, block_of}
+use Rattle.regmodel.specs.declared.statements.Stmt.{If, Repeat, Stmt}
 use Rattle.regmodel.specs.declared.statements.Stmt.TheVariants as stmt
 use Rattle.regmodel.specs.Program as program
-use Rattle.regmodel.specs.Program.{Block, Stop}
-use Rattle.regmodel.specs.Blocks.{with_stmt, block_of}
+use Rattle.regmodel.specs.Program.{Stop}
 use Rattle.regmodel.specs.Limits.{nesting, statements, operands_fit}
 use Rattle.regmodel.proofs.Rows.{with_stmt-If, with_stmt-Repeat}
 

@@ -4,18 +4,18 @@ use Rattle.std.proofs.lemmas.Bool.{and_parts, leb-true, ltb-true}
 use Rattle.std.proofs.lemmas.List.{length-append}
 use Rattle.std.proofs.lemmas.List.Elements.{All-append, All-cons, All-head, All-nil, All-tail}
 use Rattle.std.specs.Prelude.{nat_lt, nat_le, ◌==◌}
-use Rattle.regmodel.specs.Act.{Flow, GoesOn, Wants, Ends, Faults, with_value, answer_read, answer_scan, answer_write, then_do, choose, emit, times, times_or_fault, exec_simple, exec, flow_pending, act_of}
-use Rattle.regmodel.specs.Footprints.{footprint_of}
-use Rattle.regmodel.specs.Lawful.{IsAccessWithin, TouchesWithin}
-use Rattle.regmodel.specs.Limits.{IsWithin, operands_fit, simple_fits, operand_fits, expr_fits, scan_fits, target_fits}
-use Rattle.regmodel.specs.Program.{Block, Program, Simple, Stop, Do, Assign, Read, Write, Scan, If, Repeat, Emit, Halt}
-use Rattle.regmodel.specs.Reply.{Reply, Replies, value_of}
-use Rattle.regmodel.specs.Values.{Env, start_env, Place, InVar, InCell, expr_value, operand_value, and_then, below_or_fault, within, apply_op, target_place, store, store_from}
 use Rattle.regmodel.specs.declared.accesses.Pending.{Pending}
+use Rattle.regmodel.specs.declared.statements.Expr.{Expr}
+use Rattle.regmodel.specs.Prelude.{Flow, then_do, times, exec, flow_pending, act_of, footprint_of, IsAccessWithin, IsWithin, Block, Program, Replies, Env}
+use Rattle.regmodel.specs.Act.{GoesOn, Wants, Ends, Faults, with_value, answer_read, answer_scan, answer_write, choose, emit, times_or_fault, exec_simple}
+use Rattle.regmodel.specs.Lawful.{TouchesWithin}
+use Rattle.regmodel.specs.Limits.{operands_fit, simple_fits, operand_fits, expr_fits, scan_fits, target_fits}
+use Rattle.regmodel.specs.Program.{Simple, Stop, Do, Assign, Read, Write, Scan, If, Repeat, Emit, Halt}
+use Rattle.regmodel.specs.Reply.{Reply, value_of}
+use Rattle.regmodel.specs.Values.{start_env, Place, InVar, InCell, expr_value, operand_value, and_then, below_or_fault, within, apply_op, target_place, store, store_from}
 use Rattle.regmodel.specs.declared.accesses.Pending.TheVariants as pending
 use Rattle.regmodel.specs.declared.faults.TheConstants.{NO_PLACE, NO_VALUE, TOO_MANY_NUMBERS, TOO_MANY_TURNS}
-use Rattle.regmodel.specs.declared.limits.TheConstants.{CELLS, GREATEST_VALUE, MOST_NUMBERS, MOST_TURNS, VARIABLES}
-use Rattle.regmodel.specs.declared.statements.Expr.{Expr}
+use Rattle.regmodel.specs.declared.limits.TheConstants.{CELLS, MOST_NUMBERS, MOST_TURNS, VARIABLES, GREATEST_VALUE}
 use Rattle.regmodel.specs.declared.statements.Expr.TheVariants.{One, Two}
 use Rattle.regmodel.specs.declared.statements.Op.{Op}
 use Rattle.regmodel.specs.declared.statements.Op.TheVariants.{Add, Sub, Mul, Equal, Less}

@@ -2,10 +2,10 @@
 use Rattle.std.proofs.Common.{◌≡◌, Vec, Global, refl, ap, ◌∙◌}
 use mathlib.Core.Former.{Count}
 use Rattle.regmodel.specs.declared.statements.Expr.{Expr}
-use Rattle.regmodel.specs.declared.statements.Stmt.{Stmt, If, If', Repeat, Repeat', Row_of-Stmt, end_of-Stmt, more_of-Stmt, items-the_row-Stmt, items_hidden-the_row-Stmt-0}
+use Rattle.regmodel.specs.Prelude.{Block, block_of, with_stmt}
+use Rattle.regmodel.specs.declared.statements.Stmt.{If, If', Repeat, Repeat', Row_of-Stmt, end_of-Stmt, more_of-Stmt, items-the_row-Stmt, items_hidden-the_row-Stmt-0, Stmt}
 use Rattle.regmodel.specs.Program as program
-use Rattle.regmodel.specs.Program.{Block}
-use Rattle.regmodel.specs.Blocks.{block_of, row_block, with_stmt}
+use Rattle.regmodel.specs.Blocks.{row_block}
 
 block_of_row : (n : _) (row : Row_of-Stmt n) → row_block row ≡ block_of (items-the_row-Stmt n row)
 block_of_row n end_of-Stmt = refl

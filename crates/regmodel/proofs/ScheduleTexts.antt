@@ -4,9 +4,9 @@ use Rattle.std.proofs.lemmas.List.{append-nil, take_more}
 use Rattle.std.proofs.lemmas.Grind.{flat_map-append}
 use Rattle.std.proofs.Math.Seq.{get_or-append_seam}
 use Rattle.std.specs.List.{flat_map}
-use Rattle.regmodel.specs.declared.letters.Letter.{Letter}
-use Rattle.regmodel.specs.declared.letters.Letter.TheVariants.{Run, Crash}
-use Rattle.regmodel.specs.Letters.{process_of}
+use Rattle.regmodel.specs.declared.schedules.Letter.{Letter}
+use Rattle.regmodel.specs.declared.schedules.Letter.TheVariants.{Run, Crash}
+use Rattle.regmodel.specs.Prelude.{process_of}
 use Rattle.regmodel.specs.Prefixes.{FitsPrefix}
 use Rattle.regmodel.specs.ScheduleText.{letter_text, schedule_text}
 

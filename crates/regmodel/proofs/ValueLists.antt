@@ -1,7 +1,7 @@
 -- Lists of values within the limit.
 use Rattle.std.proofs.Common.{ℕ, zero, suc, ◌≤◌, List, [], ◌∷◌, All, get_or, set, replicate, arith}
-use Rattle.regmodel.specs.Reply.{Replies}
 use Rattle.regmodel.specs.declared.limits.TheConstants.{GREATEST_VALUE}
+use Rattle.regmodel.specs.Prelude.{Replies}
 
 -- a value within the limit
 abbrev pub IsValue : ℕ → Type 0

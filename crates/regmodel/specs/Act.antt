@@ -57,7 +57,8 @@ times (suc n) block env replies = then_do (block env replies) (times n block)
 
 -- a block as often as its count, or a fault above the most turns
 abbrev pub times_or_fault : ℕ → (Env → Replies → Flow) → Env → Replies → Flow
-times_or_fault n block env replies = if nat_lt MOST_TURNS n then Faults TOO_MANY_TURNS else times n block env replies
+times_or_fault n block env replies =
+    if nat_lt MOST_TURNS n then Faults TOO_MANY_TURNS else times n block env replies
 
 -- a number appended to the result, or a fault where there are as many as may be
 abbrev pub emit : Env → ℕ → Replies → Flow
@@ -68,7 +69,8 @@ emit env v replies =
 -- a simple statement over so many registers; each fault comes before the access that is wanted
 abbrev pub exec_simple : Simple → ℕ → Env → Replies → Flow
 exec_simple (Assign to value) registers env replies =
-    with_value (expr_value env value) (λ v. with_value (target_place env to) (λ place. GoesOn (store env place v) replies))
+    with_value (expr_value env value)
+    (λ v. with_value (target_place env to) (λ place. GoesOn (store env place v) replies))
 exec_simple (Read to from) registers env replies =
     with_value (and_then (operand_value env from) (below_or_fault registers)) (λ r.
     with_value (target_place env to) (λ place. answer_read env place r replies))
@@ -76,17 +78,21 @@ exec_simple (Write to value) registers env replies =
     with_value (and_then (operand_value env to) (below_or_fault registers)) (λ r.
     with_value (expr_value env value) (λ v. answer_write env r v replies))
 exec_simple (Scan cell first count) registers env replies = answer_scan env cell first count replies
-exec_simple (Emit value) registers env replies = with_value (expr_value env value) (λ v. emit env v replies)
+exec_simple (Emit value) registers env replies =
+    with_value (expr_value env value) (λ v. emit env v replies)
 
 -- a block over so many registers, from an environment, on a list of replies
 abbrev pub exec : Block → ℕ → Env → Replies → Flow
 exec Stop registers env replies = GoesOn env replies
-exec (Do statement rest) registers env replies = then_do (exec_simple statement registers env replies) (exec rest registers)
+exec (Do statement rest) registers env replies =
+    then_do (exec_simple statement registers env replies) (exec rest registers)
 exec (If test first second rest) registers env replies =
     with_value (expr_value env test) (λ v.
-    then_do (choose v (exec first registers env replies) (exec second registers env replies)) (exec rest registers))
+    then_do (choose v (exec first registers env replies) (exec second registers env replies))
+    (exec rest registers))
 exec (Repeat count body rest) registers env replies =
-    with_value (expr_value env count) (λ n. then_do (times_or_fault n (exec body registers) env replies) (exec rest registers))
+    with_value (expr_value env count)
+    (λ n. then_do (times_or_fault n (exec body registers) env replies) (exec rest registers))
 exec (Halt rest) registers env replies = Ends env.emitted
 
 -- how a flow shows from outside: going on past the end is done

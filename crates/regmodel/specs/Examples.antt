@@ -1,7 +1,7 @@
 -- Worked examples: the definitions compute.
 use Rattle.std.specs.Prelude.{◌≡◌, ℕ, Bool, true, false, List, [], ◌∷◌, map, refl, Some, codes, slice_index, ◌==◌}
 use Rattle.std.specs.List.{list_any}
-use Rattle.regmodel.specs.declared.letters.Letter.TheVariants.{Run, Crash}
+use Rattle.regmodel.specs.declared.schedules.Letter.TheVariants.{Run, Crash}
 use Rattle.regmodel.specs.declared.accesses.Access.TheVariants as access
 use Rattle.regmodel.specs.declared.accesses.Pending.TheVariants as pending
 use Rattle.regmodel.specs.declared.outcomes.End.{End}
@@ -57,25 +57,32 @@ loops = over 1
 pub wants_its_second_write : act_of loops (one 0 ∷ one 7 ∷ []) ≡ pending.Wants (access.Write 0 1)
 wants_its_second_write = refl
 
-pub two_turns : act_of loops (one 0 ∷ one 7 ∷ one 0 ∷ one 8 ∷ []) ≡ pending.Done (record { items = 7 ∷ 8 ∷ [] })
+pub two_turns : act_of loops (one 0 ∷ one 7 ∷ one 0 ∷ one 8 ∷ [])
+    ≡ pending.Done (record { items = 7 ∷ 8 ∷ [] })
 two_turns = refl
 
 -- scan 0 0 2: both registers at once into cells 0 and 1, which are emitted
 abbrev pub scans_two : Program
-scans_two = over 2 (Do (Scan 0 0 2) (Do (Emit (One (operand.Cell 0))) (Do (Emit (One (operand.Cell 1))) Stop)))
+scans_two =
+    over 2
+    (Do (Scan 0 0 2) (Do (Emit (One (operand.Cell 0))) (Do (Emit (One (operand.Cell 1))) Stop)))
 
 pub wants_a_scan : act_of scans_two [] ≡ pending.Wants (access.Scan 0 2)
 wants_a_scan = refl
 
-pub both_values : act_of scans_two ((5 ∷ 6 ∷ []) ∷ []) ≡ pending.Done (record { items = 5 ∷ 6 ∷ [] })
+pub both_values : act_of scans_two ((5 ∷ 6 ∷ []) ∷ [])
+    ≡ pending.Done (record { items = 5 ∷ 6 ∷ [] })
 both_values = refl
 
 -- ---- each fault at run time
 
-pub below_zero : act_of (over 1 (Do (Emit (Two (operand.Number 2) Sub (operand.Number 3))) Stop)) [] ≡ pending.Fault 1
+pub below_zero : act_of (over 1 (Do (Emit (Two (operand.Number 2) Sub (operand.Number 3))) Stop)) []
+    ≡ pending.Fault 1
 below_zero = refl
 
-pub no_such_register : act_of (over 1 (Do (Write (operand.Number 3) (One (operand.Number 1))) Stop)) [] ≡ pending.Fault 2
+pub no_such_register :
+    act_of (over 1 (Do (Write (operand.Number 3) (One (operand.Number 1))) Stop)) []
+    ≡ pending.Fault 2
 no_such_register = refl
 
 pub no_such_cell : act_of
@@ -86,14 +93,20 @@ pub no_such_cell : act_of
     ≡ pending.Fault 2
 no_such_cell = refl
 
-pub count_too_large : act_of (over 1 (Repeat (One (operand.Number 100)) Stop Stop)) [] ≡ pending.Fault 3
+pub count_too_large : act_of (over 1 (Repeat (One (operand.Number 100)) Stop Stop)) []
+    ≡ pending.Fault 3
 count_too_large = refl
 
-pub ninth_number : act_of (over 1 (Repeat (One (operand.Number 9)) (Do (Emit (One (operand.Number 1))) Stop) Stop)) [] ≡ pending.Fault 4
+pub ninth_number :
+    act_of (over 1 (Repeat (One (operand.Number 9)) (Do (Emit (One (operand.Number 1))) Stop) Stop))
+    [] ≡ pending.Fault 4
 ninth_number = refl
 
 -- of two faults in a write, that of the register comes first
-pub register_before_value : act_of (over 1 (Do (Write (operand.Number 3) (Two (operand.Number 2) Sub (operand.Number 3))) Stop)) [] ≡ pending.Fault 2
+pub register_before_value :
+    act_of
+    (over 1 (Do (Write (operand.Number 3) (Two (operand.Number 2) Sub (operand.Number 3))) Stop))
+    [] ≡ pending.Fault 2
 register_before_value = refl
 
 -- of two faults in an assignment, that of the value comes first
@@ -108,10 +121,14 @@ value_before_cell = refl
 -- ---- a writer and a reader of one register
 
 abbrev pub writes : ℕ → ℕ → ℕ → Program
-writes registers register value = over registers (Do (Write (operand.Number register) (One (operand.Number value))) Stop)
+writes registers register value =
+    over registers (Do (Write (operand.Number register) (One (operand.Number value))) Stop)
 
 abbrev pub writer_and_reader : List Program
-writer_and_reader = writes 1 0 5 ∷ over 1 (Do (Read (target.Var 0) (operand.Number 0)) (Do (Emit (One (operand.Var 0))) Stop)) ∷ []
+writer_and_reader =
+    writes 1 0 5
+    ∷ over 1 (Do (Read (target.Var 0) (operand.Number 0)) (Do (Emit (One (operand.Var 0))) Stop))
+    ∷ []
 
 abbrev pub started : List ℕ → ProcEnd
 started numbers = record { started = true; fate = end.Done (record { items = numbers }) }
@@ -125,7 +142,8 @@ is_five p = end_is_five p.fate
     end_is_five end.Crashed = false
     end_is_five end.Running = false
 
-pub both_orders : all_schedules writer_and_reader 0 2 ≡ (Run 0 ∷ Run 1 ∷ []) ∷ (Run 1 ∷ Run 0 ∷ []) ∷ []
+pub both_orders : all_schedules writer_and_reader 0 2
+    ≡ (Run 0 ∷ Run 1 ∷ []) ∷ (Run 1 ∷ Run 0 ∷ []) ∷ []
 both_orders = refl
 
 pub both_outcomes : map (outcome_of writer_and_reader) (all_schedules writer_and_reader 0 2)

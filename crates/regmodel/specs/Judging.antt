@@ -39,7 +39,8 @@ has_if_done m fate = elim fate [ Done numbers ↦ list_any (λ n. n == m) number
 -- first of these processes is p
 abbrev pub see_themselves : ℕ → List ProcEnd → Bool
 see_themselves p [] = true
-see_themselves p (end ∷ ends) = (not end.started || has_if_done (p + 1) end.fate) && see_themselves (p + 1) ends
+see_themselves p (end ∷ ends) =
+    (not end.started || has_if_done (p + 1) end.fate) && see_themselves (p + 1) ends
 
 -- a process still wants an access
 abbrev pub is_running : ProcEnd → Bool
@@ -55,8 +56,11 @@ abbrev pub meets : Clause → List ProcEnd → Bool
 meets Distinct ends = are_different (names ends)
 meets (AtMost name count) ends = nat_le (count_by (λ m. m == name) (names ends)) count
 meets (Within low high) ends = list_all (λ m. nat_le low m && nat_le m high) (names ends)
-meets Adaptive ends = list_all (λ m. nat_le 1 m && nat_le (m + 1) (2 * count_started ends)) (names ends)
-meets Triangle ends = list_all (λ m. nat_le 1 m && nat_le (2 * m) (count_started ends * (count_started ends + 1))) (names ends)
+meets Adaptive ends =
+    list_all (λ m. nat_le 1 m && nat_le (m + 1) (2 * count_started ends)) (names ends)
+meets Triangle ends =
+    list_all (λ m. nat_le 1 m && nat_le (2 * m) (count_started ends * (count_started ends + 1)))
+    (names ends)
 meets SelfSeen ends = see_themselves 0 ends
 meets Ended ends = not (list_any is_running ends)
 meets NoFault ends = not (list_any is_faulty ends)

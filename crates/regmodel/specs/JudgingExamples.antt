@@ -15,14 +15,17 @@ abbrev idle : End → ProcEnd
 idle fate = record { started = false; fate = fate }
 
 -- a process with no number has no name
-pub different : meets clause.Distinct (done (1 ∷ []) ∷ done [] ∷ done (2 ∷ []) ∷ done [] ∷ []) ≡ true
+pub different : meets clause.Distinct (done (1 ∷ []) ∷ done [] ∷ done (2 ∷ []) ∷ done [] ∷ [])
+    ≡ true
 different = refl
 
-pub one_name_twice : meets clause.Distinct (done (1 ∷ []) ∷ done (2 ∷ []) ∷ done (1 ∷ 3 ∷ []) ∷ []) ≡ false
+pub one_name_twice : meets clause.Distinct (done (1 ∷ []) ∷ done (2 ∷ []) ∷ done (1 ∷ 3 ∷ []) ∷ [])
+    ≡ false
 one_name_twice = refl
 
 -- only the first number is the name
-pub two_of_two : meets (clause.AtMost 3 2) (done (3 ∷ []) ∷ done (3 ∷ 3 ∷ []) ∷ done (1 ∷ 3 ∷ []) ∷ []) ≡ true
+pub two_of_two :
+    meets (clause.AtMost 3 2) (done (3 ∷ []) ∷ done (3 ∷ 3 ∷ []) ∷ done (1 ∷ 3 ∷ []) ∷ []) ≡ true
 two_of_two = refl
 
 pub two_of_one : meets (clause.AtMost 3 1) (done (3 ∷ []) ∷ done (3 ∷ []) ∷ []) ≡ false
@@ -38,27 +41,35 @@ pub above : meets (clause.Within 1 4) (done (5 ∷ []) ∷ []) ≡ false
 above = refl
 
 -- of three processes two took a step
-pub third_of_two : meets clause.Adaptive (done (3 ∷ []) ∷ done (1 ∷ []) ∷ idle end.Running ∷ []) ≡ true
+pub third_of_two : meets clause.Adaptive (done (3 ∷ []) ∷ done (1 ∷ []) ∷ idle end.Running ∷ [])
+    ≡ true
 third_of_two = refl
 
-pub fourth_of_two : meets clause.Adaptive (done (4 ∷ []) ∷ done (1 ∷ []) ∷ idle end.Running ∷ []) ≡ false
+pub fourth_of_two : meets clause.Adaptive (done (4 ∷ []) ∷ done (1 ∷ []) ∷ idle end.Running ∷ [])
+    ≡ false
 fourth_of_two = refl
 
 -- none took a step
-pub first_of_none : meets clause.Adaptive (idle (end.Done (record { items = 1 ∷ 1 ∷ 1 ∷ [] })) ∷ []) ≡ false
+pub first_of_none : meets clause.Adaptive (idle (end.Done (record { items = 1 ∷ 1 ∷ 1 ∷ [] })) ∷ [])
+    ≡ false
 first_of_none = refl
 
-pub sixth_of_three : meets clause.Triangle (done (6 ∷ []) ∷ done (1 ∷ []) ∷ done (2 ∷ []) ∷ idle end.Running ∷ []) ≡ true
+pub sixth_of_three :
+    meets clause.Triangle (done (6 ∷ []) ∷ done (1 ∷ []) ∷ done (2 ∷ []) ∷ idle end.Running ∷ [])
+    ≡ true
 sixth_of_three = refl
 
-pub fourth_of_two_in_a_triangle : meets clause.Triangle (done (4 ∷ []) ∷ done (1 ∷ []) ∷ idle end.Running ∷ []) ≡ false
+pub fourth_of_two_in_a_triangle :
+    meets clause.Triangle (done (4 ∷ []) ∷ done (1 ∷ []) ∷ idle end.Running ∷ []) ≡ false
 fourth_of_two_in_a_triangle = refl
 
 pub zeroth : meets clause.Triangle (done (0 ∷ []) ∷ []) ≡ false
 zeroth = refl
 
 -- the second took no step
-pub seen : meets clause.SelfSeen (done (2 ∷ 1 ∷ []) ∷ idle (end.Done (record { items = [] })) ∷ done (3 ∷ []) ∷ []) ≡ true
+pub seen :
+    meets clause.SelfSeen
+    (done (2 ∷ 1 ∷ []) ∷ idle (end.Done (record { items = [] })) ∷ done (3 ∷ []) ∷ []) ≡ true
 seen = refl
 
 pub not_seen : meets clause.SelfSeen (done [] ∷ done (5 ∷ []) ∷ []) ≡ false

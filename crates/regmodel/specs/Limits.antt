@@ -29,7 +29,8 @@ expr_fits (Two a op b) = operand_fits a && operand_fits b
 
 -- a scan reads at least one register, and only such as are there, into cells that are there
 abbrev pub scan_fits : ℕ → ℕ → ℕ → ℕ → Bool
-scan_fits registers cell first count = nat_lt 0 count && nat_le (cell + count) CELLS && nat_le (first + count) registers
+scan_fits registers cell first count =
+    nat_lt 0 count && nat_le (cell + count) CELLS && nat_le (first + count) registers
 
 -- each target, operand and scan of a simple statement is within its limit, where there are so many
 -- registers
@@ -44,7 +45,8 @@ simple_fits n (Emit e) = expr_fits e
 abbrev pub operands_fit : ℕ → Block → Bool
 operands_fit n Stop = true
 operands_fit n (Do statement rest) = simple_fits n statement && operands_fit n rest
-operands_fit n (If e first second rest) = expr_fits e && operands_fit n first && operands_fit n second && operands_fit n rest
+operands_fit n (If e first second rest) =
+    expr_fits e && operands_fit n first && operands_fit n second && operands_fit n rest
 operands_fit n (Repeat e body rest) = expr_fits e && operands_fit n body && operands_fit n rest
 operands_fit n (Halt rest) = operands_fit n rest
 
@@ -61,7 +63,9 @@ statements (Halt rest) = 1 + statements rest
 abbrev pub nesting : (ℕ → ℕ) → Block → ℕ
 nesting around_if Stop = 0
 nesting around_if (Do statement rest) = nesting around_if rest
-nesting around_if (If e first second rest) = max (around_if (max (nesting around_if first) (nesting around_if second))) (nesting around_if rest)
+nesting around_if (If e first second rest) =
+    max (around_if (max (nesting around_if first) (nesting around_if second)))
+    (nesting around_if rest)
 nesting around_if (Repeat e body rest) = max (nesting around_if body + 1) (nesting around_if rest)
 nesting around_if (Halt rest) = nesting around_if rest
 

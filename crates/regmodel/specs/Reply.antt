@@ -1,7 +1,8 @@
 -- What a process is answered.
 use Rattle.std.specs.Prelude.{ℕ, List, [], ◌∷◌}
 
--- the reply to one access: the values that were read, in rising registers, or one 0 where nothing was read
+-- the reply to one access: the values that were read, in rising registers, or one 0 where nothing
+-- was read
 abbrev pub Reply : Type 0
 Reply = List ℕ
 

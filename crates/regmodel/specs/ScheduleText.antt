@@ -3,8 +3,8 @@ use Rattle.std.specs.Prelude.{ℕ, ◌+◌, List, [], ◌∷◌, codes}
 use Rattle.std.specs.List.{join_by}
 use Rattle.std.specs.Str.{byte}
 use Rattle.regmodel.specs.Letters.{Schedule}
-use Rattle.regmodel.specs.declared.letters.Letter.{Letter}
-use Rattle.regmodel.specs.declared.letters.Letter.TheVariants.{Run, Crash}
+use Rattle.regmodel.specs.declared.schedules.Letter.{Letter}
+use Rattle.regmodel.specs.declared.schedules.Letter.TheVariants.{Run, Crash}
 
 -- `R` or `C`, and the digit of the process
 abbrev pub letter_text : Letter → List ℕ

@@ -39,7 +39,8 @@ abbrev pub operand_value : Env → Operand → Result ℕ ℕ
 operand_value env (operand.Number n) = Ok n
 operand_value env (operand.Var i) = Ok (slice_index env.vars i)
 operand_value env (operand.Cell i) = Ok (slice_index env.cells i)
-operand_value env (operand.CellOf i) = and_then (below_or_fault CELLS (slice_index env.vars i)) (λ j. Ok (slice_index env.cells j))
+operand_value env (operand.CellOf i) =
+    and_then (below_or_fault CELLS (slice_index env.vars i)) (λ j. Ok (slice_index env.cells j))
 
 -- the comparisons give 1 or 0; a value above the greatest or below 0 is a fault
 abbrev pub apply_op : Op → ℕ → ℕ → Result ℕ ℕ
@@ -52,7 +53,8 @@ apply_op Less a b = Ok (if nat_lt a b then 1 else 0)
 -- the value of an expression, operands from left to right, or its first fault
 abbrev pub expr_value : Env → Expr → Result ℕ ℕ
 expr_value env (One a) = operand_value env a
-expr_value env (Two a op b) = and_then (operand_value env a) (λ x. and_then (operand_value env b) (λ y. apply_op op x y))
+expr_value env (Two a op b) =
+    and_then (operand_value env a) (λ x. and_then (operand_value env b) (λ y. apply_op op x y))
 
 -- where a target is stored: a variable's number, or a cell's
 pub data Place : Type 0 where
@@ -63,7 +65,9 @@ pub data Place : Type 0 where
 abbrev pub target_place : Env → Target → Result Place ℕ
 target_place env (target.Var i) = Ok (InVar i)
 target_place env (target.Cell i) = Ok (InCell i)
-target_place env (target.CellOf i) = if nat_lt (slice_index env.vars i) CELLS then Ok (InCell (slice_index env.vars i)) else Err NO_PLACE
+target_place env (target.CellOf i) =
+    if nat_lt (slice_index env.vars i) CELLS then Ok (InCell (slice_index env.vars i))
+    else Err NO_PLACE
 
 -- the environment with a value at a place
 abbrev pub store : Env → Place → ℕ → Env

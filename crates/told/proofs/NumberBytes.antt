@@ -1,13 +1,12 @@
 -- Numbers told by bytes, read one or two at a time.
-use Rattle.std.proofs.Common.{◌≡◌, ℕ, zero, suc, ◌+◌, ◌-◌, ◌*◌, ◌%◌, ◌/◌, ◌<◌, ◌≤◌, Bool, true, false, List, [], ◌∷◌, ◌++◌, append-nil, append_assoc, length, take, get_or, ap, refl, sym, subst, ◌∙◌, arith}
+use Rattle.std.proofs.Common.{◌≡◌, ℕ, zero, suc, ◌+◌, ◌-◌, ◌*◌, ◌%◌, ◌/◌, ◌<◌, ◌≤◌, Bool, true, false, List, [], ◌∷◌, ◌++◌, append-nil, append_assoc, length, take, get_or, ap, sym, subst, ◌∙◌, arith}
 use Rattle.std.specs.List.{flat_map}
 use Rattle.std.proofs.lemmas.List.{get_or-take, get_or_at, take_all, take_more, length-append, length-take-le, take-append-le, take-take}
 use Rattle.std.proofs.lemmas.Grind.{flat_map-append}
 use Rattle.std.specs.Prelude.{if◌then◌else◌, nat_lt}
 use Rattle.std.proofs.lemmas.Bool.Decides.{nat_tests}
-use Rattle.std.proofs.Math.Nat.{mod-add-div}
 use Rattle.std.proofs.Math.Seq.{take-append-add, take-append_seam}
-use Rattle.told.specs.Bytes.{both_of, bytes_of, numbers_of, numbers_past, pair_at, pair_of, size_of}
+use Rattle.told.specs.Bytes.{both_of, bytes_of, numbers_of, numbers_past, pair_at, size_of}
 use Rattle.told.specs.Wholes.{AreWhole, EndAlone}
 use Rattle.told.specs.declared.bytes.TheConstants.{ALONE, FOUR, LARGE, SMALL, TWO}
 
@@ -53,13 +52,6 @@ two_told number more h =
     ∙ (ap (λ t. by_kind byte behind false t (nat_lt byte FOUR)) above
     ∙ (ap (λ t. by_kind byte behind false false t) below ∙ ap (λ n. n ∷ numbers_of more) is))
 
--- and the mark with its four
-pub four_told : (number : ℕ) (more : List ℕ) → numbers_of ((FOUR ∷ pair_of (number % 65536) ++ pair_of (number / 65536)) ++ more) ≡ number ∷ numbers_of more
-four_told number more =
-    ap (λ n. n ∷ numbers_of more)
-    (ap (λ low. low + 65536 * (number / 65536 % 256 + 256 * (number / 65536 / 256))) (mod-add-div (number % 65536) 256)
-    ∙ (ap (λ high. number % 65536 + 65536 * high) (mod-add-div (number / 65536) 256) ∙ mod-add-div number 65536))
-
 -- ---- whole bytes
 
 -- bytes that tell one number, whatever stands behind them, tell it alone, and are whole
@@ -75,18 +67,6 @@ tell_one bytes number tells =
 -- a small number in a byte of its own
 pub alone : (number : ℕ) → number < SMALL → TellOne ((ALONE + number) ∷ []) number
 alone number h = tell_one ((ALONE + number) ∷ []) number (λ more. alone_told number more h)
-
--- one in two bytes
-pub in_two : (number : ℕ) → number < LARGE → TellOne ((TWO + number / 256) ∷ number % 256 ∷ []) number
-in_two number h = tell_one ((TWO + number / 256) ∷ number % 256 ∷ []) number (λ more. two_told number more h)
-
--- and one in five
-pub in_five : (number : ℕ) → TellOne (FOUR ∷ pair_of (number % 65536) ++ pair_of (number / 65536)) number
-in_five number = tell_one (FOUR ∷ pair_of (number % 65536) ++ pair_of (number / 65536)) number (four_told number)
-
--- no bytes are whole
-pub none_whole : AreWhole []
-none_whole more = refl
 
 -- whole bytes behind others are whole with them
 pub whole_behind : (xs ys : List ℕ) → AreWhole xs → AreWhole ys → AreWhole (xs ++ ys)
@@ -197,10 +177,6 @@ alone_behind new old put is some ends =
       small = parts.small;
       whole = whole_behind old parts.front some parts.whole;
     })
-
--- one that is put in a byte of its own stands so
-pub ends_alone : (new old : List ℕ) (number : ℕ) → new ≡ old ++ (ALONE + number) ∷ [] → AreWhole old → number < SMALL → EndAlone new
-ends_alone new old number is whole h = of_parts new (record { front = old; number = number; is = is; small = h; whole = whole })
 
 -- bytes put behind the first ones, with whatever stands behind them
 pub put_behind : (old put new rest : List ℕ) (size : ℕ) → size ≤ length old → new ≡ put → take (size + length put) (take size old ++ (new ++ rest)) ≡ take size old ++ put

@@ -2,8 +2,8 @@
 use Rattle.std.proofs.Common.{◌≡◌, ℕ, ◌+◌, ◌-◌, ◌*◌, ◌^◌, ◌<◌, ◌≤◌, IsTrue, true, leb, ltb, refl, arith}
 use Rattle.std.proofs.lemmas.Bool.{and_parts, leb-true, ltb-true, le-leb, lt-ltb}
 use Rattle.std.specs.Prelude.{◌&&◌}
-use Rattle.regmodel.specs.Limits.{IsWithin, open_blocks, open_repeats, operands_fit, statements}
-use Rattle.regmodel.specs.Program.{Block}
+use Rattle.regmodel.specs.Prelude.{IsWithin, Block}
+use Rattle.regmodel.specs.Limits.{open_blocks, open_repeats, operands_fit, statements}
 use Rattle.uses.specs.Expansions.{expansion, use_body}
 use Rattle.uses.specs.Uses.{is_between, use_fits, numbers_fit, registers_end}
 use Rattle.uses.specs.declared.kinds.Use.{Use}

@@ -50,7 +50,8 @@ split_body base id =
     If (One (Var 0)) split_right Stop ▸
     write (Number (base + 1)) (One (Number 1)) ▸
     read 0 (Number base) ▸
-    If (Two (Var 0) Equal (Number id)) (emit (One (Number 1)) ▸ Stop) (emit (One (Number 3)) ▸ Stop) ▸
+    If (Two (Var 0) Equal (Number id)) (emit (One (Number 1)) ▸ Stop) (emit (One (Number 3)) ▸ Stop)
+    ▸
     Stop
 
 -- ---- grid: a splitter a vertex; variable 0 is row + column, variable 1 the name of the vertex
@@ -102,7 +103,8 @@ abbrev pub tree_down : ℕ → Block
 tree_down id =
     write (Var 4) (One (Number 1)) ▸
     read 5 (Var 3) ▸
-    If (Two (Var 5) Equal (Number id)) (set 1 (One (Number 1)) ▸ Stop) (set 0 (Two (Var 0) Mul (Number 2)) ▸ Stop) ▸
+    If (Two (Var 5) Equal (Number id)) (set 1 (One (Number 1)) ▸ Stop)
+    (set 0 (Two (Var 0) Mul (Number 2)) ▸ Stop) ▸
     Stop
 
 -- to the right child
@@ -171,7 +173,8 @@ tree_leave base depth value =
 
 -- after the way down: over where the process did not stop
 abbrev pub tree_after : ℕ → ℕ → ℕ → Block
-tree_after base depth value = If (Two (Var 1) Equal (Number 0)) (Halt ▸ Stop) Stop ▸ tree_leave base depth value
+tree_after base depth value =
+    If (Two (Var 1) Equal (Number 0)) (Halt ▸ Stop) Stop ▸ tree_leave base depth value
 
 -- goes down from the root; where it stops it writes its value, then collects the values of the
 -- marked vertices
@@ -202,7 +205,8 @@ name_other base slot =
 -- one slot, whose number is variable 3; the own one counts as empty
 abbrev pub name_slot : ℕ → ℕ → Block
 name_slot base slot =
-    If (Two (Var 3) Equal (Number slot)) (set_cell 3 (One (Number 0)) ▸ Stop) (name_other base slot) ▸
+    If (Two (Var 3) Equal (Number slot)) (set_cell 3 (One (Number 0)) ▸ Stop) (name_other base slot)
+    ▸
     set 3 (Two (Var 3) Add (Number 1)) ▸
     Stop
 
@@ -294,19 +298,31 @@ split_program base id registers = record { registers = registers; body = split_b
 
 -- a grid
 abbrev pub grid_program : ℕ → ℕ → ℕ → ℕ → Program
-grid_program base side id registers = record { registers = registers; body = grid_body base side id }
+grid_program base side id registers = record {
+  registers = registers;
+  body = grid_body base side id;
+}
 
 -- a tree
 abbrev pub tree_program : ℕ → ℕ → ℕ → ℕ → ℕ → Program
-tree_program base depth id value registers = record { registers = registers; body = tree_body base depth id value }
+tree_program base depth id value registers = record {
+  registers = registers;
+  body = tree_body base depth id value;
+}
 
 -- a renaming
 abbrev pub name_program : ℕ → ℕ → ℕ → ℕ → Program
-name_program base slots slot registers = record { registers = registers; body = name_body base slots slot }
+name_program base slots slot registers = record {
+  registers = registers;
+  body = name_body base slots slot;
+}
 
 -- a renaming that scans
 abbrev pub names_program : ℕ → ℕ → ℕ → ℕ → Program
-names_program base slots slot registers = record { registers = registers; body = names_body base slots slot }
+names_program base slots slot registers = record {
+  registers = registers;
+  body = names_body base slots slot;
+}
 
 -- the statements that a use line stands for
 abbrev pub use_body : Use → Block

@@ -20,49 +20,62 @@ split_closes_the_door = refl
 pub split_looks_back : act_of (split_program 0 1 2) (map one (0 ∷ 0 ∷ 0 ∷ [])) ≡ Wants (Read 0)
 split_looks_back = refl
 
-pub split_goes_right : act_of (split_program 0 1 2) (map one (0 ∷ 1 ∷ [])) ≡ Done (record { items = 2 ∷ [] })
+pub split_goes_right : act_of (split_program 0 1 2) (map one (0 ∷ 1 ∷ []))
+    ≡ Done (record { items = 2 ∷ [] })
 split_goes_right = refl
 
-pub split_stops : act_of (split_program 0 1 2) (map one (0 ∷ 0 ∷ 0 ∷ 1 ∷ [])) ≡ Done (record { items = 1 ∷ [] })
+pub split_stops : act_of (split_program 0 1 2) (map one (0 ∷ 0 ∷ 0 ∷ 1 ∷ []))
+    ≡ Done (record { items = 1 ∷ [] })
 split_stops = refl
 
-pub split_goes_down : act_of (split_program 0 1 2) (map one (0 ∷ 0 ∷ 0 ∷ 2 ∷ [])) ≡ Done (record { items = 3 ∷ [] })
+pub split_goes_down : act_of (split_program 0 1 2) (map one (0 ∷ 0 ∷ 0 ∷ 2 ∷ []))
+    ≡ Done (record { items = 3 ∷ [] })
 split_goes_down = refl
 
 -- ---- a grid of side 2
 
-pub grid_right_of_the_first : act_of (grid_program 0 2 1 6) (map one (0 ∷ 1 ∷ [])) ≡ Wants (Write 4 1)
+pub grid_right_of_the_first : act_of (grid_program 0 2 1 6) (map one (0 ∷ 1 ∷ []))
+    ≡ Wants (Write 4 1)
 grid_right_of_the_first = refl
 
-pub grid_below_the_first : act_of (grid_program 0 2 1 6) (map one (0 ∷ 0 ∷ 0 ∷ 2 ∷ [])) ≡ Wants (Write 2 1)
+pub grid_below_the_first : act_of (grid_program 0 2 1 6) (map one (0 ∷ 0 ∷ 0 ∷ 2 ∷ []))
+    ≡ Wants (Write 2 1)
 grid_below_the_first = refl
 
-pub grid_left : act_of (grid_program 0 2 1 6) (map one (0 ∷ 1 ∷ 0 ∷ 1 ∷ [])) ≡ Done (record { items = [] })
+pub grid_left : act_of (grid_program 0 2 1 6) (map one (0 ∷ 1 ∷ 0 ∷ 1 ∷ []))
+    ≡ Done (record { items = [] })
 grid_left = refl
 
 -- ---- a tree of one vertex
 
-pub tree_left : act_of (tree_program 0 1 1 7 4) (map one (0 ∷ 0 ∷ 1 ∷ [])) ≡ Done (record { items = [] })
+pub tree_left : act_of (tree_program 0 1 1 7 4) (map one (0 ∷ 0 ∷ 1 ∷ []))
+    ≡ Done (record { items = [] })
 tree_left = refl
 
-pub tree_writes_its_value : act_of (tree_program 0 1 1 7 4) (map one (0 ∷ 0 ∷ 0 ∷ 0 ∷ 1 ∷ [])) ≡ Wants (Write 3 7)
+pub tree_writes_its_value : act_of (tree_program 0 1 1 7 4) (map one (0 ∷ 0 ∷ 0 ∷ 0 ∷ 1 ∷ []))
+    ≡ Wants (Write 3 7)
 tree_writes_its_value = refl
 
-pub tree_collects_its_value : act_of (tree_program 0 1 1 7 4) (map one (0 ∷ 0 ∷ 0 ∷ 0 ∷ 1 ∷ 0 ∷ 1 ∷ 7 ∷ [])) ≡ Done (record { items = 7 ∷ [] })
+pub tree_collects_its_value :
+    act_of (tree_program 0 1 1 7 4) (map one (0 ∷ 0 ∷ 0 ∷ 0 ∷ 1 ∷ 0 ∷ 1 ∷ 7 ∷ []))
+    ≡ Done (record { items = 7 ∷ [] })
 tree_collects_its_value = refl
 
 -- ---- two slots
 
-pub name_alone : act_of (name_program 0 2 0 2) (map one (0 ∷ 0 ∷ [])) ≡ Done (record { items = 1 ∷ [] })
+pub name_alone : act_of (name_program 0 2 0 2) (map one (0 ∷ 0 ∷ []))
+    ≡ Done (record { items = 1 ∷ [] })
 name_alone = refl
 
 pub name_clash : act_of (name_program 0 2 0 2) (map one (0 ∷ 1 ∷ [])) ≡ Wants (Write 0 2)
 name_clash = refl
 
-pub name_clash_again : act_of (name_program 0 2 0 2) (map one (0 ∷ 1 ∷ 0 ∷ 2 ∷ [])) ≡ Wants (Write 0 1)
+pub name_clash_again : act_of (name_program 0 2 0 2) (map one (0 ∷ 1 ∷ 0 ∷ 2 ∷ []))
+    ≡ Wants (Write 0 1)
 name_clash_again = refl
 
-pub name_clash_of_the_second : act_of (name_program 0 2 1 2) (map one (0 ∷ 1 ∷ [])) ≡ Wants (Write 1 3)
+pub name_clash_of_the_second : act_of (name_program 0 2 1 2) (map one (0 ∷ 1 ∷ []))
+    ≡ Wants (Write 1 3)
 name_clash_of_the_second = refl
 
 -- ---- two slots that are scanned
@@ -74,5 +87,6 @@ pub names_clash : act_of (names_program 0 2 1 2) (one 0 ∷ (1 ∷ 1 ∷ []) ∷
 names_clash = refl
 
 -- the own slot counts as empty
-pub names_alone : act_of (names_program 0 2 1 2) (one 0 ∷ (0 ∷ 1 ∷ []) ∷ []) ≡ Done (record { items = 1 ∷ [] })
+pub names_alone : act_of (names_program 0 2 1 2) (one 0 ∷ (0 ∷ 1 ∷ []) ∷ [])
+    ≡ Done (record { items = 1 ∷ [] })
 names_alone = refl

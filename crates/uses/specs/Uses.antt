@@ -18,7 +18,8 @@ is_mark n = is_between 1 GREATEST_VALUE n
 abbrev pub numbers_fit : Use → Bool
 numbers_fit (Split base id) = is_mark id
 numbers_fit (Grid base side id) = is_between 1 MOST_ROWS side && is_mark id
-numbers_fit (Tree base depth id value) = is_between 1 MOST_LEVELS depth && is_mark id && is_mark value
+numbers_fit (Tree base depth id value) =
+    is_between 1 MOST_LEVELS depth && is_mark id && is_mark value
 numbers_fit (Name base slots slot) = is_between 1 MOST_SLOTS slots && nat_lt slot slots
 numbers_fit (Names base slots slot) = is_between 1 MOST_SLOTS slots && nat_lt slot slots
 
@@ -32,4 +33,6 @@ registers_end (Names base slots slot) = base + slots
 
 -- whether a use line is within its limits over so many registers
 abbrev pub use_fits : Use → ℕ → Bool
-use_fits kind registers = is_between 1 MOST_REGISTERS registers && numbers_fit kind && nat_le (registers_end kind) registers
+use_fits kind registers =
+    is_between 1 MOST_REGISTERS registers && numbers_fit kind
+    && nat_le (registers_end kind) registers

@@ -1,9 +1,8 @@
 //! Expansions: the programs that use lines stand for.
 
 ghost use Rattle.std.specs.Prelude.{◌≡◌, ◌≤◌, ◌↔◌, ◌⊎◌, false, Err, IfOk, IfErr, IsTrue};
-ghost use Rattle.regmodel.specs.OfProg.{program_of};
-ghost use Rattle.regmodel.specs.Blocks.{block_of};
 ghost use Rattle.regmodel.specs.declared.limits.TheConstants.{MOST_REGISTERS};
+ghost use Rattle.regmodel.specs.Prelude.{program_of, block_of};
 ghost use Rattle.uses.specs.Expansions.{use_body, expansion};
 ghost use Rattle.uses.specs.declared.expansions.TheConstants.{NO_MEMORY, PAST_LIMIT};
 ghost use Rattle.uses.specs.Uses.{numbers_fit, registers_end, use_fits};

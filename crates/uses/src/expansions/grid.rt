@@ -1,7 +1,7 @@
 //! The expansion of a grid.
 
 ghost use Rattle.std.specs.Prelude.{◌≡◌, IfOk};
-ghost use Rattle.regmodel.specs.Blocks.{block_of};
+ghost use Rattle.regmodel.specs.Prelude.{block_of};
 ghost use Rattle.uses.specs.Expansions.{grid_body, grid_visit, grid_right, grid_down};
 
 use regmodel::Expr::{One, Two};

@@ -1,8 +1,8 @@
 //! The expansion of a renaming.
 
 ghost use Rattle.std.specs.Prelude.{◌≡◌, ◌≤◌, ◌<◌, IfOk};
-ghost use Rattle.regmodel.specs.declared.limits.TheConstants.{MOST_REGISTERS, MOST_SLOTS};
-ghost use Rattle.regmodel.specs.Blocks.{block_of};
+ghost use Rattle.regmodel.specs.Prelude.{block_of};
+ghost use Rattle.regmodel.specs.declared.limits.TheConstants.{MOST_SLOTS, MOST_REGISTERS};
 ghost use Rattle.uses.specs.Expansions.{name_body, name_rounds, name_looked, name_slot, name_other, name_rank, name_turn, name_next, name_held};
 
 use regmodel::Expr::{One, Two};

@@ -1,7 +1,7 @@
 //! The expansion of a renaming that scans its slots at once.
 
 ghost use Rattle.std.specs.Prelude.{◌≡◌, IfOk};
-ghost use Rattle.regmodel.specs.Blocks.{block_of};
+ghost use Rattle.regmodel.specs.Prelude.{block_of};
 ghost use Rattle.uses.specs.Expansions.{names_body, names_slot};
 
 use super::name::{Slots, looked, rank, rounds};

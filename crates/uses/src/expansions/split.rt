@@ -2,7 +2,7 @@
 
 ghost use Rattle.std.specs.Prelude.{◌≡◌, ◌≤◌, IfOk};
 ghost use Rattle.regmodel.specs.declared.limits.TheConstants.{MOST_REGISTERS};
-ghost use Rattle.regmodel.specs.Blocks.{block_of};
+ghost use Rattle.regmodel.specs.Prelude.{block_of};
 ghost use Rattle.uses.specs.Expansions.{split_right, split_body};
 
 use regmodel::Expr::{One, Two};

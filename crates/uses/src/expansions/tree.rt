@@ -2,7 +2,7 @@
 
 ghost use Rattle.std.specs.Prelude.{◌≡◌, ◌≤◌, IfOk};
 ghost use Rattle.regmodel.specs.declared.limits.TheConstants.{MOST_LEVELS};
-ghost use Rattle.regmodel.specs.Blocks.{block_of};
+ghost use Rattle.regmodel.specs.Prelude.{block_of};
 ghost use Rattle.uses.specs.Expansions.{tree_body, tree_descend, tree_visit, tree_right, tree_down, tree_collect, tree_look, tree_marked};
 
 use crate::kinds::vertices;

@@ -1,6 +1,6 @@
 use Rattle.std.proofs.Common.{◌≡◌, ℕ, ◌+◌, ◌<◌, Option, Some, None, MatchOption, ap, arith}
 use Rattle.regmodel.specs.Limits.{statements}
-use Rattle.regmodel.specs.Blocks.{block_of}
+use Rattle.regmodel.specs.Prelude.{block_of}
 use Rattle.regmodel.proofs.Blocks.{statements-step, statements_some, with_stmt_if, with_stmt_repeat}
 use Rattle.regmodel.proofs.fitting.+counts.Goals as goal
 

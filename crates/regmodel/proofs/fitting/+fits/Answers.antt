@@ -1,7 +1,7 @@
 use Rattle.std.proofs.Common.{◌≡◌, ◌&&◌, Bool, true, false, ap, refl, sym, ◌∙◌, arith}
 use Rattle.std.proofs.Math.Bool.{and-true}
 use Rattle.regmodel.specs.Limits.{operands_fit}
-use Rattle.regmodel.specs.Blocks.{block_of}
+use Rattle.regmodel.specs.Prelude.{block_of}
 use Rattle.regmodel.proofs.Blocks.{operands_fit-step, with_stmt_if, with_stmt_repeat}
 use Rattle.regmodel.proofs.fitting.+fits.Goals as goal
 

@@ -1,5 +1,5 @@
 use Rattle.std.proofs.Common.{◌≡◌, drop}
-use Rattle.regmodel.specs.Blocks.{block_of}
+use Rattle.regmodel.specs.Prelude.{block_of}
 use Rattle.regmodel.specs.Limits.{operands_fit}
 use Rattle.regmodel.proofs.fitting.+fits.Given as goal
 

@@ -1,6 +1,6 @@
 use Rattle.std.proofs.Common.{suc, ap, refl, arith}
 use Rattle.regmodel.specs.Limits.{open_blocks, open_repeats}
-use Rattle.regmodel.specs.Blocks.{block_of}
+use Rattle.regmodel.specs.Prelude.{block_of}
 use Rattle.regmodel.proofs.Blocks.{nesting-step, nesting-drop, with_stmt_if, with_stmt_repeat}
 use Rattle.regmodel.proofs.fitting.+nests.Goals as goal
 

@@ -1,5 +1,5 @@
 use Rattle.std.proofs.Common.{◌≤◌, drop}
-use Rattle.regmodel.specs.Blocks.{block_of}
+use Rattle.regmodel.specs.Prelude.{block_of}
 use Rattle.regmodel.specs.Limits.{open_blocks, open_repeats}
 use Rattle.regmodel.proofs.fitting.+nests.Given as goal
 

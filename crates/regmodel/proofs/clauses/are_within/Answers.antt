@@ -3,7 +3,7 @@ use Rattle.std.proofs.lemmas.Iterator.{YieldsList-from_slice}
 use Rattle.std.proofs.lemmas.Iterator.Consumers.{YieldsList-from_filter_map}
 use Rattle.std.proofs.lemmas.Iterator.Search.{all_from_yields_List}
 use Rattle.regmodel.specs.Judging.{name_of}
-use Rattle.regmodel.proofs.judging.are_within.Goals as goal
+use Rattle.regmodel.proofs.clauses.are_within.Goals as goal
 
 pub returns : goal.returns
 returns c =
