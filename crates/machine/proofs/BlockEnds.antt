@@ -1,23 +1,23 @@
 -- How a statement ends within its block, and a block within its `repeat` or its `if`.
 use Rattle.std.proofs.Common.{◌≡◌, ℕ, ◌+◌, ◌<◌, List, [], ◌∷◌, Vec, Global, Result, Ok, drop, get_or, length, refl, ap, sym, ◌∙◌}
-use Rattle.regmodel.specs.Act.{exec, then_do, times}
+use Rattle.regmodel.specs.declared.accesses.Access.{Access}
+use Rattle.regmodel.specs.declared.statements.Expr.{Expr}
+use Rattle.regmodel.specs.Prelude.{exec, then_do, times, Block, block_of, with_stmt, Replies, Env}
 use Rattle.regmodel.specs.Act as flow
 use Rattle.regmodel.specs.Program as program
-use Rattle.regmodel.specs.Program.{Block}
-use Rattle.regmodel.specs.Blocks.{block_of, with_stmt}
-use Rattle.regmodel.specs.Reply.{Reply, Replies}
-use Rattle.regmodel.specs.Values.{Env}
-use Rattle.regmodel.specs.declared.statements.Expr.{Expr}
-use Rattle.regmodel.specs.declared.statements.Stmt.{Stmt, If}
+use Rattle.regmodel.specs.Reply.{Reply}
+use Rattle.regmodel.specs.declared.statements.Stmt.{If, Stmt}
 use Rattle.machine.specs.Exits.{BlockAsks, StmtAsks, block_flow, exit_through, stmt_flow}
-use Rattle.machine.specs.Paths.{access_flow, of_arm, part_flow, resume}
+use Rattle.machine.specs.Paths.{of_arm, part_flow, resume}
 use Rattle.machine.specs.Runs.{StmtRunsTo}
+use Rattle.machine.specs.Stores.{reply_stored}
 use Rattle.machine.specs.declared.run.Arm.{Arm}
 use Rattle.machine.specs.declared.run.BlockExit.{BlockExit}
 use Rattle.machine.specs.declared.run.Frame.{Frame}
 use Rattle.machine.specs.declared.run.Part.{Part}
-use Rattle.machine.specs.declared.run.Part.TheVariants.{Turn, Within}
+use Rattle.machine.specs.declared.run.Part.TheVariants.{At, Turn, Within}
 use Rattle.machine.specs.declared.run.StmtExit.{StmtExit}
+use Rattle.machine.specs.declared.values.Destination.{Destination}
 use Rattle.machine.specs.declared.run.StmtExit.TheVariants as stmt
 use Rattle.machine.proofs.Blocks.{if_block}
 use Rattle.machine.proofs.ProgramSteps.{access_flow-with_stmt, arm_part, exit_asks, known_exit, resume-at, then_exit, turn_part}
@@ -33,14 +33,12 @@ resume-ended n depth body x frames fs d old new replies s rest result ended shor
     ∙ ap (λ r. stmt_flow (Ok r) n fs (with_stmt x rest) rest new s) is
 
 -- past an access whose reply was stored the statements behind it are run
-pub access_ended : (part known : Part) (n : ℕ) (older fs : List Frame) (x : Stmt) (rest : Block) (old stored new : Env) (reply : Reply) → part ≡ known
-    → ((s : Replies) → part_flow known n (with_stmt x rest) (resume n older) old (reply ∷ s) ≡ access_flow n (with_stmt x rest) (flow.GoesOn stored s))
-    → stored ≡ new → StmtRunsTo (λ s. part_flow part n (with_stmt x rest) (resume n older) old (reply ∷ s)) (Ok stmt.GoesOn) n fs (with_stmt x rest) rest new
-access_ended part known n older fs x rest old stored new reply is answered same = record {
+pub access_ended : (part : Part) (access : Access) (to : Destination) (n : ℕ) (older fs : List Frame) (x : Stmt) (rest : Block) (old new : Env) (reply : Reply) → part ≡ At access to → reply_stored to old reply ≡ new
+    → StmtRunsTo (λ s. part_flow part n (with_stmt x rest) (resume n older) old (reply ∷ s)) (Ok stmt.GoesOn) n fs (with_stmt x rest) rest new
+access_ended part access to n older fs x rest old new reply is same = record {
   flow = λ s.
       ap (λ p. part_flow p n (with_stmt x rest) (resume n older) old (reply ∷ s)) is
-      ∙ answered s
-      ∙ access_flow-with_stmt x n rest (flow.GoesOn stored s)
+      ∙ access_flow-with_stmt x n rest (flow.GoesOn (reply_stored to old reply) s)
       ∙ ap (λ env. exec rest n env s) same;
   asks = tt;
 }

@@ -1,10 +1,10 @@
 -- Statements with parts, and how deep the statements of a block are nested.
 use Rattle.std.proofs.Common.{◌≡◌, ℕ, suc, ◌+◌, ◌<◌, ◌≤◌, max, List, Vec, Global, length, get_or, refl, ap, sym, ◌∙◌, arith}
 use Rattle.regmodel.specs.declared.statements.Expr.{Expr}
-use Rattle.regmodel.specs.declared.statements.Stmt.{Stmt, If, Repeat}
+use Rattle.regmodel.specs.Prelude.{Block, with_stmt, block_of}
+use Rattle.regmodel.specs.declared.statements.Stmt.{If, Repeat, Stmt}
 use Rattle.regmodel.specs.Program as program
-use Rattle.regmodel.specs.Program.{Block, Stop}
-use Rattle.regmodel.specs.Blocks.{with_stmt, block_of}
+use Rattle.regmodel.specs.Program.{Stop}
 use Rattle.regmodel.specs.Limits.{open_blocks}
 use Rattle.regmodel.proofs.Rows.{with_stmt-If, with_stmt-Repeat}
 use Rattle.regmodel.proofs.Blocks.{nesting-step, nesting-drop}

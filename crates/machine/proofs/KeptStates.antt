@@ -5,10 +5,9 @@ use Rattle.std.specs.Vec.{with_items}
 use Rattle.std.proofs.lemmas.List.{get_or-set_same, get_or-set_other, get_or-replicate, get_or_past, get_or_default, length-replicate, length-set, map_more, with_items_is}
 use Rattle.std.proofs.lemmas.Bool.{cases_eq, cases_lt}
 use Rattle.regmodel.specs.Kept.{values_in}
-use Rattle.regmodel.specs.Program.{Program}
-use Rattle.regmodel.specs.Reply.{Replies}
 use Rattle.regmodel.specs.declared.accesses.Pending.{Pending}
-use Rattle.regmodel.specs.declared.reply.Reply.{Reply}
+use Rattle.regmodel.specs.Prelude.{Program, Replies}
+use Rattle.regmodel.specs.declared.accesses.Reply.{Reply}
 use Rattle.machine.specs.declared.states.Kept.{Kept}
 use Rattle.machine.specs.Rest.{Asks, rest_in}
 use Rattle.machine.specs.Keeping.{IsKept, IsStart, LeadsTo, RanPast, blank, kept_at, state_at}

@@ -2,7 +2,7 @@
 use Rattle.std.proofs.Common.{◌≡◌, ℕ, zero, suc, ◌+◌, ◌<◌, ◌≤◌, List, [], ◌∷◌, IsTrue, length, get_or, drop, refl, subst, arith}
 use Rattle.std.proofs.lemmas.Bool.{and_parts}
 use Rattle.regmodel.specs.declared.statements.Stmt.{Stmt}
-use Rattle.regmodel.specs.Blocks.{block_of, with_stmt}
+use Rattle.regmodel.specs.Prelude.{block_of, with_stmt}
 use Rattle.regmodel.specs.Limits.{operands_fit, statements}
 use Rattle.regmodel.specs.Program.{Stop}
 use Rattle.regmodel.proofs.Blocks.{operands_fit-step, statements-step}

@@ -1,9 +1,9 @@
 -- Places in a block.
 use Rattle.std.proofs.Common.{◌≡◌, ℕ, zero, suc, ◌≤◌, List, [], ◌∷◌, length, drop, refl, ap, ◌∙◌, arith}
 use Rattle.regmodel.specs.declared.statements.Stmt.{Stmt}
+use Rattle.regmodel.specs.Prelude.{Block, with_stmt, block_of}
 use Rattle.regmodel.specs.declared.statements.Stmt.TheVariants as stmt
-use Rattle.regmodel.specs.Program.{Block, Stop}
-use Rattle.regmodel.specs.Blocks.{with_stmt, block_of}
+use Rattle.regmodel.specs.Program.{Stop}
 use Rattle.machine.specs.Paths.{rest_of, skip}
 
 pub rest_of-with_stmt : (s : Stmt) (b : Block) → rest_of (with_stmt s b) ≡ b

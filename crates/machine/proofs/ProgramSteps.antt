@@ -3,20 +3,18 @@ use Rattle.std.proofs.Common.{◌≡◌, ℕ, zero, suc, ◌+◌, ◌-◌, ◌<�
 use Rattle.std.specs.Prelude.{nat_lt, slice_set}
 use Rattle.std.proofs.lemmas.List.{drop-set}
 use Rattle.std.proofs.lemmas.Bool.Decides.{nat_tests}
-use Rattle.regmodel.specs.Reply.{Replies}
 use Rattle.regmodel.specs.declared.statements.Expr.{Expr}
 use Rattle.regmodel.specs.declared.statements.Stmt.{Stmt}
+use Rattle.regmodel.specs.Prelude.{Replies, Env, Flow, exec, then_do, times, Block, with_stmt, block_of}
 use Rattle.regmodel.specs.declared.statements.Stmt.TheVariants as stmt
-use Rattle.regmodel.specs.Values.{Env, expr_value}
-use Rattle.regmodel.specs.Act.{Flow, Faults, exec, then_do, times, times_or_fault, with_value, choose}
+use Rattle.regmodel.specs.Values.{expr_value}
+use Rattle.regmodel.specs.Act.{Faults, times_or_fault, with_value, choose}
 use Rattle.regmodel.specs.Limits.{open_blocks}
 use Rattle.regmodel.specs.Program as program
-use Rattle.regmodel.specs.Program.{Block}
-use Rattle.regmodel.specs.Blocks.{with_stmt, block_of}
 use Rattle.machine.specs.declared.run.Arm.{Arm}
 use Rattle.machine.specs.declared.run.Arm.TheVariants as arm
 use Rattle.machine.specs.declared.run.Part.{Part}
-use Rattle.machine.specs.declared.run.Part.TheVariants.{Reading, Writing, Scanning, Within, Turn}
+use Rattle.machine.specs.declared.run.Part.TheVariants.{At, Within, Turn}
 use Rattle.machine.specs.declared.run.Frame.{Frame}
 use Rattle.machine.specs.declared.run.BlockExit.{BlockExit}
 use Rattle.machine.specs.declared.run.BlockExit.TheVariants as block
@@ -86,9 +84,7 @@ resume-at n depth body x frames d env s h k e =
     ∙ ap (λ b. part_flow f.part n b (resume n (drop (depth + 1) frames)) env s) (skip-block_of f.at body ∙ block_of-drop body f.at x k e)
 
 part_flow-Stop : (part : Part) (n : ℕ) (go : Block → Env → Replies → Flow) (env : Env) (s : Replies) → part_flow part n program.Stop go env s ≡ Faults 0
-part_flow-Stop (Reading r place) n go env s = refl
-part_flow-Stop (Writing r v) n go env s = refl
-part_flow-Stop (Scanning cell first count) n go env s = refl
+part_flow-Stop (At access to) n go env s = refl
 part_flow-Stop (Within x) n go env s = refl
 part_flow-Stop (Turn left) n go env s = refl
 

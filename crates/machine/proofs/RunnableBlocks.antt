@@ -2,10 +2,10 @@
 use Rattle.std.proofs.Common.{◌≡◌, ℕ, ◌+◌, ◌<◌, Bool, true, ◌&&◌, List, Vec, Global, IsTrue, length, get_or, ap, sym, subst, arith}
 use Rattle.std.proofs.lemmas.Bool.{and_parts}
 use Rattle.regmodel.specs.declared.statements.Expr.{Expr}
-use Rattle.regmodel.specs.declared.statements.Stmt.{Stmt, If, Repeat}
+use Rattle.regmodel.specs.Prelude.{Block, with_stmt, block_of}
+use Rattle.regmodel.specs.declared.statements.Stmt.{If, Repeat, Stmt}
 use Rattle.regmodel.specs.Limits.{expr_fits, open_blocks, operands_fit}
-use Rattle.regmodel.specs.Program.{Block, Stop}
-use Rattle.regmodel.specs.Blocks.{with_stmt, block_of}
+use Rattle.regmodel.specs.Program.{Stop}
 use Rattle.machine.specs.declared.run.Arm.{Arm}
 use Rattle.machine.specs.declared.run.Arm.TheVariants as arm
 use Rattle.machine.specs.declared.run.Frame.{Frame}

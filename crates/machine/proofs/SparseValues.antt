@@ -1,11 +1,11 @@
 -- Values are read back from their mask and those that are not 0.
-use Rattle.std.proofs.Common.{◌≡◌, ◌≢◌, ℕ, zero, suc, ◌+◌, ◌*◌, ◌^◌, ◌<◌, ◌≤◌, List, [], ◌∷◌, ◌++◌, bit_or, drop, take, get_or, length, refl, ap, sym, subst, ◌∙◌, arith, add-one}
+use Rattle.std.proofs.Common.{◌≡◌, ◌≢◌, ℕ, zero, suc, ◌+◌, ◌*◌, ◌^◌, ◌<◌, ◌≤◌, List, [], ◌∷◌, ◌++◌, bit_or, take, get_or, length, refl, ap, sym, subst, ◌∙◌, arith, add-one}
 use Rattle.std.specs.Prelude.{map}
 use Rattle.std.proofs.Math.Nat.{pow-suc}
 use Rattle.std.proofs.Math.Seq.{take-suc}
 use Rattle.std.proofs.lemmas.Grind.{pow_more}
 use Rattle.std.proofs.lemmas.Nat.{le_or_l, le_or_r}
-use Rattle.std.proofs.lemmas.List.{append-nil, length-map, length-take-le, take-append-drop}
+use Rattle.std.proofs.lemmas.List.{append-nil, length-map, length-take-le}
 use Rattle.machine.specs.Bits.{bit, unpacked}
 use Rattle.machine.specs.Sparse.{AreZero, filled, is_filled, mask_of, past_placed, past_sparse, placed, sparse, spread}
 use Rattle.machine.proofs.TestBits.{unpacked-packed}
@@ -56,12 +56,6 @@ filled-past-zero values i h is = filled-past values i h ∙ ap (λ v. filled (ta
 
 pub filled-past-other : (values : List ℕ) (i : ℕ) → i < length values → get_or values i 0 ≢ 0 → filled (take (i + 1) values) ≡ filled (take i values) ++ get_or values i 0 ∷ []
 filled-past-other values i h is = filled-past values i h ∙ ap (λ vs. filled (take i values) ++ vs) (filled-one (get_or values i 0) is)
-
--- it is told behind those before it, and those after it behind it
-pub filled-parts : (values : List ℕ) (i : ℕ) → i < length values → get_or values i 0 ≢ 0 → filled values ≡ (filled (take i values) ++ get_or values i 0 ∷ []) ++ filled (drop (i + 1) values)
-filled-parts values i h is =
-    ap filled (sym (take-append-drop (i + 1) values))
-    ∙ (filled-append (take (i + 1) values) (drop (i + 1) values) ∙ ap (λ ns. ns ++ filled (drop (i + 1) values)) (filled-past-other values i h is))
 
 -- ---- how a mask is made, from the last value on
 

@@ -1,12 +1,10 @@
 -- What is stopped without a reply wants one, or is over.
 use Rattle.std.proofs.Common.{ℕ, List, [], ◌∷◌}
-use Rattle.regmodel.specs.Reply.{Replies}
-use Rattle.regmodel.specs.Values.{Env}
-use Rattle.regmodel.specs.Act.{Flow, GoesOn, Wants, Ends, Faults, then_do}
+use Rattle.regmodel.specs.Prelude.{Replies, Env, Flow, then_do, Block}
+use Rattle.regmodel.specs.Act.{GoesOn, Wants, Ends, Faults}
 use Rattle.regmodel.specs.Program as program
-use Rattle.regmodel.specs.Program.{Block}
 use Rattle.machine.specs.declared.run.Part.{Part}
-use Rattle.machine.specs.declared.run.Part.TheVariants.{Reading, Writing, Scanning, Within, Turn}
+use Rattle.machine.specs.declared.run.Part.TheVariants.{At, Within, Turn}
 use Rattle.machine.specs.declared.run.Frame.{Frame}
 use Rattle.machine.specs.Paths.{access_flow, part_flow, resume, skip, of_arm}
 use Rattle.machine.specs.Exits.{IsWanting}
@@ -28,9 +26,7 @@ access_over n program.Stop f h = tt
 access_over n _ f h = then_over f _ h
 
 part_over : (part : Part) (n : ℕ) (b : Block) (go : Block → Env → Replies → Flow) (env : Env) → ((b : Block) → IsOver (go b env [])) → IsOver (part_flow part n b go env [])
-part_over (Reading r place) n b go env h = access_over n b _ tt
-part_over (Writing r v) n b go env h = access_over n b _ tt
-part_over (Scanning cell first count) n b go env h = access_over n b _ tt
+part_over (At access to) n b go env h = access_over n b _ tt
 part_over (Within arm) n (program.If e first second rest) go env h = then_over _ _ (h (of_arm arm first second))
 part_over (Within arm) n _ go env h = tt
 part_over (Turn left) n (program.Repeat e body rest) go env h = then_over _ _ (then_over _ _ (h body))

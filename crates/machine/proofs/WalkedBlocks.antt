@@ -1,15 +1,15 @@
 -- What comes past the statements of a block, one after another.
 use Rattle.std.proofs.Common.{◌≡◌, ℕ, zero, suc, ◌+◌, ◌-◌, ◌<◌, List, [], ◌∷◌, Option, Some, None, Result, Ok, Err, length, get_or, drop, refl, ap, sym, ◌∙◌, arith}
-use Rattle.regmodel.specs.Reply.{Replies}
 use Rattle.regmodel.specs.declared.statements.Expr.{Expr}
 use Rattle.regmodel.specs.declared.statements.Stmt.{Stmt}
+use Rattle.regmodel.specs.Prelude.{Replies, Env, Flow, exec, then_do, times, Block, block_of, with_stmt}
 use Rattle.regmodel.specs.declared.statements.Stmt.TheVariants as stmt
-use Rattle.regmodel.specs.Values.{Env, expr_value}
-use Rattle.regmodel.specs.Act.{Flow, GoesOn, exec, exec_simple, then_do, times, times_or_fault, with_value, choose}
+use Rattle.regmodel.specs.Values.{expr_value}
+use Rattle.regmodel.specs.Act.{GoesOn, exec_simple, times_or_fault, with_value, choose}
 use Rattle.regmodel.specs.Limits.{statements}
 use Rattle.regmodel.specs.Program as program
-use Rattle.regmodel.specs.Program.{Block, Simple, Stop, Do}
-use Rattle.regmodel.specs.Blocks.{block_of, row_block, with_stmt}
+use Rattle.regmodel.specs.Program.{Simple, Stop, Do}
+use Rattle.regmodel.specs.Blocks.{row_block}
 use Rattle.regmodel.proofs.Blocks.{block_of-drop}
 use Rattle.machine.specs.Stops.{in_either, in_repeat, in_turns, past, stopped_at, stops_in}
 use Rattle.machine.specs.Exits.{stmt_flow}

@@ -54,19 +54,24 @@ expr_culprit env (Two a op b) =
 -- the cell of an operand that names one of so many registers, or else the register
 abbrev pub register_culprit : (registers : ℕ) → Env → Operand → Option Culprit
 register_culprit registers env a =
-    option_or (operand_culprit env a) (of_value (operand_value env a) (λ r. unless_below registers r (Register r registers)))
+    option_or (operand_culprit env a)
+    (of_value (operand_value env a) (λ r. unless_below registers r (Register r registers)))
 
 -- what is wrong with the count of a `repeat`, or else the count
 abbrev pub turns_culprit : Env → Expr → Option Culprit
 turns_culprit env count =
     option_or (expr_culprit env count)
-    (of_value (expr_value env count) (λ turns. if nat_lt MOST_TURNS turns then Some (Turns turns) else None))
+    (of_value (expr_value env count)
+    (λ turns. if nat_lt MOST_TURNS turns then Some (Turns turns) else None))
 
 -- what is out of range in a simple statement over so many registers, if anything
 abbrev pub simple_culprit : Simple → (registers : ℕ) → Env → Option Culprit
-simple_culprit (Assign to value) registers env = option_or (expr_culprit env value) (target_culprit env to)
-simple_culprit (Read to from) registers env = option_or (register_culprit registers env from) (target_culprit env to)
-simple_culprit (Write to value) registers env = option_or (register_culprit registers env to) (expr_culprit env value)
+simple_culprit (Assign to value) registers env =
+    option_or (expr_culprit env value) (target_culprit env to)
+simple_culprit (Read to from) registers env =
+    option_or (register_culprit registers env from) (target_culprit env to)
+simple_culprit (Write to value) registers env =
+    option_or (register_culprit registers env to) (expr_culprit env value)
 simple_culprit (Scan cell first count) registers env = None
 simple_culprit (Emit value) registers env = expr_culprit env value
 

@@ -13,17 +13,20 @@ use Rattle.machine.specs.declared.run.BlockExit.{BlockExit}
 use Rattle.machine.specs.declared.run.BlockExit.TheVariants as block
 use Rattle.machine.specs.Paths.{part_flow, resume}
 
--- after a statement: whole is the block that begins with it, rest what follows it, fs the frames within it
+-- after a statement: whole is the block that begins with it, rest what follows it, fs the frames
+-- within it
 abbrev pub stmt_flow : Result StmtExit ℕ → ℕ → List Frame → Block → Block → Env → Replies → Flow
 stmt_flow (Ok stmt.GoesOn) n fs whole rest env s = exec rest n env s
-stmt_flow (Ok (stmt.Wants a part)) n fs whole rest env s = part_flow part n whole (resume n fs) env s
+stmt_flow (Ok (stmt.Wants a part)) n fs whole rest env s =
+    part_flow part n whole (resume n fs) env s
 stmt_flow (Ok stmt.Halts) n fs whole rest env s = flow.Ends env.emitted
 stmt_flow (Err code) n fs whole rest env s = flow.Faults code
 
 -- the access that is told is the one that is wanted
 abbrev pub StmtAsks : Result StmtExit ℕ → ℕ → List Frame → Block → Env → Type 0
 StmtAsks (Ok stmt.GoesOn) n fs whole env = Unit {0}
-StmtAsks (Ok (stmt.Wants a part)) n fs whole env = part_flow part n whole (resume n fs) env [] ≡ flow.Wants a
+StmtAsks (Ok (stmt.Wants a part)) n fs whole env =
+    part_flow part n whole (resume n fs) env [] ≡ flow.Wants a
 StmtAsks (Ok stmt.Halts) n fs whole env = Unit {0}
 StmtAsks (Err code) n fs whole env = Unit {0}
 

@@ -38,7 +38,8 @@ IsStart program state = (s : Replies) → rest_in program state s ≡ act_of pro
 
 -- the reply leads from the one state to the other
 abbrev pub LeadsTo : Program → State → Reply → State → Type 0
-LeadsTo program from reply to = (s : Replies) → rest_in program to s ≡ rest_in program from (reply ∷ s)
+LeadsTo program from reply to =
+    (s : Replies) → rest_in program to s ≡ rest_in program from (reply ∷ s)
 
 -- the reply and the state to which it leads from that at a place are kept at the next place
 pub record RanPast (program : Program) (reply : Reply) (at : ℕ) (old new : List Kept) : Type 0 where
@@ -51,4 +52,6 @@ pub record RanPast (program : Program) (reply : Reply) (at : ℕ) (old new : Lis
 -- the first of so many places is the start, and to each next one its reply leads
 pub record IsKept (program : Program) (kept : List Kept) (known : ℕ) : Type 0 where
   pub starts : 0 < known → IsStart program (state_at kept 0)
-  pub leads : (place : ℕ) → place + 1 < known → LeadsTo program (state_at kept place) (values_in (kept_at kept (place + 1)).reply) (state_at kept (place + 1))
+  pub leads : (place : ℕ) → place + 1 < known
+      → LeadsTo program (state_at kept place) (values_in (kept_at kept (place + 1)).reply)
+      (state_at kept (place + 1))

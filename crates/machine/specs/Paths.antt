@@ -2,14 +2,16 @@
 use Rattle.std.specs.Prelude.{ℕ, zero, suc, List, [], ◌∷◌}
 use Rattle.regmodel.specs.Reply.{Replies}
 use Rattle.regmodel.specs.Values.{Env}
-use Rattle.regmodel.specs.Act.{Flow, Faults, exec, answer_read, answer_scan, answer_write, then_do, times}
+use Rattle.regmodel.specs.Act.{Flow, GoesOn, Wants, Faults, exec, then_do, times}
+use Rattle.regmodel.specs.declared.accesses.Access.{Access}
 use Rattle.regmodel.specs.Program.{Block, Stop, Do, If, Repeat, Halt}
 use Rattle.machine.specs.declared.run.Arm.{Arm}
 use Rattle.machine.specs.declared.run.Arm.TheVariants.{First, Second}
 use Rattle.machine.specs.declared.run.Part.{Part}
-use Rattle.machine.specs.declared.run.Part.TheVariants.{Reading, Writing, Scanning, Within, Turn}
+use Rattle.machine.specs.declared.run.Part.TheVariants.{At, Within, Turn}
 use Rattle.machine.specs.declared.run.Frame.{Frame}
-use Rattle.machine.specs.Stores.{as_place}
+use Rattle.machine.specs.declared.values.Destination.{Destination}
+use Rattle.machine.specs.Stores.{reply_stored}
 
 -- what stands in an arm
 abbrev pub of_arm : {A : Type 0} → Arm → A → A → A
@@ -34,6 +36,12 @@ abbrev pub skip : ℕ → Block → Block
 skip zero b = b
 skip (suc k) b = skip k (rest_of b)
 
+-- an access has the next reply stored at its destination, or is wanted where none is left
+abbrev pub answer_at : Access → Destination → Env → Replies → Flow
+answer_at access destination env [] = Wants access
+answer_at access destination env (reply ∷ replies) =
+    GoesOn (reply_stored destination env reply) replies
+
 -- past the access of the first statement, where there is one
 abbrev pub access_flow : ℕ → Block → Flow → Flow
 access_flow n Stop f = Faults 0
@@ -41,7 +49,8 @@ access_flow n b f = then_do f (exec (rest_of b) n)
 
 -- from within an arm, where go says what the arm's block does from within
 abbrev pub arm_flow : Arm → ℕ → Block → (Block → Env → Replies → Flow) → Env → Replies → Flow
-arm_flow arm n (If e first second rest) go env s = then_do (go (of_arm arm first second) env s) (exec rest n)
+arm_flow arm n (If e first second rest) go env s =
+    then_do (go (of_arm arm first second) env s) (exec rest n)
 arm_flow arm n _ go env s = Faults 0
 
 -- from within a turn, with so many turns left after it
@@ -52,9 +61,8 @@ turn_flow left n _ go env s = Faults 0
 
 -- from a part of a block's first statement
 abbrev pub part_flow : Part → ℕ → Block → (Block → Env → Replies → Flow) → Env → Replies → Flow
-part_flow (Reading r place) n b go env s = access_flow n b (answer_read env (as_place place) r s)
-part_flow (Writing r v) n b go env s = access_flow n b (answer_write env r v s)
-part_flow (Scanning cell first count) n b go env s = access_flow n b (answer_scan env cell first count s)
+part_flow (At access destination) n b go env s =
+    access_flow n b (answer_at access destination env s)
 part_flow (Within arm) n b go env s = arm_flow arm n b go env s
 part_flow (Turn left) n b go env s = turn_flow left n b go env s
 

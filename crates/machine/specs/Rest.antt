@@ -36,7 +36,8 @@ pending_in state = pending_of state.exit (env_of state.store)
 
 -- what a program does from a state on further replies
 abbrev pub rest_in : Program → State → Replies → Pending
-rest_in program state = rest_from (pending_in state) (from_place program state.frames (env_of state.store))
+rest_in program state =
+    rest_from (pending_in state) (from_place program state.frames (env_of state.store))
 
 -- the state tells what the program wants there
 abbrev pub Asks : Program → State → Type 0

@@ -19,8 +19,9 @@ in_order statement = Some (record { at = statement; culprit = None })
 abbrev at_fault : ℕ → Culprit → Option Stopped
 at_fault statement culprit = Some (record { at = statement; culprit = Some culprit })
 
--- ---- the statements of a program, by their numbers: 0 writes, 1 repeats twice, 2 reads and 3 emits in a turn, 4 tests what was
--- read last, 5 halts in the first block, 6 reads the register that was read in the second one, 7 emits
+-- ---- the statements of a program, by their numbers: 0 writes, 1 repeats twice, 2 reads and 3
+-- emits in a turn, 4 tests what was read last, 5 halts in the first block, 6 reads the register
+-- that was read in the second one, 7 emits
 abbrev pub tells_and_asks : Program
 tells_and_asks = record {
   registers = 2;
@@ -51,8 +52,8 @@ reads_in_the_second_block = refl
 pub past_the_end : stops_at tells_and_asks (one 0 ∷ one 7 ∷ one 0 ∷ one 9 ∷ []) ≡ None
 past_the_end = refl
 
--- ---- 0 reads a value, 1 goes on in its second block, where 2 stores in the cell with that number, of which there are 32;
--- 3 repeats more than 99 times
+-- ---- 0 reads a value, 1 goes on in its second block, where 2 stores in the cell with that number,
+-- of which there are 32; 3 repeats more than 99 times
 abbrev pub is_at_fault : Program
 is_at_fault = record {
   registers = 1;
@@ -74,10 +75,13 @@ at_a_count_too_large = refl
 abbrev pub writes_where_it_read : Program
 writes_where_it_read = record {
   registers = 3;
-  body = Do (Read (target.Var 0) (operand.Number 0)) (Do (Write (operand.Var 0) (Two (operand.Var 0) Sub (operand.Number 2))) Stop);
+  body =
+      Do (Read (target.Var 0) (operand.Number 0))
+      (Do (Write (operand.Var 0) (Two (operand.Var 0) Sub (operand.Number 2))) Stop);
 }
 
-pub at_a_register_that_is_not_there : stops_at writes_where_it_read (one 9 ∷ []) ≡ at_fault 1 (Register 9 3)
+pub at_a_register_that_is_not_there : stops_at writes_where_it_read (one 9 ∷ [])
+    ≡ at_fault 1 (Register 9 3)
 at_a_register_that_is_not_there = refl
 
 pub below_zero : stops_at writes_where_it_read (one 1 ∷ []) ≡ at_fault 1 (Value 1 Sub 2)

@@ -1,8 +1,11 @@
 -- Inside the crate: what a store holds.
 use Rattle.std.specs.Prelude.{ℕ, zero, suc, List, [], ◌∷◌, take, Result, Ok, Err}
-use Rattle.regmodel.specs.Values.{Env, Place, InVar, InCell}
-use Rattle.machine.specs.declared.emitted.Emitted.{Emitted}
-use Rattle.machine.specs.declared.rows.Row.{Row}
+use Rattle.regmodel.specs.Reply.{Reply, value_of}
+use Rattle.regmodel.specs.Values.{Env, Place, InVar, InCell, store, store_from}
+use Rattle.machine.specs.declared.values.Emitted.{Emitted}
+use Rattle.machine.specs.declared.values.Row.{Row}
+use Rattle.machine.specs.declared.values.Destination.{Destination}
+use Rattle.machine.specs.declared.values.Destination.TheVariants.{Nowhere, InPlace, InCells}
 use Rattle.machine.specs.declared.values.Store.{Store}
 use Rattle.machine.specs.declared.values.Place as values
 use Rattle.machine.specs.declared.values.Place.TheVariants as place
@@ -23,7 +26,8 @@ values_of row = padded row.count row.places
 
 -- the environment that a store holds
 abbrev pub env_of : Store → Env
-env_of s = record { vars = values_of s.vars; cells = values_of s.cells; emitted = items_of s.emitted }
+env_of s =
+    record { vars = values_of s.vars; cells = values_of s.cells; emitted = items_of s.emitted }
 
 -- the place that is meant
 abbrev pub as_place : values.Place → Place
@@ -34,3 +38,9 @@ as_place (place.Cell i) = InCell i
 abbrev pub as_place_or_fault : Result values.Place ℕ → Result Place ℕ
 as_place_or_fault (Ok p) = Ok (as_place p)
 as_place_or_fault (Err code) = Err code
+
+-- what is held once a reply is stored at its destination
+abbrev pub reply_stored : Destination → Env → Reply → Env
+reply_stored Nowhere env reply = env
+reply_stored (InPlace place) env reply = store env (as_place place) (value_of reply)
+reply_stored (InCells cell) env reply = store_from env cell reply

@@ -1,7 +1,7 @@
 //! What is out of range where a program is at fault.
 
 ghost use Rattle.std.specs.Prelude.{◌≡◌};
-ghost use Rattle.regmodel.specs.Blocks.{with_stmt};
+ghost use Rattle.regmodel.specs.Prelude.{with_stmt};
 ghost use Rattle.regmodel.specs.Program.{Stop};
 ghost use Rattle.machine.specs.Culprits as spec;
 ghost use Rattle.machine.specs.Stores.{env_of};

@@ -2,11 +2,11 @@
 
 ghost use Rattle.std.specs.Prelude.{◌≡◌, ℕ, ◌+◌, ◌<◌, ◌≤◌, IfOk, length, true};
 ghost use Rattle.std.specs.Option.{ForSome};
-ghost use Rattle.regmodel.specs.OfProg.{program_of};
-ghost use Rattle.regmodel.specs.Lawful.{IsAtStart, IsReplyTo};
+ghost use Rattle.regmodel.specs.declared.limits.TheConstants.{MOST_REGISTERS};
+ghost use Rattle.regmodel.specs.Prelude.{program_of, IsReplyTo};
+ghost use Rattle.regmodel.specs.Lawful.{IsAtStart};
 ghost use Rattle.regmodel.specs.Kept.{values_in};
 ghost use Rattle.machine.specs.Keeping.{IsKept, IsStart, RanPast, kept_at, state_at};
-ghost use Rattle.regmodel.specs.declared.limits.TheConstants.{MOST_REGISTERS};
 ghost use Rattle.machine.specs.Lasts.{AreWrittenBy, EndsBy};
 ghost use Rattle.machine.specs.Rest.{Asks, pending_in};
 
@@ -135,7 +135,7 @@ fn run_past(kept: &mut [Kept], at: usize, prog: &Prog, reply: &[u32])
 }
 
 impl Machine for Interp {
-    ghost use Rattle.regmodel.specs.OfProg.{program_of};
+    ghost use Rattle.regmodel.specs.Prelude.{program_of};
     ghost use Rattle.machine.specs.Interps.{state_of};
     ghost use Rattle.machine.specs.Rest.{rest_in};
     ghost use Rattle.machine.specs.Standings.{resumed_by};

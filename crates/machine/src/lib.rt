@@ -4,25 +4,21 @@
 ghost use Rattle.std.specs.Prelude.{◌≡◌, ◌≤◌, ℕ, IfSome, IsTrue, List, [], ◌∷◌, length, map, take};
 ghost use Rattle.told.specs.Numbers.{numbers_in};
 ghost use Rattle.regmodel.specs.declared.accesses.Pending.{Pending};
+ghost use Rattle.regmodel.specs.Prelude.{Program, act_of, IsReplyTo, Replies};
 ghost use Rattle.regmodel.specs.declared.accesses.Pending.TheVariants.{Done};
-ghost use Rattle.regmodel.specs.Program.{Program};
-ghost use Rattle.regmodel.specs.Act.{act_of};
 ghost use Rattle.regmodel.specs.Kept.{values_in};
-ghost use Rattle.regmodel.specs.Lawful.{IsReplyTo, IsAtStart};
+ghost use Rattle.regmodel.specs.Lawful.{IsAtStart};
 ghost use Rattle.regmodel.specs.Reply as spec;
-ghost use Rattle.regmodel.specs.Reply.{Replies};
 ghost use Rattle.machine.specs.Following.{Follows};
 ghost use Rattle.machine.specs.Lasts.{EndsBy, WritesBy};
 ghost use Rattle.machine.specs.Same.{IsSameMachine};
 ghost use Rattle.machine.specs.Telling.{Tells};
 
 mod culprits;
-mod emitted;
 mod interp;
 mod lasts;
 mod numbering;
 mod resume;
-mod rows;
 mod run;
 mod sparse;
 mod standings;

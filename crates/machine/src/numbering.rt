@@ -2,7 +2,7 @@
 
 ghost use Rattle.std.specs.Prelude.{◌≡◌, ◌+◌, ◌≤◌};
 ghost use Rattle.regmodel.specs.Program.{Stop};
-ghost use Rattle.regmodel.specs.Blocks.{block_of, with_stmt};
+ghost use Rattle.regmodel.specs.Prelude.{block_of, with_stmt};
 ghost use Rattle.regmodel.specs.Limits.{statements};
 ghost use Rattle.regmodel.specs.declared.limits.TheConstants.{MOST_STATEMENTS};
 

@@ -1,15 +1,14 @@
 //! Goes on past a reply from the place where a program stopped.
 
 ghost use Rattle.std.specs.Prelude.{◌≡◌, ◌+◌, [], ◌∷◌, drop, length};
-ghost use Rattle.regmodel.specs.Program.{Block, Stop};
-ghost use Rattle.regmodel.specs.Blocks.{with_stmt, block_of};
+ghost use Rattle.regmodel.specs.Prelude.{Block, with_stmt, block_of};
+ghost use Rattle.regmodel.specs.Program.{Stop};
 ghost use Rattle.machine.specs.Stores.{env_of};
 ghost use Rattle.machine.specs.Paths.{resume, part_flow};
 ghost use Rattle.machine.specs.Exits.{IsWanting};
 ghost use Rattle.machine.specs.Runs.{CanRun, StmtRunsTo, BlockRunsTo};
 
 use crate::run::{BlockExit, Frame, Part, StmtExit, block_of_arm, run_block, run_turns, stmt_exit};
-use crate::value_of;
 use crate::values::Store;
 use regmodel::Stmt;
 
@@ -46,13 +45,8 @@ fn resume_stmt(
         (with_stmt stmt.now rest) rest (env_of store.new) }
 {
     match part {
-        Part::Reading(_, place) => {
-            store.put(place, value_of(answer.reply));
-            Ok(StmtExit::GoesOn)
-        }
-        Part::Writing(_, _) => Ok(StmtExit::GoesOn),
-        Part::Scanning(cell, _, _) => {
-            store.put_from(cell, answer.reply);
+        Part::At(_, destination) => {
+            store.put_reply(destination, answer.reply);
             Ok(StmtExit::GoesOn)
         }
         Part::Within(arm) => {

@@ -2,19 +2,20 @@
 
 ghost use Rattle.std.specs.Prelude.{◌≡◌, ℕ, ◌+◌, ◌≤◌, IsTrue, List, Ok, drop};
 ghost use Rattle.regmodel.specs.declared.statements.Expr.{Expr};
-ghost use Rattle.regmodel.specs.Program.{Block, Stop, Do, Assign, Read, Write, Scan, Repeat, Emit};
-ghost use Rattle.regmodel.specs.Blocks.{with_stmt, block_of};
-ghost use Rattle.regmodel.specs.Act.{exec};
-ghost use Rattle.regmodel.specs.Values.{Env, operand_value, and_then, below_or_fault};
-ghost use Rattle.regmodel.specs.Limits.{scan_fits};
 ghost use Rattle.regmodel.specs.declared.limits.TheConstants.{MOST_REGISTERS};
+ghost use Rattle.regmodel.specs.Prelude.{Block, with_stmt, block_of, exec, Env};
+ghost use Rattle.regmodel.specs.Program.{Stop, Do, Assign, Read, Write, Scan, Repeat, Emit};
+ghost use Rattle.regmodel.specs.Values.{operand_value, and_then, below_or_fault};
+ghost use Rattle.regmodel.specs.Limits.{scan_fits};
 ghost use Rattle.machine.specs.declared.run.Frame.{Frame};
+ghost use Rattle.machine.specs.declared.run.Part.TheVariants.{At};
+ghost use Rattle.machine.specs.declared.run.StmtExit.TheVariants.{Wants};
 ghost use Rattle.machine.specs.Stores.{env_of};
 ghost use Rattle.machine.specs.Paths.{of_arm, arm_at};
 ghost use Rattle.machine.specs.Exits.{exit_through, times_then};
 ghost use Rattle.machine.specs.Runs.{CanRun, ComesTo, StmtRuns, StmtRunsTo, BlockRunsTo};
 
-use crate::values::{Place, Store};
+use crate::values::{Destination, Store};
 use regmodel::faults::{NO_PLACE, TOO_MANY_NUMBERS, TOO_MANY_TURNS};
 use regmodel::limits::MOST_TURNS;
 use regmodel::{Access, Expr, Operand, Stmt, Target};
@@ -26,17 +27,12 @@ pub enum Arm {
     Second,
 }
 
-/// The part of a statement in which a program stands. What a `read` or `write` found before its
-/// access is kept.
+/// The part of a statement in which a program stands. What a statement found before its access is
+/// kept.
 #[derive(Clone, Copy)]
 pub enum Part {
-    /// At a read of this register, whose reply is stored at the place.
-    Reading(u8, Place),
-    /// At a write of this value into this register.
-    Writing(u8, u32),
-    /// At a scan, whose reply is stored in the cells from the first number on, of the registers
-    /// from the second on, so many.
-    Scanning(u8, u8, u8),
+    /// At an access, whose reply is stored there.
+    At(Access, Destination),
     /// In an arm of an `if`.
     Within(Arm),
     /// In a turn of a `repeat`, with so many turns left after it.
@@ -93,6 +89,13 @@ fn register(operand: Operand, registers: u32, store: &Store) -> Result<u8, u8>
     }
 }
 
+/// Wants this access, whose reply is stored there.
+fn wants(access: Access, destination: Destination) -> StmtExit
+    ensures { result ≡ Wants access (At access destination) }
+{
+    StmtExit::Wants(access, Part::At(access, destination))
+}
+
 /// A read up to its access: first the register, then the place where the reply is to be stored.
 pub fn read(to: Target, from: Operand, registers: u32, store: &Store) -> Result<StmtExit, u8>
     requires { registers ≤ MOST_REGISTERS }
@@ -100,7 +103,7 @@ pub fn read(to: Target, from: Operand, registers: u32, store: &Store) -> Result<
 {
     let register = register(from, registers, store)?;
     let place = store.place(to)?;
-    Ok(StmtExit::Wants(Access::Read(register), Part::Reading(register, place)))
+    Ok(wants(Access::Read(register), Destination::InPlace(place)))
 }
 
 /// A write up to its access: first the register, then the value.
@@ -110,10 +113,7 @@ pub fn write(to: Operand, value: &Expr, registers: u32, store: &Store) -> Result
 {
     let register = register(to, registers, store)?;
     let number = store.expr(value)?;
-    Ok(StmtExit::Wants(
-        Access::Write(register, number),
-        Part::Writing(register, number),
-    ))
+    Ok(wants(Access::Write(register, number), Destination::Nowhere))
 }
 
 /// A scan up to its access.
@@ -122,11 +122,8 @@ pub fn scan(cell: u32, first: u32, count: u32, registers: u32) -> StmtExit
     requires fits { IsTrue (scan_fits registers cell first count) }
     ensures { (env : Env) → ComesTo (Ok result) registers (Scan cell first count) env }
 {
-    let (cell, first, count) = (cell as u8, first as u8, count as u8);
-    StmtExit::Wants(
-        Access::Scan(first, count),
-        Part::Scanning(cell, first, count),
-    )
+    let access = Access::Scan(first as u8, count as u8);
+    wants(access, Destination::InCells(cell as u8))
 }
 
 /// Appends a number to those of the process; a fault where there are as many as may be.

@@ -1,10 +1,9 @@
 //! At which statement a program stops.
 
 ghost use Rattle.std.specs.Prelude.{◌≡◌, ℕ, map};
-ghost use Rattle.regmodel.specs.OfProg.{program_of};
+ghost use Rattle.regmodel.specs.Prelude.{program_of, block_of, with_stmt};
 ghost use Rattle.regmodel.specs.Kept.{values_in};
 ghost use Rattle.regmodel.specs.Program.{Simple, Stop, Do, If, Repeat};
-ghost use Rattle.regmodel.specs.Blocks.{block_of, with_stmt};
 ghost use Rattle.machine.specs.Stops.{stopped_at, stops_at};
 ghost use Rattle.machine.specs.Stores.{env_of};
 ghost use Rattle.machine.specs.Walks.{CanWalk, AccessWalks, BlockWalks, ExitWalks, StopsSo};
@@ -13,7 +12,6 @@ use crate::culprits::{Culprit, culprit_of};
 use crate::numbering::{behind, behind_stmt};
 use crate::run::{Part, StmtExit, assign, emit, read, scan, write};
 use crate::states::empty_store;
-use crate::value_of;
 use crate::values::Store;
 use regmodel::limits::MOST_TURNS;
 use regmodel::{Expr, Prog, Reply, Stmt};
@@ -187,9 +185,7 @@ fn past_access(part: Part, stopped: Stopped, walk: &mut Walk) -> Result<(), Stop
         return Err(stopped);
     };
     match part {
-        Part::Reading(_, place) => walk.store.put(place, value_of(reply.values())),
-        Part::Writing(_, _) => {}
-        Part::Scanning(cell, _, _) => walk.store.put_from(cell, reply.values()),
+        Part::At(_, destination) => walk.store.put_reply(destination, reply.values()),
         Part::Within(_) | Part::Turn(_) => return Err(stopped),
     }
     walk.replies = others;

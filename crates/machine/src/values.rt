@@ -1,15 +1,118 @@
-//! What expressions are worth, and where values are kept.
+//! What a program holds, its variables, its cells and the numbers that it has emitted, and what its
+//! expressions are worth.
 
-ghost use Rattle.std.specs.Prelude.{◌≡◌, slice_index};
+ghost use Rattle.std.specs.Prelude.{◌≡◌, ◌<◌, ◌≤◌, [], ◌∷◌, ◌++◌, length, nat_lt, not, replicate, slice_index, slice_set};
 ghost use Rattle.regmodel.specs.Values.{within, below_or_fault, operand_value, expr_value, apply_op, target_place, store, store_from, InCell};
-ghost use Rattle.regmodel.specs.declared.limits.TheConstants.{CELLS};
-ghost use Rattle.machine.specs.Stores.{env_of, as_place, as_place_or_fault, values_of};
+ghost use Rattle.regmodel.specs.declared.limits.TheConstants.{CELLS, MOST_NUMBERS};
+ghost use Rattle.machine.specs.Sparse.{sparse};
+ghost use Rattle.machine.specs.Stores.{env_of, as_place, as_place_or_fault, items_of, reply_stored, values_of};
 
-use crate::emitted::Emitted;
-use crate::rows::Row;
+use crate::value_of;
 use regmodel::faults::{NO_PLACE, NO_VALUE};
-use regmodel::limits::{CELLS, GREATEST_VALUE};
-use regmodel::{Expr, Op, Operand, Target};
+use regmodel::limits::{CELLS, GREATEST_VALUE, MOST_NUMBERS};
+use regmodel::{Expr, Numbers, Op, Operand, Target};
+
+/// N values, as a plain value. Places from the count on are not looked at: the values there are 0.
+#[derive(Clone, Copy)]
+pub struct Row<const N: usize> {
+    places: [u32; N],
+    count: usize,
+}
+
+impl<const N: usize> Row<N> {
+    /// Values that all are 0.
+    pub fn zeros() -> Row<N>
+        ensures { values_of result ≡ replicate N 0 }
+    {
+        Row {
+            places: [0; N],
+            count: 0,
+        }
+    }
+
+    /// A value; 0 where there is none with this number.
+    pub fn get(&self, i: usize) -> u32
+        ensures { result ≡ slice_index (values_of self.now) i }
+    {
+        if i < self.count && i < N {
+            self.places[i]
+        } else {
+            0
+        }
+    }
+
+    /// Puts a value at its place; nowhere where there is no such place.
+    pub fn put(&mut self, i: usize, value: u32)
+        ensures { values_of self.new ≡ slice_set (values_of self.old) i value }
+    {
+        if i < N {
+            while self.count <= i {
+                self.places[self.count] = 0;
+                self.count += 1;
+            }
+            self.places[i] = value;
+        }
+    }
+
+    /// The first values, behind which all are 0.
+    pub fn first(&self) -> &[u32]
+        ensures told { sparse result.now ≡ sparse (values_of self.now) }
+        ensures short { length result.now ≤ N }
+    {
+        &self.places[..self.count.min(N)]
+    }
+}
+
+/// At most 8 numbers, as a plain value. Places from the count on hold what they held.
+#[derive(Clone, Copy)]
+pub struct Emitted {
+    places: [u32; MOST_NUMBERS],
+    count: usize,
+}
+
+impl Emitted {
+    /// No numbers.
+    pub fn none() -> Emitted
+        ensures { items_of result ≡ [] }
+    {
+        Emitted {
+            places: [0; MOST_NUMBERS],
+            count: 0,
+        }
+    }
+
+    /// Whether there are as many as may be.
+    pub fn is_full(&self) -> bool
+        ensures { result ≡ not (nat_lt (length (items_of self.now)) MOST_NUMBERS) }
+    {
+        self.count >= MOST_NUMBERS
+    }
+
+    /// Adds a number behind the others.
+    pub fn push(&mut self, number: u32)
+        requires { length (items_of self.old) < MOST_NUMBERS }
+        ensures { items_of self.new ≡ items_of self.old ++ number ∷ [] }
+    {
+        self.places[self.count] = number;
+        self.count += 1;
+    }
+
+    /// The numbers.
+    pub fn values(&self) -> &[u32]
+        ensures { result.now ≡ items_of self.now }
+    {
+        &self.places[..self.count.min(MOST_NUMBERS)]
+    }
+
+    /// The same numbers, as they are told.
+    pub fn numbers(&self) -> Numbers
+        ensures { result.items ≡ items_of self.now }
+    {
+        let mut numbers = Numbers::new();
+        let _ = numbers.try_extend_from_slice(self.values());
+        numbers
+    }
+}
 
 /// The variables, the cells and the numbers emitted so far.
 #[derive(Clone, Copy)]
@@ -24,6 +127,15 @@ pub struct Store {
 pub enum Place {
     Var(u8),
     Cell(u8),
+}
+
+/// Where the reply to an access is stored.
+#[derive(Clone, Copy)]
+pub enum Destination {
+    Nowhere,
+    InPlace(Place),
+    /// In the cells from this one on.
+    InCells(u8),
 }
 
 /// The value of an operator; a fault above the greatest value or below 0.
@@ -131,8 +243,19 @@ impl Store {
         self.cells.put(i, value);
     }
 
+    /// Stores a reply: its value in a place, or its values in cells.
+    pub fn put_reply(&mut self, destination: Destination, reply: &[u32])
+        ensures { env_of self.new ≡ reply_stored destination (env_of self.old) reply.now }
+    {
+        match destination {
+            Destination::Nowhere => {}
+            Destination::InPlace(place) => self.put(place, value_of(reply)),
+            Destination::InCells(cell) => self.put_from(cell, reply),
+        }
+    }
+
     /// Stores values in the cells from one on.
-    pub fn put_from(&mut self, cell: u8, values: &[u32])
+    fn put_from(&mut self, cell: u8, values: &[u32])
         ensures { env_of self.new ≡ store_from (env_of self.old) cell values.now }
     {
         for (offset, value) in values.iter().enumerate() {

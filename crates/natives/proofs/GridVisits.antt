@@ -3,10 +3,10 @@ use Rattle.std.proofs.Common.{◌≡◌, ◌≢◌, ℕ, zero, suc, ◌+◌, ◌
 use Rattle.std.specs.Prelude.{nat_lt, nat_le}
 use Rattle.regmodel.specs.declared.accesses.Access.TheVariants as access
 use Rattle.regmodel.specs.declared.accesses.Pending.TheVariants as pending
-use Rattle.regmodel.specs.Values.{Env}
-use Rattle.regmodel.specs.Reply.{Reply, Replies, value_of, one}
-use Rattle.regmodel.specs.Act.{Flow, GoesOn, Wants, Ends, exec, times, flow_pending, then_do}
 use Rattle.regmodel.specs.declared.accesses.Pending.{Pending}
+use Rattle.regmodel.specs.Prelude.{Env, Replies, Flow, exec, times, flow_pending, then_do}
+use Rattle.regmodel.specs.Reply.{Reply, value_of, one}
+use Rattle.regmodel.specs.Act.{GoesOn, Wants, Ends}
 use Rattle.uses.specs.Expansions.{grid_visit}
 use Rattle.natives.specs.Grids.{grid_from}
 use Rattle.natives.proofs.StepEnds.{le_yes, lt_yes, lt_no, eq_yes, eq_no}

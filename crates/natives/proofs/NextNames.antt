@@ -1,12 +1,11 @@
 -- The next name of a renaming, once its slots were read.
 use Rattle.std.proofs.Common.{◌≡◌, ◌≢◌, ℕ, zero, suc, ◌+◌, ◌-◌, ◌*◌, ◌<◌, ◌≤◌, Bool, true, false, cond, List, [], ◌∷◌, inl, inr, length, refl, ap, sym, ◌∙◌, arith, replicate, add-one, drop, take, drop-cons, not, ◌||◌, ◌&&◌}
 use Rattle.std.specs.Prelude.{nat_lt, ◌==◌, if◌then◌else◌, slice_index, slice_set}
-use Rattle.std.proofs.lemmas.List.{length-set, length-take-le, length-append, take-append-le}
+use Rattle.std.proofs.lemmas.List.{length-set, length-append, take-append-le}
 use Rattle.std.proofs.lemmas.Bool.{cases_eq}
 use Rattle.regmodel.specs.declared.accesses.Pending.TheVariants as pending
-use Rattle.regmodel.specs.Values.{Env}
-use Rattle.regmodel.specs.Reply.{Replies}
-use Rattle.regmodel.specs.Act.{Flow, GoesOn, exec, times, flow_pending, then_do}
+use Rattle.regmodel.specs.Prelude.{Env, Replies, Flow, exec, times, flow_pending, then_do}
+use Rattle.regmodel.specs.Act.{GoesOn}
 use Rattle.uses.specs.Expansions.{name_held, name_turn}
 use Rattle.machine.specs.Bits.{bit}
 use Rattle.natives.specs.Rounds.{holds, number_from, cells_of, from_after, at_slot}
@@ -122,12 +121,6 @@ long_cells seen eight = length-append seen (replicate 24 0) ∙ ap (λ n. n + 24
 
 pub taken : (slots : ℕ) (seen : List ℕ) → length seen ≡ 8 → slots ≤ 8 → take slots (cells_of seen) ≡ take slots seen
 taken slots seen eight few_slots = take-append-le slots seen (replicate 24 0) (omega (arith, few_slots, eight))
-
--- the number of a rank among so many slots
-pub slots-number : (seen : List ℕ) (n slots rank : ℕ) → n ≡ slots → length seen ≡ 8 → slots ≤ 8 → number_from (take n seen) (2 * length (take n seen) - 1) rank 0 ≡ number_from (take slots seen) (2 * slots - 1) rank 0
-slots-number seen n slots rank e eight few_slots =
-    ap (λ k. number_from (take k seen) (2 * length (take k seen) - 1) rank 0) e
-    ∙ ap (λ k. number_from (take slots seen) (2 * k - 1) rank 0) (length-take-le slots seen (omega (arith, eight, few_slots)))
 
 -- ---- the next number
 

@@ -2,7 +2,8 @@
 use Rattle.std.proofs.Common.{◌≡◌, suc, ◌+◌, ◌-◌, ◌≤◌, Bool, true, false, ◌||◌, ℕ, List, ◌∷◌, ◌++◌, refl, ap, sym, ◌∙◌, arith}
 use Rattle.std.specs.Prelude.{nat_lt, ◌==◌, slice_set}
 use Rattle.regmodel.specs.declared.accesses.Pending.{Pending}
-use Rattle.regmodel.specs.Reply.{Reply, Replies, value_of}
+use Rattle.regmodel.specs.Prelude.{Replies}
+use Rattle.regmodel.specs.Reply.{Reply, value_of}
 use Rattle.machine.specs.Sparse.{sparse, spread}
 use Rattle.natives.specs.declared.name.NameSlots.{NameSlots}
 use Rattle.natives.specs.declared.rounds.Reading.{Reading}

@@ -2,10 +2,9 @@
 use Rattle.std.proofs.Common.{◌≡◌, ℕ, zero, suc, ◌-◌, ◌*◌, Bool, true, false, Option, IfSome, List, ◌++◌, append_assoc, length, replicate, take, refl, ap, sym, ◌∙◌, subst, arith}
 use Rattle.std.specs.Option.{is_some}
 use Rattle.regmodel.specs.declared.accesses.Pending.{Pending}
-use Rattle.regmodel.specs.Values.{Env}
-use Rattle.regmodel.specs.Act.{Flow, GoesOn, exec, flow_pending, then_do}
+use Rattle.regmodel.specs.Prelude.{Env, Flow, exec, flow_pending, then_do, Replies}
+use Rattle.regmodel.specs.Act.{GoesOn}
 use Rattle.regmodel.specs.Program.{Stop}
-use Rattle.regmodel.specs.Reply.{Replies}
 use Rattle.machine.specs.Bits.{bit}
 use Rattle.machine.specs.Sparse.{sparse, spread}
 use Rattle.machine.specs.Telling.{Tells}

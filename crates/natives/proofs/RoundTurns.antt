@@ -4,8 +4,9 @@ use Rattle.std.specs.Prelude.{nat_lt, nat_le, ◌==◌, slice_index, slice_set}
 use Rattle.std.proofs.lemmas.List.{get_or-set_same, set-append_left, get_or_append_left, set-get_or}
 use Rattle.regmodel.specs.declared.accesses.Access.TheVariants as access
 use Rattle.regmodel.specs.declared.accesses.Pending.{Pending}
-use Rattle.regmodel.specs.Reply.{Reply, Replies, value_of}
-use Rattle.regmodel.specs.Act.{Flow, GoesOn, Wants, Faults, exec, flow_pending, then_do}
+use Rattle.regmodel.specs.Prelude.{Replies, Flow, exec, flow_pending, then_do}
+use Rattle.regmodel.specs.Reply.{Reply, value_of}
+use Rattle.regmodel.specs.Act.{GoesOn, Wants, Faults}
 use Rattle.uses.specs.Expansions.{name_after, name_slot, name_round}
 use Rattle.std.proofs.lemmas.Bool.{cases_eq}
 use Rattle.natives.specs.Rounds.{cells_of, at_slot}

@@ -4,10 +4,11 @@ use Rattle.std.specs.Prelude.{nat_lt, nat_le, ◌==◌, slice_index, slice_set}
 use Rattle.std.proofs.lemmas.List.{append_assoc, drop-append-le, length-append, set-append_left}
 use Rattle.regmodel.specs.declared.accesses.Access.TheVariants as access
 use Rattle.regmodel.specs.declared.accesses.Pending.{Pending}
+use Rattle.regmodel.specs.Prelude.{Env, Replies, Flow, exec, times, flow_pending, then_do}
 use Rattle.regmodel.specs.declared.accesses.Pending.TheVariants as pending
-use Rattle.regmodel.specs.Values.{Env, store_from}
-use Rattle.regmodel.specs.Reply.{Reply, Replies}
-use Rattle.regmodel.specs.Act.{Flow, GoesOn, Wants, Faults, exec, times, flow_pending, then_do}
+use Rattle.regmodel.specs.Values.{store_from}
+use Rattle.regmodel.specs.Reply.{Reply}
+use Rattle.regmodel.specs.Act.{GoesOn, Wants, Faults}
 use Rattle.uses.specs.Expansions.{name_after, names_slot, names_round}
 use Rattle.machine.specs.Bits.{bit}
 use Rattle.natives.specs.declared.rounds.Reading.{Reading}
@@ -147,12 +148,6 @@ module _ (base slots own registers : ℕ) (h : IsChoice base slots own registers
       ∙ sym (ap (then_rounds rounds) (round-ends proposal 0 0 0 0 0 w reply cells s long))
 
   -- ---- what the machine needs of a round
-
-  pub from-proposes : (later proposal : ℕ) (cells : List ℕ) → from_scan_round base slots own registers (suc later) proposal cells [] ≡ pending.Wants (access.Write (base + own) proposal)
-  from-proposes later proposal cells = ap (then_rounds later) (round-wants proposal 0 0 0 0 0 cells)
-
-  pub from-scans : (later proposal : ℕ) (w : Reply) (cells : List ℕ) → from_scan_round base slots own registers (suc later) proposal cells (w ∷ []) ≡ pending.Wants (access.Scan base slots)
-  from-scans later proposal w cells = ap (then_rounds later) (round-scans proposal 0 0 0 0 0 w cells)
 
   pub scan-ends : (later proposal : ℕ) (cells : List ℕ) (w reply : Reply) (s : Replies) → length cells ≡ 32 → from_scan_round base slots own registers (suc later) proposal cells (w ∷ reply ∷ s) ≡ from_after slots registers (scan_rounds base slots own registers later) (at_reading proposal 0 0 (scanned cells reply) (reading_of proposal (scanned cells reply))) s
   scan-ends later proposal cells w reply s long = ap (then_rounds later) (round-ends proposal 0 0 0 0 0 w reply cells s long)

@@ -3,7 +3,8 @@ use Rattle.std.proofs.Common.{◌≡◌, ℕ, suc, ◌++◌, List, ◌∷◌, dr
 use Rattle.std.specs.Prelude.{slice_set}
 use Rattle.std.proofs.lemmas.List.{length-set, length-append, length-drop}
 use Rattle.regmodel.specs.declared.accesses.Pending.{Pending}
-use Rattle.regmodel.specs.Reply.{Reply, Replies, one}
+use Rattle.regmodel.specs.Prelude.{Replies}
+use Rattle.regmodel.specs.Reply.{Reply, one}
 use Rattle.natives.specs.declared.names.Names.{Names}
 use Rattle.natives.specs.declared.names.Scan.{Scan}
 use Rattle.natives.specs.declared.rounds.Stage.{Stage}

@@ -1,13 +1,13 @@
 -- Tests whose answers are known, and what ends a step.
-use Rattle.std.proofs.Common.{◌≡◌, ◌≢◌, ℕ, ◌<◌, ◌≤◌, Bool, true, false, not, refl, arith, subst}
+use Rattle.std.proofs.Common.{◌≡◌, ◌≢◌, ℕ, ◌<◌, ◌≤◌, true, false, refl, arith, subst}
 use Rattle.std.proofs.lemmas.Bool.Decides.{nat_tests}
 use Rattle.std.specs.Prelude.{nat_lt, nat_le, ◌==◌}
 use Rattle.regmodel.specs.declared.accesses.Access.TheVariants as access
 use Rattle.regmodel.specs.declared.accesses.Pending.{Pending}
+use Rattle.regmodel.specs.Prelude.{IsReplyTo, Flow, then_do, exec}
 use Rattle.regmodel.specs.declared.accesses.Pending.TheVariants as pending
-use Rattle.regmodel.specs.Lawful.{IsReplyTo}
 use Rattle.regmodel.specs.Reply.{Reply, one}
-use Rattle.regmodel.specs.Act.{Flow, GoesOn, Wants, Ends, Faults, then_do, exec}
+use Rattle.regmodel.specs.Act.{GoesOn, Wants, Ends, Faults}
 use Rattle.regmodel.specs.Program.{Stop}
 
 pub le_yes : (a b : ℕ) → a ≤ b → nat_le a b ≡ true
@@ -24,10 +24,6 @@ eq_yes a b h = grind (arith, nat_tests)
 
 pub eq_no : (a b : ℕ) → a ≢ b → (a == b) ≡ false
 eq_no a b h = grind (arith, nat_tests)
-
-pub not_false : (b : Bool) → not b ≡ false → b ≡ true
-not_false true e = refl
-not_false false e = cc
 
 -- a write is answered by one 0
 pub reply-zero : (p : Pending) (r v : ℕ) (reply : Reply) → p ≡ pending.Wants (access.Write r v) → IsReplyTo p reply → reply ≡ one 0

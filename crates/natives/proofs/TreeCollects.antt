@@ -3,10 +3,10 @@ use Rattle.std.proofs.Common.{◌≡◌, ◌≢◌, ℕ, zero, suc, ◌+◌, ◌
 use Rattle.std.specs.Prelude.{nat_lt, nat_le, slice_index, slice_set}
 use Rattle.regmodel.specs.declared.accesses.Access.TheVariants as access
 use Rattle.regmodel.specs.declared.accesses.Pending.{Pending}
+use Rattle.regmodel.specs.Prelude.{Env, Replies, Flow, exec, times, flow_pending, then_do}
 use Rattle.regmodel.specs.declared.accesses.Pending.TheVariants as pending
-use Rattle.regmodel.specs.Values.{Env}
-use Rattle.regmodel.specs.Reply.{Reply, Replies, value_of, one}
-use Rattle.regmodel.specs.Act.{Flow, GoesOn, Wants, Faults, exec, times, flow_pending, then_do}
+use Rattle.regmodel.specs.Reply.{Reply, value_of, one}
+use Rattle.regmodel.specs.Act.{GoesOn, Wants, Faults}
 use Rattle.uses.specs.Expansions.{tree_collect, tree_look}
 use Rattle.std.proofs.lemmas.Bool.{cases_lt}
 use Rattle.std.proofs.lemmas.List.{get_or-map, map-set}

@@ -3,10 +3,10 @@ use Rattle.std.proofs.Common.{◌≡◌, ◌≢◌, ℕ, zero, suc, ◌+◌, ◌
 use Rattle.std.specs.Prelude.{nat_lt, nat_le}
 use Rattle.regmodel.specs.declared.accesses.Access.TheVariants as access
 use Rattle.regmodel.specs.declared.accesses.Pending.{Pending}
+use Rattle.regmodel.specs.Prelude.{Env, Replies, Flow, exec, times, flow_pending, then_do, act_of}
 use Rattle.regmodel.specs.declared.accesses.Pending.TheVariants as pending
-use Rattle.regmodel.specs.Values.{Env}
-use Rattle.regmodel.specs.Reply.{Reply, Replies, value_of, one}
-use Rattle.regmodel.specs.Act.{Flow, GoesOn, Wants, Faults, exec, times, flow_pending, then_do, act_of}
+use Rattle.regmodel.specs.Reply.{Reply, value_of, one}
+use Rattle.regmodel.specs.Act.{GoesOn, Wants, Faults}
 use Rattle.regmodel.specs.Program.{Stop}
 use Rattle.uses.specs.Expansions.{tree_after, tree_leave, tree_descend, tree_collect, expansion}
 use Rattle.uses.specs.declared.kinds.Use.TheVariants as kind

@@ -1,8 +1,9 @@
 -- What a collect tree in progress does, by where it stands.
 use Rattle.std.proofs.Common.{◌≡◌, ◌≢◌, ℕ, suc, ◌+◌, ◌-◌, ◌*◌, ◌^◌, ◌<◌, ◌≤◌, true, false, [], ◌∷◌, ◌++◌, length, set, replicate, refl, ap, sym, ◌∙◌, subst, arith}
 use Rattle.regmodel.specs.declared.accesses.Pending.{Pending}
+use Rattle.regmodel.specs.Prelude.{Replies}
 use Rattle.regmodel.specs.declared.accesses.Pending.TheVariants.{Fault}
-use Rattle.regmodel.specs.Reply.{Reply, Replies, value_of, one}
+use Rattle.regmodel.specs.Reply.{Reply, value_of, one}
 use Rattle.natives.specs.declared.trees.Tree.{Tree}
 use Rattle.natives.specs.declared.trees.Stage.{Stage}
 use Rattle.natives.specs.declared.trees.Stage.TheVariants.{Marks, At, Leaves, Sees, Takes, Collected, Overfull, Over}

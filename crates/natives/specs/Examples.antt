@@ -18,7 +18,8 @@ use Rattle.natives.specs.Trees.{from_stop, from_past, from_at, tree_resumed}
 
 -- ---- a splitter that is about to look who came last
 
-pub split_finds_itself : split_rest (split_program 0 1 2) (At Looks) (one 1 ∷ []) ≡ Done (record { items = 1 ∷ [] })
+pub split_finds_itself : split_rest (split_program 0 1 2) (At Looks) (one 1 ∷ [])
+    ≡ Done (record { items = 1 ∷ [] })
 split_finds_itself = refl
 
 -- ---- a grid of side 2 at registers 0 to 5: at its first vertex, and at the vertex
@@ -32,7 +33,9 @@ grid_goes_out = refl
 
 -- ---- two slots, of which the first is the own one
 
-pub proposal_is_free : from_reading 0 2 0 2 98 1 (replicate 8 0) (after_slot 0 1 0 first_slot) (one 0 ∷ []) ≡ Done (record { items = 1 ∷ [] })
+pub proposal_is_free :
+    from_reading 0 2 0 2 98 1 (replicate 8 0) (after_slot 0 1 0 first_slot) (one 0 ∷ [])
+    ≡ Done (record { items = 1 ∷ [] })
 proposal_is_free = refl
 
 -- the least number that no slot holds; the second one of them
@@ -51,18 +54,25 @@ clash_below = refl
 pub names_scans : from_scan_round 0 2 1 2 99 1 (replicate 32 0) (one 0 ∷ []) ≡ Wants (Scan 0 2)
 names_scans = refl
 
-pub names_clash : from_scan_round 0 2 1 2 99 1 (replicate 32 0) (one 0 ∷ (1 ∷ 1 ∷ []) ∷ []) ≡ Wants (Write 1 3)
+pub names_clash : from_scan_round 0 2 1 2 99 1 (replicate 32 0) (one 0 ∷ (1 ∷ 1 ∷ []) ∷ [])
+    ≡ Wants (Write 1 3)
 names_clash = refl
 
 -- the proposal in the own slot is no clash
-pub names_alone : from_scan_round 0 2 1 2 99 1 (replicate 32 0) (one 0 ∷ (0 ∷ 1 ∷ []) ∷ []) ≡ Done (record { items = 1 ∷ [] })
+pub names_alone : from_scan_round 0 2 1 2 99 1 (replicate 32 0) (one 0 ∷ (0 ∷ 1 ∷ []) ∷ [])
+    ≡ Done (record { items = 1 ∷ [] })
 names_alone = refl
 
-pub names_last_round : from_scan_round 0 2 1 2 1 1 (replicate 32 0) (one 0 ∷ (1 ∷ 0 ∷ []) ∷ []) ≡ Done (record { items = [] })
+pub names_last_round : from_scan_round 0 2 1 2 1 1 (replicate 32 0) (one 0 ∷ (1 ∷ 0 ∷ []) ∷ [])
+    ≡ Done (record { items = [] })
 names_last_round = refl
 
 -- the slot below holds the proposal, the own one counts as empty
-pub clash_of_both : after_slots 1 1 (1 ∷ 0 ∷ []) first_slot ≡ record { at = 2; clash = true; rank = 2 }
+pub clash_of_both : after_slots 1 1 (1 ∷ 0 ∷ []) first_slot ≡ record {
+  at = 2;
+  clash = true;
+  rank = 2;
+}
 clash_of_both = refl
 
 -- ---- a tree of three vertices at registers 0 to 11
@@ -82,7 +92,8 @@ tree_takes_from_the_root = refl
 pub tree_goes_left_next : from_at 0 12 3 root [] 1 (one 1 ∷ one 7 ∷ []) ≡ Wants (Read 4)
 tree_goes_left_next = refl
 
-pub tree_passes_an_unmarked_root : from_at 0 12 3 root (7 ∷ []) 1 (one 0 ∷ []) ≡ Done (record { items = 7 ∷ [] })
+pub tree_passes_an_unmarked_root : from_at 0 12 3 root (7 ∷ []) 1 (one 0 ∷ [])
+    ≡ Done (record { items = 7 ∷ [] })
 tree_passes_an_unmarked_root = refl
 
 pub tree_takes_no_ninth : from_at 0 12 3 root (replicate 8 5) 1 (one 1 ∷ one 7 ∷ []) ≡ Fault 4
@@ -90,16 +101,19 @@ tree_takes_no_ninth = refl
 
 -- ---- where the same machines stand, in numbers
 
-pub split_looks : split_resumed (split_program 0 1 2) (3 ∷ []) (one 1 ∷ []) ≡ Done (record { items = 1 ∷ [] })
+pub split_looks : split_resumed (split_program 0 1 2) (3 ∷ []) (one 1 ∷ [])
+    ≡ Done (record { items = 1 ∷ [] })
 split_looks = refl
 
 pub grid_tries : grid_resumed 0 2 1 6 (1 ∷ 0 ∷ 1 ∷ []) (one 1 ∷ []) ≡ Wants (Write 4 1)
 grid_tries = refl
 
-pub name_reads : name_resumed 0 2 0 2 (1 ∷ 98 ∷ 1 ∷ 1 ∷ 1 ∷ 0 ∷ []) (one 0 ∷ []) ≡ Done (record { items = 1 ∷ [] })
+pub name_reads : name_resumed 0 2 0 2 (1 ∷ 98 ∷ 1 ∷ 1 ∷ 1 ∷ 0 ∷ []) (one 0 ∷ [])
+    ≡ Done (record { items = 1 ∷ [] })
 name_reads = refl
 
-pub names_scan_now : names_resumed 0 2 1 2 (1 ∷ 98 ∷ 1 ∷ 1 ∷ 5 ∷ []) ((1 ∷ 1 ∷ []) ∷ []) ≡ Wants (Write 1 3)
+pub names_scan_now : names_resumed 0 2 1 2 (1 ∷ 98 ∷ 1 ∷ 1 ∷ 5 ∷ []) ((1 ∷ 1 ∷ []) ∷ [])
+    ≡ Wants (Write 1 3)
 names_scan_now = refl
 
 pub reached_root : packed root ≡ 2
@@ -113,8 +127,10 @@ tree_takes = refl
 
 -- ---- the same by the numbers of a line alone
 
-pub line_of_tree_takes : native_resumed (kind.Tree 0 2 1 7) 12 (7 ∷ 1 ∷ 2 ∷ []) (one 7 ∷ []) ≡ Wants (Read 4)
+pub line_of_tree_takes : native_resumed (kind.Tree 0 2 1 7) 12 (7 ∷ 1 ∷ 2 ∷ []) (one 7 ∷ [])
+    ≡ Wants (Read 4)
 line_of_tree_takes = refl
 
-pub line_of_split_looks : native_resumed (kind.Split 0 1) 2 (3 ∷ []) (one 1 ∷ []) ≡ Done (record { items = 1 ∷ [] })
+pub line_of_split_looks : native_resumed (kind.Split 0 1) 2 (3 ∷ []) (one 1 ∷ [])
+    ≡ Done (record { items = 1 ∷ [] })
 line_of_split_looks = refl

@@ -12,7 +12,11 @@ use Rattle.natives.specs.Splitters.{since_first, step_number, told_step}
 
 -- at a vertex, with its row and column added up and its name
 abbrev pub at_vertex : ℕ → ℕ → Env
-at_vertex level vertex = record { vars = level ∷ vertex ∷ replicate 14 0; cells = replicate 32 0; emitted = [] }
+at_vertex level vertex = record {
+  vars = level ∷ vertex ∷ replicate 14 0;
+  cells = replicate 32 0;
+  emitted = [];
+}
 
 -- from a vertex on, with so many turns left, the one at this vertex counted
 abbrev pub grid_from : ℕ → ℕ → ℕ → ℕ → ℕ → ℕ → Replies → Pending
@@ -35,6 +39,7 @@ grid_numbers level vertex Over = 5 ∷ []
 -- access, stopped or over
 abbrev pub grid_resumed : ℕ → ℕ → ℕ → ℕ → List ℕ → Replies → Pending
 grid_resumed base side id registers (number ∷ level ∷ vertex ∷ _) s =
-    grid_rest (grid_from base id registers (side - level) level vertex) vertex (At (told_step number)) s
+    grid_rest (grid_from base id registers (side - level) level vertex) vertex
+    (At (told_step number)) s
 grid_resumed base side id registers (number ∷ vertex ∷ []) s = Done (record { items = vertex ∷ [] })
 grid_resumed base side id registers _ s = Done (record { items = [] })

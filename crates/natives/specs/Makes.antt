@@ -12,7 +12,8 @@ use Rattle.uses.specs.declared.expansions.TheConstants.{PAST_LIMIT}
 -- one over so many registers: its program is the line's expansion, at whose start it stands, and it
 -- understands numbers by the line alone; it is made exactly where the line is within its limits,
 -- and else they are the fault
-pub record IsMadeFor {M : Type 0} (kind : Use) (registers : ℕ) (machine : Ghosts M) (result : Result M MakeFault) : Type 0 where
+pub record IsMadeFor {M : Type 0} (kind : Use) (registers : ℕ) (machine : Ghosts M)
+    (result : Result M MakeFault) : Type 0 where
   pub same : IfOk result (λ m. machine.program m ≡ expansion kind registers)
   pub starts : IfOk result (λ m. IsAtStart (expansion kind registers) (machine.rest m))
   pub understands : IfOk result (λ m. machine.resumed m ≡ native_resumed kind registers)

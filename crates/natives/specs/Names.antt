@@ -20,12 +20,14 @@ module _ (base slots own registers : ℕ) where
 
   -- from a round on, with so many of them left, its own counted
   abbrev pub from_scan_round : ℕ → ℕ → List ℕ → Replies → Pending
-  from_scan_round rounds proposal cells s = flow_pending (scan_rounds rounds (at_slot proposal 0 0 0 cells) s)
+  from_scan_round rounds proposal cells s =
+      flow_pending (scan_rounds rounds (at_slot proposal 0 0 0 cells) s)
 
 -- the same of a renaming in progress
 abbrev pub scan_round_rest : Round Scan → Replies → Pending
 scan_round_rest round =
-    from_scan_round round.slots.base round.slots.count round.slots.own round.slots.registers (suc round.later) round.proposal (cells_of round.seen)
+    from_scan_round round.slots.base round.slots.count round.slots.own round.slots.registers
+    (suc round.later) round.proposal (cells_of round.seen)
 
 -- at the scan, the value from the round on after the reply to its write
 abbrev pub scan_rest : Round Scan → Scan → Replies → Pending
@@ -44,6 +46,8 @@ abbrev pub names_resumed : ℕ → ℕ → ℕ → ℕ → List ℕ → Replies 
 names_resumed base slots own registers (zero ∷ later ∷ proposal ∷ seen) s =
     from_scan_round base slots own registers (suc later) proposal (cells_of (spread 8 seen)) s
 names_resumed base slots own registers (suc zero ∷ later ∷ proposal ∷ seen) s =
-    from_scan_round base slots own registers (suc later) proposal (cells_of (spread 8 seen)) (one 0 ∷ s)
-names_resumed base slots own registers (suc (suc zero) ∷ proposal ∷ _) s = Done (record { items = proposal ∷ [] })
+    from_scan_round base slots own registers (suc later) proposal (cells_of (spread 8 seen))
+    (one 0 ∷ s)
+names_resumed base slots own registers (suc (suc zero) ∷ proposal ∷ _) s =
+    Done (record { items = proposal ∷ [] })
 names_resumed base slots own registers _ s = Done (record { items = [] })

@@ -15,6 +15,7 @@ use Rattle.natives.specs.Trees.{tree_resumed}
 abbrev pub native_resumed : Use → ℕ → List ℕ → Replies → Pending
 native_resumed (Split base id) registers = split_resumed (expansion (Split base id) registers)
 native_resumed (Grid base side id) registers = grid_resumed base side id registers
-native_resumed (Tree base depth id value) registers = tree_resumed base registers depth (2 ^ depth - 1) id value
+native_resumed (Tree base depth id value) registers =
+    tree_resumed base registers depth (2 ^ depth - 1) id value
 native_resumed (Name base slots slot) registers = name_resumed base slots slot registers
 native_resumed (Names base slots slot) registers = names_resumed base slots slot registers

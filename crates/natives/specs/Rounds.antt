@@ -32,7 +32,8 @@ after_slot own proposal held reading = record {
 -- past one slot after another
 abbrev pub after_slots : ℕ → ℕ → List ℕ → Reading → Reading
 after_slots own proposal [] reading = reading
-after_slots own proposal (held ∷ more) reading = after_slots own proposal more (after_slot own proposal held reading)
+after_slots own proposal (held ∷ more) reading =
+    after_slots own proposal more (after_slot own proposal held reading)
 
 -- the cells of a process, where its slots held so much
 abbrev pub cells_of : List ℕ → List ℕ
@@ -40,11 +41,16 @@ cells_of seen = seen ++ replicate 24 0
 
 -- at a slot: the proposal, whether it clashes, its rank, the slot's number, and what the slots held
 abbrev pub at_slot : ℕ → ℕ → ℕ → ℕ → List ℕ → Env
-at_slot proposal clash rank slot cells = record { vars = proposal ∷ clash ∷ rank ∷ slot ∷ replicate 12 0; cells = cells; emitted = [] }
+at_slot proposal clash rank slot cells = record {
+  vars = proposal ∷ clash ∷ rank ∷ slot ∷ replicate 12 0;
+  cells = cells;
+  emitted = [];
+}
 
 -- once so many slots were read, with the rounds that are left after this one
 abbrev pub from_after : ℕ → ℕ → (Env → Replies → Flow) → Env → Replies → Pending
-from_after slots registers rounds env s = flow_pending (then_do (exec (name_after slots) registers env s) rounds)
+from_after slots registers rounds env s =
+    flow_pending (then_do (exec (name_after slots) registers env s) rounds)
 
 -- whether a number is among those held
 abbrev pub holds : ℕ → List ℕ → Bool
@@ -61,7 +67,8 @@ number_from held (suc turns) (suc rank) number =
 -- ---- the stages
 
 -- at a write of the proposal the value from the round on, at a look that from the look on
-abbrev pub stage_rest : {L : Type 0} → (Replies → Pending) → (L → Replies → Pending) → ℕ → Stage L → Replies → Pending
+abbrev pub stage_rest : {L : Type 0} → (Replies → Pending) → (L → Replies → Pending) → ℕ → Stage L
+    → Replies → Pending
 stage_rest round look proposal Proposes s = round s
 stage_rest round look proposal (Looks at) s = look at s
 stage_rest round look proposal Named s = Done (record { items = proposal ∷ [] })
@@ -83,7 +90,8 @@ later_after true later = later - 1
 abbrev pub proposal_after : Bool → ℕ → ℕ → ℕ → List ℕ → ℕ → ℕ
 proposal_after false later slots rank seen proposal = proposal
 proposal_after true zero slots rank seen proposal = proposal
-proposal_after true (suc later) slots rank seen proposal = number_from (take slots seen) (2 * slots - 1) rank 0
+proposal_after true (suc later) slots rank seen proposal =
+    number_from (take slots seen) (2 * slots - 1) rank 0
 
 -- what is told of the slots behind a stage: what they held, by a mask and what is not 0, where
 -- it is one in a round

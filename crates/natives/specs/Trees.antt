@@ -13,22 +13,33 @@ use Rattle.natives.specs.Splitters.{since_first, step_number}
 
 -- on the way down: the vertex, and whether the process stopped at it
 abbrev pub on_way : ℕ → ℕ → ℕ → Env
-on_way vertex stopped register = record { vars = vertex ∷ stopped ∷ register ∷ replicate 13 0; cells = replicate 32 0; emitted = [] }
+on_way vertex stopped register = record {
+  vars = vertex ∷ stopped ∷ register ∷ replicate 13 0;
+  cells = replicate 32 0;
+  emitted = [];
+}
 
 -- collecting: the vertex, which vertices were reached, and the numbers so far
 abbrev pub at_collect : ℕ → List Bool → List ℕ → Env
-at_collect vertex reached numbers = record { vars = vertex ∷ 1 ∷ replicate 14 0; cells = map bit reached; emitted = numbers }
+at_collect vertex reached numbers = record {
+  vars = vertex ∷ 1 ∷ replicate 14 0;
+  cells = map bit reached;
+  emitted = numbers;
+}
 
 module _ (base registers : ℕ) where
   -- from a vertex on, with so many levels left, its own counted
   abbrev pub from_vertex : ℕ → ℕ → ℕ → ℕ → ℕ → Replies → Pending
   from_vertex depth id value levels vertex s =
-      flow_pending (then_do (times levels (exec (tree_descend base id) registers) (on_way vertex 0 0) s) (exec (tree_after base depth value) registers))
+      flow_pending
+      (then_do (times levels (exec (tree_descend base id) registers) (on_way vertex 0 0) s)
+      (exec (tree_after base depth value) registers))
 
   -- from where it stopped
   abbrev pub from_stop : ℕ → ℕ → ℕ → Replies → Pending
   from_stop depth value vertex s =
-      flow_pending (exec (tree_leave base depth value) registers (on_way vertex 1 ((vertex - 1) * 4 + base)) s)
+      flow_pending
+      (exec (tree_leave base depth value) registers (on_way vertex 1 ((vertex - 1) * 4 + base)) s)
 
   -- so many vertices of the collect
   abbrev pub collects : ℕ → Env → Replies → Flow
@@ -36,12 +47,15 @@ module _ (base registers : ℕ) where
 
   -- from past a vertex on, with so many vertices left
   abbrev pub from_past : ℕ → ℕ → List Bool → List ℕ → Replies → Pending
-  from_past turns vertex reached numbers s = flow_pending (collects turns (at_collect vertex reached numbers) s)
+  from_past turns vertex reached numbers s =
+      flow_pending (collects turns (at_collect vertex reached numbers) s)
 
   -- from a vertex that is looked at on, with so many vertices left after it
   abbrev pub from_look : ℕ → ℕ → List Bool → List ℕ → Replies → Pending
   from_look turns vertex reached numbers s =
-      flow_pending (then_do (exec (tree_look base) registers (at_collect vertex reached numbers) s) (collects turns))
+      flow_pending
+      (then_do (exec (tree_look base) registers (at_collect vertex reached numbers) s)
+      (collects turns))
 
   -- the same in a tree with so many vertices
   abbrev pub from_at : ℕ → List Bool → List ℕ → ℕ → Replies → Pending
@@ -63,7 +77,8 @@ below_reached vertex reached = slice_set (slice_set reached (vertex * 2) true) (
 
 -- on the way down the value from the vertex on, in the collect that from the vertex looked at,
 -- after the replies since then
-abbrev pub tree_rest : (Replies → Pending) → (Replies → Pending) → (ℕ → Replies → Pending) → List ℕ → Stage → Replies → Pending
+abbrev pub tree_rest : (Replies → Pending) → (Replies → Pending) → (ℕ → Replies → Pending) → List ℕ
+    → Stage → Replies → Pending
 tree_rest vertex stop look numbers Marks s = vertex s
 tree_rest vertex stop look numbers (At step) s = vertex (one 0 ∷ since_first step s)
 tree_rest vertex stop look numbers Leaves s = stop s
@@ -91,15 +106,19 @@ tree_numbers vertex levels reached numbers Over = 10 ∷ []
 
 -- what is pending after further replies, where it stands as these numbers tell
 abbrev pub tree_resumed : ℕ → ℕ → ℕ → ℕ → ℕ → ℕ → List ℕ → Replies → Pending
-tree_resumed base registers depth last id value (zero ∷ vertex ∷ levels ∷ _) s = from_vertex base registers depth id value (suc levels) vertex s
-tree_resumed base registers depth last id value (suc zero ∷ vertex ∷ levels ∷ _) s = from_vertex base registers depth id value (suc levels) vertex (one 0 ∷ s)
+tree_resumed base registers depth last id value (zero ∷ vertex ∷ levels ∷ _) s =
+    from_vertex base registers depth id value (suc levels) vertex s
+tree_resumed base registers depth last id value (suc zero ∷ vertex ∷ levels ∷ _) s =
+    from_vertex base registers depth id value (suc levels) vertex (one 0 ∷ s)
 tree_resumed base registers depth last id value (suc (suc zero) ∷ vertex ∷ levels ∷ _) s =
     from_vertex base registers depth id value (suc levels) vertex (one 0 ∷ one 0 ∷ s)
 tree_resumed base registers depth last id value (suc (suc (suc zero)) ∷ vertex ∷ levels ∷ _) s =
     from_vertex base registers depth id value (suc levels) vertex (one 0 ∷ one 0 ∷ one 0 ∷ s)
 tree_resumed base registers depth last id value (suc (suc (suc (suc zero))) ∷ vertex ∷ levels ∷ _) s =
-    from_vertex base registers depth id value (suc levels) vertex (one 0 ∷ one 0 ∷ one 0 ∷ one 0 ∷ s)
-tree_resumed base registers depth last id value (suc (suc (suc (suc (suc zero)))) ∷ vertex ∷ _) s = from_stop base registers depth value vertex s
+    from_vertex base registers depth id value (suc levels) vertex
+    (one 0 ∷ one 0 ∷ one 0 ∷ one 0 ∷ s)
+tree_resumed base registers depth last id value (suc (suc (suc (suc (suc zero)))) ∷ vertex ∷ _) s =
+    from_stop base registers depth value vertex s
 tree_resumed base registers depth last id value (suc (suc (suc (suc (suc (suc zero))))) ∷ at ∷ reached ∷ numbers) s =
     from_at base registers last (unpacked 32 reached) numbers at s
 tree_resumed base registers depth last id value (suc (suc (suc (suc (suc (suc (suc zero)))))) ∷ at ∷ reached ∷ numbers) s =

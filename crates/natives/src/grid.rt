@@ -2,11 +2,11 @@
 //! or leaves the grid.
 
 ghost use Rattle.std.specs.Prelude.{◌≡◌, ◌+◌, ◌-◌, ◌*◌, ◌<◌, ◌≤◌};
-ghost use Rattle.regmodel.specs.Reply.{Replies};
+ghost use Rattle.regmodel.specs.Prelude.{Replies};
 ghost use Rattle.uses.specs.declared.kinds.Use.TheVariants as kind;
 ghost use Rattle.natives.specs.Makes.{IsMadeFor};
 ghost use Rattle.natives.specs.Puts.{ArePut};
-ghost use Rattle.regmodel.specs.declared.limits.TheConstants.{MOST_REGISTERS, MOST_ROWS};
+ghost use Rattle.regmodel.specs.declared.limits.TheConstants.{MOST_ROWS, MOST_REGISTERS};
 ghost use Rattle.natives.specs.Grids.{grid_from, grid_numbers};
 ghost use Rattle.natives.specs.Turns.{GoesOnAs};
 

@@ -2,7 +2,7 @@
 
 ghost use Rattle.std.specs.Prelude.{◌≡◌, ◌+◌, ◌-◌, ◌*◌, ◌<◌, ◌≤◌, [], ◌∷◌, true, length, replicate};
 ghost use Rattle.natives.specs.Puts.{ArePut};
-ghost use Rattle.regmodel.specs.declared.limits.TheConstants.{MOST_REGISTERS, MOST_SLOTS};
+ghost use Rattle.regmodel.specs.declared.limits.TheConstants.{MOST_SLOTS, MOST_REGISTERS};
 ghost use Rattle.natives.specs.declared.rounds.TheConstants.{LATER};
 ghost use Rattle.natives.specs.declared.rounds.Stage.TheVariants.{Proposes};
 ghost use Rattle.natives.specs.Rounds.{first_slot, after_slot, after_slots, number_from, reading_number, stage_after, later_after, proposal_after, seen_numbers};

@@ -2,7 +2,8 @@
 //! its value there, and collects the values of the vertices whose marks it reads.
 
 ghost use Rattle.std.specs.Prelude.{◌≡◌, ℕ, suc, ◌+◌, ◌-◌, ◌*◌, ◌^◌, ◌<◌, ◌≤◌, [], ◌∷◌, true, false, IfSome, length, replicate, slice_set};
-ghost use Rattle.regmodel.specs.Reply.{Replies, one};
+ghost use Rattle.regmodel.specs.Prelude.{Replies};
+ghost use Rattle.regmodel.specs.Reply.{one};
 ghost use Rattle.uses.specs.declared.kinds.Use.TheVariants as kind;
 ghost use Rattle.natives.specs.Makes.{IsMadeFor};
 ghost use Rattle.natives.specs.Puts.{ArePut};

@@ -1,7 +1,7 @@
 use Rattle.std.proofs.Common.{◌∙◌, ◌+◌, ◌∷◌, ◌++◌, ap, arith, take}
 use Rattle.std.specs.Prelude.{slice_set}
 use Rattle.std.proofs.lemmas.List.{get_or_default}
-use Rattle.regmodel.specs.OfProg.{program_of}
+use Rattle.regmodel.specs.Prelude.{program_of}
 use Rattle.machine.specs.Keeping.{blank}
 use Rattle.machine.specs.Rest.{rest_in}
 use Rattle.machine.specs.declared.states.Kept.{Kept}

@@ -1,5 +1,5 @@
 use Rattle.std.proofs.Common.{ap, arith}
-use Rattle.regmodel.specs.Blocks.{block_of}
+use Rattle.regmodel.specs.Prelude.{block_of}
 use Rattle.regmodel.specs.Limits.{statements}
 use Rattle.regmodel.proofs.Blocks.{statements-step, with_stmt_if, with_stmt_repeat}
 use Rattle.machine.proofs.NumberedBlocks.{statements_left}

@@ -1,5 +1,5 @@
 use Rattle.std.proofs.Common.{◌≡◌, ◌+◌, ◌*◌, drop}
-use Rattle.regmodel.specs.Blocks.{block_of, with_stmt}
+use Rattle.regmodel.specs.Prelude.{block_of, with_stmt}
 use Rattle.regmodel.specs.Limits.{statements}
 use Rattle.regmodel.specs.Program.{Stop}
 use Rattle.machine.proofs.numbering.+numbers.Given as goal

@@ -1,15 +1,14 @@
 use Rattle.std.proofs.Common.{◌+◌, [], ◌∷◌, drop, get_or, Ok, refl, ap, sym, subst, ◌∙◌, arith}
 use Rattle.std.proofs.lemmas.Result.{err_from_is_err_and}
-use Rattle.regmodel.specs.Act.{exec, times}
-use Rattle.regmodel.specs.Blocks.{with_stmt, block_of}
+use Rattle.regmodel.specs.Prelude.{exec, times, with_stmt, block_of}
+use Rattle.regmodel.specs.declared.accesses.Access.TheVariants.{Read}
 use Rattle.machine.specs.declared.run.Frame.{Frame}
-use Rattle.machine.specs.declared.run.Part.TheVariants.{Reading, Turn}
-use Rattle.machine.specs.declared.values.Place.TheVariants.{Var}
-use Rattle.machine.specs.Stores.{env_of, as_place}
+use Rattle.machine.specs.declared.run.Part.TheVariants.{At, Turn}
+use Rattle.machine.specs.declared.values.Destination.TheVariants.{Nowhere}
+use Rattle.machine.specs.Stores.{env_of}
 use Rattle.machine.specs.Paths.{resume}
 use Rattle.machine.specs.Exits.{stmt_flow, StmtAsks, BlockAsks, IsWanting}
 use Rattle.machine.proofs.Blocks.{if_block, repeat_block}
-use Rattle.regmodel.specs.Values.{store}
 use Rattle.machine.proofs.RunnableBlocks.{can_run_arm, can_run_at, can_run_repeat}
 use Rattle.machine.proofs.BlockEnds.{access_ended, arm_asks, arm_flow, resume-ended, turn_ended}
 use Rattle.machine.proofs.ProgramSteps.{resume-set, resume-at, resume-past, arm_part, turn_part, arm_block}
@@ -17,7 +16,7 @@ use Rattle.machine.proofs.StoppedPrograms.{wanting_within, wanting_turn}
 use Rattle.machine.proofs.resume.+resume.Goals as goal
 
 abbrev none : Frame
-none = record { at = 0; part = Reading 0 (Var 0) }
+none = record { at = 0; part = At (Read 0) Nowhere }
 
 pub resume_block-unreachable-requires : goal.resume_block-unreachable-requires
 resume_block-unreachable-requires t c =
@@ -82,20 +81,9 @@ resume_block-returns-in-Halts t c =
       asks = tt;
     }
 
-pub resume_stmt-returns-in-Reading : goal.resume_stmt-returns-in-Reading
-resume_stmt-returns-in-Reading t c = λ rest.
-    let w = c.in-Reading in
-    let old = env_of c.args.store.now in
-    let stored = ap (λ v. store old (as_place w.place) v) (sym c.value_of.ensures) ∙ sym c.put.ensures in
-    access_ended c.args.part _ c.args.registers (drop (c.args.depth + 1) c.args.answer.now.frames.now) _ c.args.stmt.now rest old _ _ c.args.answer.now.reply.now w.is (λ s. refl) stored
-
-pub resume_stmt-returns-in-Writing : goal.resume_stmt-returns-in-Writing
-resume_stmt-returns-in-Writing t c = λ rest.
-    access_ended c.args.part _ c.args.registers (drop (c.args.depth + 1) c.args.answer.now.frames.now) _ c.args.stmt.now rest (env_of c.args.store.now) _ _ c.args.answer.now.reply.now c.in-Writing.is (λ s. refl) refl
-
-pub resume_stmt-returns-in-Scanning : goal.resume_stmt-returns-in-Scanning
-resume_stmt-returns-in-Scanning t c = λ rest.
-    access_ended c.args.part _ c.args.registers (drop (c.args.depth + 1) c.args.answer.now.frames.now) _ c.args.stmt.now rest (env_of c.args.store.now) _ _ c.args.answer.now.reply.now c.in-Scanning.is (λ s. refl) (sym c.put_from.ensures)
+pub resume_stmt-returns-in-At : goal.resume_stmt-returns-in-At
+resume_stmt-returns-in-At t c = λ rest.
+    access_ended c.args.part _ _ c.args.registers (drop (c.args.depth + 1) c.args.answer.now.frames.now) _ c.args.stmt.now rest (env_of c.args.store.now) _ c.args.answer.now.reply.now c.in-At.is (sym c.put_reply.ensures)
 
 pub resume_stmt-resume_block-exit-requires : goal.resume_stmt-resume_block-exit-requires
 resume_stmt-resume_block-exit-requires t c =

@@ -1,7 +1,6 @@
 use Rattle.std.proofs.Common.{◌+◌, ◌-◌, [], drop, Ok, refl, ap, sym, subst, ◌∙◌, arith}
 use Rattle.std.proofs.lemmas.Result.{err_from_is_err_and}
-use Rattle.regmodel.specs.Act.{exec, times, then_do}
-use Rattle.regmodel.specs.Blocks.{with_stmt, block_of}
+use Rattle.regmodel.specs.Prelude.{exec, times, then_do, with_stmt, block_of}
 use Rattle.regmodel.specs.Program as program
 use Rattle.machine.specs.declared.run.Part.TheVariants.{Turn}
 use Rattle.machine.specs.Paths.{resume}

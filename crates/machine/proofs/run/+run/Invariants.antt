@@ -1,7 +1,5 @@
 use Rattle.std.proofs.Common.{◌≡◌, ◌+◌, ◌-◌, ◌*◌, drop, length}
-use Rattle.regmodel.specs.Reply.{Replies}
-use Rattle.regmodel.specs.Act.{exec, times}
-use Rattle.regmodel.specs.Blocks.{block_of}
+use Rattle.regmodel.specs.Prelude.{Replies, exec, times, block_of}
 use Rattle.machine.specs.Stores.{env_of}
 use Rattle.machine.proofs.run.+run.Given as goal
 

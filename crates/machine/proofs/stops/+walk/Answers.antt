@@ -1,7 +1,6 @@
 use Rattle.std.proofs.Common.{◌≡◌, ◌+◌, ◌-◌, [], drop, ap, sym, subst, ◌∙◌, arith}
 use Rattle.std.proofs.lemmas.Result.{err_from_is_err_and}
-use Rattle.regmodel.specs.Act.{exec, times}
-use Rattle.regmodel.specs.Blocks.{block_of, with_stmt}
+use Rattle.regmodel.specs.Prelude.{exec, times, block_of, with_stmt}
 use Rattle.regmodel.specs.Limits.{statements}
 use Rattle.regmodel.specs.Program as program
 use Rattle.regmodel.specs.Program.{Stop}

@@ -1,8 +1,5 @@
 use Rattle.std.proofs.Common.{◌≡◌, ◌+◌, ◌-◌, ◌*◌, drop, Option}
-use Rattle.regmodel.specs.Reply.{Replies}
-use Rattle.regmodel.specs.Values.{Env}
-use Rattle.regmodel.specs.Act.{exec, times}
-use Rattle.regmodel.specs.Blocks.{block_of, with_stmt}
+use Rattle.regmodel.specs.Prelude.{Replies, Env, exec, times, block_of, with_stmt}
 use Rattle.regmodel.specs.Limits.{statements}
 use Rattle.regmodel.specs.Program.{Stop, If, Repeat}
 use Rattle.machine.specs.Stops.{in_turns, past, stops_in}

@@ -1,6 +1,6 @@
 use Rattle.std.proofs.Common.{◌≡◌, None, Ok, Err, Result, refl, ap, sym, ◌∙◌}
 use Rattle.std.specs.Result.{result_err}
-use Rattle.regmodel.specs.Blocks.{block_of}
+use Rattle.regmodel.specs.Prelude.{block_of}
 use Rattle.machine.specs.declared.stops.Stopped.{Stopped}
 use Rattle.machine.specs.declared.stops.Walk.{Walk}
 use Rattle.machine.specs.Stops.{stops_in}

@@ -1,7 +1,6 @@
 use Rattle.std.proofs.Common.{◌≡◌, IfSome, ap, sym, subst, ◌∙◌}
 use Rattle.std.specs.Prelude.{replicate}
-use Rattle.regmodel.specs.Blocks.{block_of}
-use Rattle.regmodel.specs.OfProg.{program_of}
+use Rattle.regmodel.specs.Prelude.{block_of, program_of}
 use Rattle.machine.specs.declared.states.Kept.{Kept}
 use Rattle.machine.specs.Lasts.{EndsBy, WritesBy, accesses_of, last_write}
 use Rattle.machine.specs.Rest.{Asks}

@@ -1,6 +1,6 @@
 use Rattle.std.proofs.Common.{ℕ, ◌+◌, List, ap, arith, length, refl, subst, sym}
 use Rattle.std.proofs.lemmas.List.{length-set}
-use Rattle.regmodel.specs.OfProg.{program_of}
+use Rattle.regmodel.specs.Prelude.{program_of}
 use Rattle.machine.specs.declared.states.Kept.{Kept}
 use Rattle.machine.specs.Keeping.{IsKept, LeadsTo, state_at}
 use Rattle.machine.specs.Rest.{Asks}

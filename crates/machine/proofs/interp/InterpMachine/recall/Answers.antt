@@ -1,6 +1,5 @@
 use Rattle.std.proofs.Common.{◌∙◌, arith, refl, rules}
-use Rattle.regmodel.specs.Act.{act_of}
-use Rattle.regmodel.specs.OfProg.{program_of}
+use Rattle.regmodel.specs.Prelude.{act_of, program_of}
 use Rattle.machine.proofs.KeptStates.{led_on}
 use Rattle.machine.proofs.interp.InterpMachine.recall.Goals as goal
 

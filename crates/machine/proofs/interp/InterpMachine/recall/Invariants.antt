@@ -1,8 +1,6 @@
 use Rattle.std.proofs.Common.{◌≡◌, ◌++◌, ◌<◌, map, take}
-use Rattle.regmodel.specs.Act.{act_of}
+use Rattle.regmodel.specs.Prelude.{act_of, program_of, Replies}
 use Rattle.regmodel.specs.Kept.{values_in}
-use Rattle.regmodel.specs.OfProg.{program_of}
-use Rattle.regmodel.specs.Reply.{Replies}
 use Rattle.machine.specs.Keeping.{state_at}
 use Rattle.machine.specs.Rest.{rest_in}
 use Rattle.machine.proofs.interp.InterpMachine.recall.Given as goal

@@ -1,5 +1,5 @@
 use Rattle.std.proofs.Common.{subst, sym, ◌∙◌}
-use Rattle.regmodel.specs.OfProg.{program_of}
+use Rattle.regmodel.specs.Prelude.{program_of}
 use Rattle.told.specs.Numbers.{numbers_in}
 use Rattle.machine.specs.Rest.{rest_in}
 use Rattle.machine.specs.Standings.{resumed_by}

@@ -1,6 +1,7 @@
 use Rattle.std.proofs.Common.{◌≡◌, suc, ◌+◌, ◌-◌, [], ◌∷◌, ap, sym, ◌∙◌, arith, rules}
 use Rattle.regmodel.specs.declared.accesses.Pending.{Pending}
-use Rattle.regmodel.specs.Reply.{Replies, one}
+use Rattle.regmodel.specs.Prelude.{Replies}
+use Rattle.regmodel.specs.Reply.{one}
 use Rattle.natives.specs.declared.grid.Grid.{Grid}
 use Rattle.natives.specs.declared.grid.Stage.TheVariants.{At}
 use Rattle.natives.specs.declared.splitters.Step.{Step}

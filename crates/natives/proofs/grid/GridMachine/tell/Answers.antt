@@ -1,5 +1,5 @@
 use Rattle.std.proofs.Common.{◌≡◌, ◌-◌, refl, sym, ◌∙◌}
-use Rattle.regmodel.specs.Reply.{Replies}
+use Rattle.regmodel.specs.Prelude.{Replies}
 use Rattle.machine.proofs.StandingNumbers.{where_some}
 use Rattle.natives.specs.declared.grid.Grid.{Grid}
 use Rattle.natives.specs.declared.grid.Stage.{Stage}

@@ -1,5 +1,5 @@
 use Rattle.std.proofs.Common.{◌≡◌, ◌-◌}
-use Rattle.regmodel.specs.Reply.{Replies}
+use Rattle.regmodel.specs.Prelude.{Replies}
 use Rattle.natives.specs.Trees.{from_past}
 use Rattle.natives.proofs.trees.Tree.next_reached.Given as goal
 

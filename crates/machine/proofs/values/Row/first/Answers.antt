@@ -2,7 +2,7 @@ use Rattle.std.proofs.Common.{◌≡◌, ◌∙◌, rules, ap, sym, length, take
 use Rattle.std.proofs.lemmas.List.{take_min}
 use Rattle.machine.specs.Sparse.{sparse}
 use Rattle.machine.proofs.PaddedValues.{sparse-padded}
-use Rattle.machine.proofs.rows.Row.first.Goals as goal
+use Rattle.machine.proofs.values.Row.first.Goals as goal
 
 pub returns-clause-told : goal.returns-clause-told
 returns-clause-told g c =

@@ -2,7 +2,7 @@ use Rattle.std.proofs.Common.{◌≡◌, ◌∙◌, rules, ap, arith, add-one, l
 use Rattle.std.specs.Prelude.{set}
 use Rattle.machine.specs.Stores.{padded, values_of}
 use Rattle.machine.proofs.PaddedValues.{length-padded, padded-more, set-below, set-past}
-use Rattle.machine.proofs.rows.Row.put.Goals as goal
+use Rattle.machine.proofs.values.Row.put.Goals as goal
 
 pub loop-self-preserved : goal.loop-self-preserved
 loop-self-preserved g c =

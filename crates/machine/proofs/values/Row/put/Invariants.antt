@@ -1,6 +1,6 @@
 use Rattle.std.proofs.Common.{◌≡◌, ◌+◌, ◌-◌}
 use Rattle.machine.specs.Stores.{values_of}
-use Rattle.machine.proofs.rows.Row.put.Given as goal
+use Rattle.machine.proofs.values.Row.put.Given as goal
 
 abbrev pub invariant-loop-self : goal.invariant-loop-self
 invariant-loop-self g l = values_of l.self ≡ values_of l.fn.self

@@ -1,7 +1,7 @@
 use Rattle.std.proofs.Common.{◌≡◌, rules, arith, length}
 use Rattle.machine.proofs.PaddedValues.{get-behind, get-below, get-past}
-use Rattle.machine.proofs.rows.Row.get.Goals as goal
-use Rattle.machine.proofs.rows.Row.get.Goals.{else-i-self-via-then-i-self+else-i, else-i-self-via-else-i-self}
+use Rattle.machine.proofs.values.Row.get.Goals as goal
+use Rattle.machine.proofs.values.Row.get.Goals.{else-i-self-via-then-i-self+else-i, else-i-self-via-else-i-self}
 
 pub returns-then-i : goal.returns-then-i
 returns-then-i g c = get-below c.args.self.now.count c.args.self.now.places c.args.i (omega (arith, c.if-i-self.true))
