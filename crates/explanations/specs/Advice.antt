@@ -16,19 +16,23 @@ use Rattle.reglang.specs.declared.words.Word.{Word}
 
 -- what to change where the end of a text is misplaced, or a line with this first word
 abbrev pub move_words : Culprit → Word → Option Opened → List ℕ
-move_words culprit first opened = if is_end culprit then end_words opened else place_words first opened
+move_words culprit first opened =
+    if is_end culprit then end_words opened else place_words first opened
 
 -- what to change where a limit is passed
 abbrev pub stay_words : Culprit → List (List ℕ) → List ℕ
 stay_words culprit line =
     if is_line culprit then limit_of line else
-    (if is_end culprit then codes "write at least one process" else codes "write a number up to 1000000000")
+    (if is_end culprit then codes "write at least one process"
+    else codes "write a number up to 1000000000")
 
 -- what to change in a line with this fault, where this is at fault and this block is open
 abbrev pub fault_advice : LineFault → Culprit → List (List ℕ) → Option Opened → List ℕ
-fault_advice fault.NotPrintable culprit line opened = codes "use spaces, and no other bytes than those from space to ~; end each line with a line feed alone"
+fault_advice fault.NotPrintable culprit line opened =
+    codes "use spaces, and no other bytes than those from space to ~; end each line with a line feed alone"
 fault_advice fault.UnknownWord culprit line opened = hint_of line
-fault_advice fault.NoNumber culprit line opened = codes "write a number with digits alone, and without a 0 before others"
+fault_advice fault.NoNumber culprit line opened =
+    codes "write a number with digits alone, and without a 0 before others"
 fault_advice fault.NoForm culprit line opened = wanted_form line
 fault_advice fault.Misplaced culprit line opened = move_words culprit (first_of line) opened
 fault_advice fault.PastLimit culprit line opened = stay_words culprit line

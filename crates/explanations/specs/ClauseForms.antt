@@ -28,7 +28,8 @@ parting others = if others == 0 then [] else (if others == 1 then codes " and " 
 -- the clauses of these properties, parted by commas, and by `and` before the last
 abbrev pub clauses_listed : List Property → List ℕ
 clauses_listed [] = []
-clauses_listed (property ∷ others) = (clause_words property ++ parting (length others)) ++ clauses_listed others
+clauses_listed (property ∷ others) =
+    (clause_words property ++ parting (length others)) ++ clauses_listed others
 
 -- the form of a check of this property, or of any one
 abbrev pub check_form : Option Property → List ℕ

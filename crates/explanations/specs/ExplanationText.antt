@@ -19,7 +19,9 @@ use Rattle.explanations.specs.Shown.{is_shown, printable_text, shown}
 -- what is at fault: the end of the text where it is told to be, else a word of the line where there
 -- is one, else the line
 abbrev pub culprit_of : Rejection → List ℕ → Culprit
-culprit_of rejection line = if rejection.is_of_end then End else (if is_some (word_at_fault rejection.refusal line) then Word else Line)
+culprit_of rejection line =
+    if rejection.is_of_end then End
+    else (if is_some (word_at_fault rejection.refusal line) then Word else Line)
 
 -- a word, where there is one
 abbrev pub maybe_word_text : Option (List ℕ) → List ℕ
@@ -28,7 +30,9 @@ maybe_word_text None = []
 
 -- the byte of a line at this place, where there is one; columns are counted from 1
 abbrev pub maybe_byte_text : List ℕ → Option ℕ → List ℕ
-maybe_byte_text line (Some place) = codes ": byte " ++ decimal (slice_index line place) ++ codes " in column " ++ decimal (place + 1)
+maybe_byte_text line (Some place) =
+    codes ": byte " ++ decimal (slice_index line place) ++ codes " in column "
+    ++ decimal (place + 1)
 maybe_byte_text line None = []
 
 -- the first byte of a line that is not printable ASCII
@@ -47,11 +51,13 @@ word_text rejection line =
 
 -- what is wrong, and the word or byte at fault
 abbrev pub fault_text : Rejection → List ℕ → List ℕ
-fault_text rejection line = wrong_text rejection.refusal (culprit_of rejection line) ++ word_text rejection line
+fault_text rejection line =
+    wrong_text rejection.refusal (culprit_of rejection line) ++ word_text rejection line
 
 -- where the line comes from, and what is wrong
 abbrev pub heading : List ℕ → ℕ → Rejection → List ℕ → List ℕ
-heading path number rejection line = path ++ codes ":" ++ decimal number ++ codes ": " ++ fault_text rejection line ++ codes "\n"
+heading path number rejection line =
+    path ++ codes ":" ++ decimal number ++ codes ": " ++ fault_text rejection line ++ codes "\n"
 
 -- what is wrong with the text at this line, which is the one with this number in this file, the
 -- line, and what to change where this block is open
@@ -67,11 +73,17 @@ lines_before rejection = if rejection.is_of_end then rejection.line else rejecti
 -- a block of a text, with the numbers that are told of its lines
 abbrev pub block_told : List ℕ → Option Opened → Option Opened
 block_told text (Some opened) =
-    Some (record { block = opened.block; line = line_told text opened.line; else_line = option_map (line_told text) opened.else_line })
+    Some
+    (record {
+      block = opened.block;
+      line = line_told text opened.line;
+      else_line = option_map (line_told text) opened.else_line;
+    })
 block_told text None = None
 
 -- what is wrong with a text that is refused, in the file of this path
 abbrev pub explained : List ℕ → List ℕ → Rejection → List ℕ
 explained path text rejection =
     line_explained (path_told path text rejection.line) (line_told text rejection.line) rejection
-    (shown (line_at rejection.line text)) (block_told text (innermost (open_after (lines_before rejection) text)))
+    (shown (line_at rejection.line text))
+    (block_told text (innermost (open_after (lines_before rejection) text)))

@@ -22,7 +22,8 @@ is_operator_byte b = b == 43 || (b == 45 || (b == 42 || (b == 61 || (b == 60 || 
 
 -- where no more is known of a word
 abbrev pub any_word : List ℕ
-any_word = codes "write numbers, variables v0 to v15, cells [0] to [31] or [v0] to [v15], and operators + - * = < behind the first word"
+any_word =
+    codes "write numbers, variables v0 to v15, cells [0] to [31] or [v0] to [v15], and operators + - * = < behind the first word"
 
 -- of a word that begins with this byte
 abbrev pub hint_of_start : ℕ → List ℕ
@@ -33,15 +34,19 @@ hint_of_start b =
 -- of a word that begins with this byte, and has a byte of an operator or not, and a bracket or not
 abbrev pub hint_with : ℕ → Bool → Bool → List ℕ
 hint_with b with_operator with_bracket =
-    if b == 45 then codes "there are no negative numbers; to subtract, write spaces around -, as in v0 - 1" else
+    if b == 45
+    then codes "there are no negative numbers; to subtract, write spaces around -, as in v0 - 1"
+    else
     (if b == 33 then codes "write A = 0 for not A" else
     (if with_operator then codes "part operands and operators by spaces, as in v0 + 1" else
-    (if with_bracket then codes "a cell is [0] to [31], or [v0] to [v15], and has no name before it" else hint_of_start b)))
+    (if with_bracket then codes "a cell is [0] to [31], or [v0] to [v15], and has no name before it"
+    else hint_of_start b)))
 
 -- of a word that stands for an operand or operator, by what it is made of
 abbrev pub operand_hint : List ℕ → List ℕ
 operand_hint [] = any_word
-operand_hint (b ∷ bs) = hint_with b (list_any is_operator_byte (b ∷ bs)) (list_any (λ it. it == 91) (b ∷ bs))
+operand_hint (b ∷ bs) =
+    hint_with b (list_any is_operator_byte (b ∷ bs)) (list_any (λ it. it == 91) (b ∷ bs))
 
 -- whether variables may stand at a place of this sort
 abbrev pub takes_variables : Sort → Bool
@@ -71,11 +76,13 @@ own_line_or _ other = other
 abbrev pub hint_of_shape : Keyword → List ℕ → List ℕ
 hint_of_shape key word =
     if begins_comment word then comment_words else
-    (if has_operands key then operand_hint word else codes "give the line its form: " ++ keyword_form key)
+    (if has_operands key then operand_hint word
+    else codes "give the line its form: " ++ keyword_form key)
 
 -- of a word behind this first one
 abbrev pub later_hint : Keyword → List ℕ → List ℕ
-later_hint key word = unwrap_or (idiom_of word) (own_line_or (word_of word) (hint_of_shape key word))
+later_hint key word =
+    unwrap_or (idiom_of word) (own_line_or (word_of word) (hint_of_shape key word))
 
 -- whether a word is a variable or a cell
 abbrev pub is_target : Word → Bool

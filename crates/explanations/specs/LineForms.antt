@@ -15,7 +15,8 @@ use Rattle.reglang.specs.declared.words.Word.TheVariants as word
 
 -- what an expression and an operand may be
 abbrev sorts_words : List ℕ
-sorts_words = codes "EXPR is an operand, or two with + - * = or < between them, and an operand is a number, a variable or a cell"
+sorts_words =
+    codes "EXPR is an operand, or two with + - * = or < between them, and an operand is a number, a variable or a cell"
 
 -- a first word, and nothing behind it
 abbrev pub alone_text : Keyword → List ℕ
@@ -35,7 +36,8 @@ keyword_form keyword.Read =
     codes "read TARGET OPERAND; TARGET is the variable or cell that takes the value, and OPERAND the register, as a number, a variable or a cell"
 keyword_form keyword.Write =
     codes "write OPERAND EXPR; OPERAND is the register, as a number, a variable or a cell, and EXPR is such an operand, or two with + - * = or < between them"
-keyword_form keyword.Scan = codes "scan CELL REG COUNT with three numbers: the first cell, the first register, and how many"
+keyword_form keyword.Scan =
+    codes "scan CELL REG COUNT with three numbers: the first cell, the first register, and how many"
 keyword_form keyword.If = codes "if EXPR; " ++ sorts_words
 keyword_form keyword.Repeat = codes "repeat EXPR; " ++ sorts_words
 keyword_form keyword.Emit = codes "emit EXPR; " ++ sorts_words

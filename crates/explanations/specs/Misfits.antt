@@ -56,7 +56,8 @@ first_that test (word ∷ more) = if test (word_of word) then Some word else fir
 abbrev pub first_misfit : List (Word → Bool) → List (List ℕ) → Option (List ℕ)
 first_misfit places [] = None
 first_misfit [] (word ∷ more) = Some word
-first_misfit (is_placed ∷ places) (word ∷ more) = if is_placed (word_of word) then first_misfit places more else Some word
+first_misfit (is_placed ∷ places) (word ∷ more) =
+    if is_placed (word_of word) then first_misfit places more else Some word
 
 -- the first word that has no place where words of these sorts are wanted
 abbrev pub misfit_of : List Sort → List (List ℕ) → Option (List ℕ)
@@ -88,7 +89,8 @@ misfit_after _ more = None
 -- unknown one, the first that is no number although it begins with a digit, the first that has no
 -- place in its line, or the first number that is past the greatest one
 abbrev pub at_fault : LineFault → List ℕ → List (List ℕ) → Option (List ℕ)
-at_fault fault.UnknownWord first more = if is_keyword (word_of first) then first_that is_unknown more else Some first
+at_fault fault.UnknownWord first more =
+    if is_keyword (word_of first) then first_that is_unknown more else Some first
 at_fault fault.NoNumber first more = first_that is_no_number more
 at_fault fault.NoForm first more = misfit_after (word_of first) more
 at_fault fault.PastLimit first more = first_that is_past more

@@ -63,7 +63,8 @@ closing_words closed None = no_block_text closed
 
 -- of a line with this first word
 abbrev pub place_words : Word → Option Opened → List ℕ
-place_words (word.Keyword keyword.Registers) opened = codes "write the registers line once, before all others"
+place_words (word.Keyword keyword.Registers) opened =
+    codes "write the registers line once, before all others"
 place_words (word.Keyword keyword.End) opened = closing_words block.Process opened
 place_words (word.Keyword keyword.Else) opened = closing_words block.If opened
 place_words (word.Keyword keyword.Fi) opened = closing_words block.If opened

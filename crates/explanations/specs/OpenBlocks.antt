@@ -19,7 +19,11 @@ without_one blocks = take (length blocks - 1) blocks
 
 -- that block with its else at the line with this number
 abbrev pub with_else : ℕ → Opened → Opened
-with_else number opened = record { block = opened.block; line = opened.line; else_line = Some number }
+with_else number opened = record {
+  block = opened.block;
+  line = opened.line;
+  else_line = Some number;
+}
 
 -- where the innermost of these has its else at the line with this number
 abbrev pub past_else : ℕ → Option Opened → List Opened → List Opened
@@ -32,9 +36,12 @@ innermost blocks = slice_get blocks (length blocks - 1)
 
 -- what is open behind a line with this number that says this, the innermost block last
 abbrev pub open_past : ℕ → Result (Option Line) LineFault → List Opened → List Opened
-open_past number (Ok (Some line.Process)) blocks = with_one blocks (record { block = block.Process; line = number; else_line = None })
-open_past number (Ok (Some (line.If test))) blocks = with_one blocks (record { block = block.If; line = number; else_line = None })
-open_past number (Ok (Some (line.Repeat count))) blocks = with_one blocks (record { block = block.Repeat; line = number; else_line = None })
+open_past number (Ok (Some line.Process)) blocks =
+    with_one blocks (record { block = block.Process; line = number; else_line = None })
+open_past number (Ok (Some (line.If test))) blocks =
+    with_one blocks (record { block = block.If; line = number; else_line = None })
+open_past number (Ok (Some (line.Repeat count))) blocks =
+    with_one blocks (record { block = block.Repeat; line = number; else_line = None })
 open_past number (Ok (Some line.Else)) blocks = past_else number (innermost blocks) blocks
 open_past number (Ok (Some line.End)) blocks = without_one blocks
 open_past number (Ok (Some line.Fi)) blocks = without_one blocks
@@ -44,7 +51,8 @@ open_past number _ blocks = blocks
 -- what is open behind these lines, which come after so many others
 abbrev pub open_behind : ℕ → List (List ℕ) → List Opened → List Opened
 open_behind before [] blocks = blocks
-open_behind before (line ∷ lines) blocks = open_behind (suc before) lines (open_past (suc before) (read_line line) blocks)
+open_behind before (line ∷ lines) blocks =
+    open_behind (suc before) lines (open_past (suc before) (read_line line) blocks)
 
 -- what is open behind the first so many lines of a text
 abbrev pub open_after : ℕ → List ℕ → List Opened

@@ -35,12 +35,14 @@ file_or_same None path = path
 
 -- the file of the line behind a line with these words, which is of this file
 abbrev pub path_past : List (List ℕ) → List ℕ → List ℕ
-path_past line path = if is_some (told_number line) then file_or_same (told_file line) path else path
+path_past line path =
+    if is_some (told_number line) then file_or_same (told_file line) path else path
 
 -- the number of the line behind these lines, of which the first has this number
 abbrev pub number_behind : ℕ → List (List ℕ) → ℕ
 number_behind number [] = number
-number_behind number (line ∷ lines) = number_behind (number_or_next (told_number (words line)) number) lines
+number_behind number (line ∷ lines) =
+    number_behind (number_or_next (told_number (words line)) number) lines
 
 -- and its file, where the first is of this file
 abbrev pub path_behind : List ℕ → List (List ℕ) → List ℕ

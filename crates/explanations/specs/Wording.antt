@@ -37,14 +37,24 @@ told_text (Move place) = place_text place
 
 -- what is wrong with a line or an end that has this fault, where this is at fault
 abbrev pub fault_words : LineFault → Culprit → List ℕ
-fault_words fault.NotPrintable culprit = codes "a byte that is not printable ASCII, such as a tab or the carriage return of a Windows line end"
+fault_words fault.NotPrintable culprit =
+    codes "a byte that is not printable ASCII, such as a tab or the carriage return of a Windows line end"
 fault_words fault.UnknownWord culprit = codes "an unknown word"
 fault_words fault.NoNumber culprit = codes "a word that begins with a digit and is no number"
-fault_words fault.NoForm culprit = if is_word culprit then codes "a word that has no place here" else codes "a word is missing at the end"
-fault_words fault.Misplaced culprit = if is_end culprit then codes "the text ends within a process" else codes "the line cannot stand here"
-fault_words fault.PastLimit culprit = if is_end culprit then codes "the text has no process" else codes "a limit is passed"
-fault_words fault.NoRegisters culprit = if is_end culprit then codes "the text has no registers line" else codes "no registers line comes first"
-fault_words fault.NoClause culprit = if is_word culprit then codes "a word that no clause has here" else codes "a word is missing at the end of the clause"
+fault_words fault.NoForm culprit =
+    if is_word culprit then codes "a word that has no place here"
+    else codes "a word is missing at the end"
+fault_words fault.Misplaced culprit =
+    if is_end culprit then codes "the text ends within a process"
+    else codes "the line cannot stand here"
+fault_words fault.PastLimit culprit =
+    if is_end culprit then codes "the text has no process" else codes "a limit is passed"
+fault_words fault.NoRegisters culprit =
+    if is_end culprit then codes "the text has no registers line"
+    else codes "no registers line comes first"
+fault_words fault.NoClause culprit =
+    if is_word culprit then codes "a word that no clause has here"
+    else codes "a word is missing at the end of the clause"
 
 -- what is wrong with a text that is refused so
 abbrev pub wrong_text : LineRefusal → Culprit → List ℕ

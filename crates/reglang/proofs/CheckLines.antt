@@ -1,13 +1,15 @@
 -- The checks of a text that spells a source are the lines of its clauses, one after another; and
 -- the reader keeps their numbers.
-use Rattle.std.proofs.Common.{◌≡◌, ℕ, zero, suc, ◌+◌, List, [], ◌∷◌, ◌++◌, length, length-append, map, append_assoc, append-nil, Option, Some, None, Result, Ok, inl, inr, refl, ap, sym, subst, ◌∙◌, arith, slice_get, MatchOption, IfSome}
+use Rattle.std.proofs.Common.{◌≡◌, ℕ, zero, suc, ◌+◌, ◌<◌, List, [], ◌∷◌, ◌++◌, length, get_or, length-append, map, append_assoc, append-nil, Option, Some, None, Result, Ok, inl, inr, refl, ap, sym, subst, ◌∙◌, arith, slice_get, MatchOption, IfSome}
 use Rattle.std.specs.Prelude.{option_map}
 use Rattle.std.specs.List.{flat_map}
 use Rattle.std.proofs.lemmas.Grind.{flat_map-append}
-use Rattle.std.proofs.lemmas.Option.{slice_get-map}
+use Rattle.std.proofs.lemmas.Option.{slice_get-get_or, slice_get-map, slice_get_within}
 use Rattle.regmodel.specs.declared.clauses.Clause.{Clause}
+use Rattle.regmodel.specs.declared.clauses.Clause.TheVariants.{NoFault}
+use Rattle.regmodel.specs.Prelude.{Block}
 use Rattle.regmodel.specs.Program as program
-use Rattle.regmodel.specs.Program.{Block, Simple}
+use Rattle.regmodel.specs.Program.{Simple}
 use Rattle.reglang.specs.Checks.{AreChecksOf, ChecksAt, checks_after, check_lines, number_of_check}
 use Rattle.reglang.specs.Contents.{Contents, Body, Text, Kind}
 use Rattle.reglang.specs.Drafts.{Reading, Empty, Between, Inside, Used, checks_in, take_if_said}
@@ -144,6 +146,20 @@ clause_stands text clauses i all (Some clause) h =
 -- of a text that spells a source, check i is that of clause i
 pub checks_stand : (text : List ℕ) (source : Contents) → Spells text source → AreChecksOf text source.clauses
 checks_stand text source spells i = clause_stands text source.clauses i (source_asks source (lines_said (lines text)) spells.says) (slice_get source.clauses i) refl
+
+-- clause i has a check line, which says it
+pub own_line : (text : List ℕ) (clauses : List Clause) (i : ℕ) → AreChecksOf text clauses → i < length clauses → MatchOption (slice_get (check_lines text) i) ⊥ (ChecksAt text (get_or clauses i NoFault))
+own_line text clauses i checks inside =
+    subst (λ found. IfSome found (λ own. MatchOption (slice_get (check_lines text) i) ⊥ (ChecksAt text own))) (slice_get-get_or clauses i NoFault inside) (checks i)
+
+-- a number that is told is one of these
+is_within : (Says : ℕ → Type 0) (numbers : List ℕ) (i : ℕ) (told : Option ℕ) → slice_get numbers i ≡ told → MatchOption told ⊥ Says → i < length numbers
+is_within Says numbers i None e h = absurd h
+is_within Says numbers i (Some number) e h = slice_get_within numbers i number e
+
+-- so there is a line for each clause
+pub line_of_each : (text : List ℕ) (clauses : List Clause) (i : ℕ) → AreChecksOf text clauses → i < length clauses → i < length (check_lines text)
+line_of_each text clauses i checks inside = is_within _ (check_lines text) i (slice_get (check_lines text) i) refl (own_line text clauses i checks inside)
 
 -- ---- the reader's loop: the numbers that are kept are those of the checks so far
 

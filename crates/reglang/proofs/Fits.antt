@@ -4,9 +4,10 @@ use Rattle.std.specs.Prelude.{if◌then◌else◌, ◌&&◌, nat_lt}
 use Rattle.std.proofs.lemmas.Bool.{and_parts, and_from, leb-true, ltb-true}
 use Rattle.std.proofs.lemmas.List.Elements.{All-append, All-from_recursion}
 use Rattle.regmodel.specs.declared.statements.Expr.{Expr}
+use Rattle.regmodel.specs.Prelude.{Block}
 use Rattle.regmodel.specs.Limits.{expr_fits, simple_fits, operands_fit, statements, nesting, open_blocks, open_repeats}
 use Rattle.regmodel.specs.Program as program
-use Rattle.regmodel.specs.Program.{Block, Simple, Stop}
+use Rattle.regmodel.specs.Program.{Simple, Stop}
 use Rattle.reglang.specs.Contents.{Contents, Body, Text, Kind, IsBodyWithin, IsSourceWithin, clause_fits}
 use Rattle.reglang.specs.Drafts.{Frame, First, Second, Turn, Reading, Empty, Between, Inside, Used, ◌⊕◌, turns, add_simple, enter, enter_else, leave, leave_if, leave_repeat, take_line, take_if_said, BlockFits, FramesFit, statements_around, ContentsFit, InsideFits, UsedFits, ReadingFits}
 use Rattle.reglang.specs.Forms.{read_line}

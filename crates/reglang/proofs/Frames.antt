@@ -5,8 +5,8 @@ use Rattle.std.proofs.lemmas.List.{map-append, reverse-append}
 use Rattle.std.proofs.lemmas.List.Recursion.{is_count_by}
 use Rattle.std.proofs.lemmas.Grind.{reverse_onto}
 use Rattle.reglang.specs.Drafts.{Frame, First, Second, Turn, frame_of, frames_of, turns, is_turn}
-use Rattle.reglang.specs.declared.open_process.Open.{Open}
-use Rattle.reglang.specs.declared.open_process.Open.TheVariants as opened
+use Rattle.reglang.specs.declared.draft.Open.{Open}
+use Rattle.reglang.specs.declared.draft.Open.TheVariants as opened
 
 -- the innermost stands last in memory
 frames-push : (xs : List Open) (x : Open) → frames_of (xs ++ x ∷ []) ≡ frame_of x ∷ frames_of xs

@@ -1,9 +1,9 @@
 -- Blocks one after another.
 use Rattle.std.proofs.Common.{◌≡◌, List, [], ◌∷◌, ◌++◌, refl, ap, ◌∙◌}
 use Rattle.regmodel.specs.declared.statements.Stmt.{Stmt}
+use Rattle.regmodel.specs.Prelude.{Block, block_of, with_stmt}
 use Rattle.regmodel.specs.declared.statements.Stmt.TheVariants as stmt
-use Rattle.regmodel.specs.Program.{Block, Stop, Do, If, Repeat, Halt}
-use Rattle.regmodel.specs.Blocks.{block_of, with_stmt}
+use Rattle.regmodel.specs.Program.{Stop, Do, If, Repeat, Halt}
 use Rattle.reglang.specs.Drafts.{◌⊕◌}
 
 -- a statement before a block

@@ -7,9 +7,10 @@ use Rattle.std.proofs.lemmas.List.{append-nil}
 use Rattle.std.proofs.lemmas.List.Elements.{recursion_from_All}
 use Rattle.regmodel.specs.declared.clauses.Clause.{Clause}
 use Rattle.regmodel.specs.declared.statements.Expr.{Expr}
+use Rattle.regmodel.specs.Prelude.{Block}
 use Rattle.regmodel.specs.Limits.{expr_fits, simple_fits, operands_fit, statements, open_blocks, open_repeats}
 use Rattle.regmodel.specs.Program as program
-use Rattle.regmodel.specs.Program.{Block, Simple, Stop}
+use Rattle.regmodel.specs.Program.{Simple, Stop}
 use Rattle.reglang.specs.Contents.{Contents, Body, Text, Kind, IsBodyWithin, IsSourceWithin}
 use Rattle.reglang.specs.Drafts.{Frame, First, Second, Turn, Reading, Empty, Between, Inside, Used, ◌⊕◌, turns, add, add_simple, enter, take_line, with_body, with_clause, BlockFits}
 use Rattle.reglang.specs.Grammar.{Begins, Then, BlockSays, ElseSays, BodySays, Part, Process, Check, PartSays, PartsSay, processes_in, clauses_in, LinesSay, simple_line}

@@ -1,5 +1,5 @@
 mod LineTexts
-mod CheckLines
+pub mod CheckLines
 mod ClausesFit
 mod Cuts
 mod Digits

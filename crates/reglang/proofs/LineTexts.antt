@@ -2,10 +2,9 @@
 use Rattle.std.proofs.Common.{◌≡◌, ℕ, false, eqb, List, [], ◌∷◌, ◌++◌, length, Result, Ok, Err, OnOk, codes, refl, ap, sym, ◌∙◌, append_assoc}
 use Rattle.std.proofs.lemmas.Grind.{flat_map-append}
 use Rattle.regmodel.specs.declared.statements.Expr.{Expr}
-use Rattle.regmodel.specs.Program as program
-use Rattle.regmodel.specs.Program.{Block}
-use Rattle.regmodel.specs.Blocks.{block_of, with_stmt}
 use Rattle.regmodel.specs.declared.statements.Stmt.{Stmt}
+use Rattle.regmodel.specs.Prelude.{Block, block_of, with_stmt}
+use Rattle.regmodel.specs.Program as program
 use Rattle.regmodel.specs.declared.statements.Stmt.TheVariants as stmt
 use Rattle.reglang.specs.Writing.{line_text, lines_text, else_lines, block_lines}
 use Rattle.reglang.specs.declared.arguments.Line.{Line}

@@ -5,16 +5,17 @@ use Rattle.std.proofs.lemmas.List.{length-map, length-reverse}
 use Rattle.std.specs.List.{count_by}
 use Rattle.std.specs.Prelude.{nat_lt, ◌&&◌}
 use Rattle.regmodel.specs.declared.statements.Expr.{Expr}
+use Rattle.regmodel.specs.Prelude.{Block}
 use Rattle.regmodel.specs.Limits.{expr_fits}
 use Rattle.regmodel.specs.Program as program
-use Rattle.regmodel.specs.Program.{Block, Stop}
+use Rattle.regmodel.specs.Program.{Stop}
 use Rattle.reglang.specs.Contents.{Contents}
 use Rattle.reglang.specs.Drafts.{Frame, First, Second, Turn, Inside, Reading, Answers, add, enter, leave_if, leave_repeat, turns, frame_of, frames_of, is_turn, ◌⊕◌}
 use Rattle.reglang.specs.declared.refusals.LineFault.{LineFault}
 use Rattle.reglang.specs.declared.refusals.LineFault.TheVariants.{PastLimit}
 use Rattle.reglang.proofs.Frames.{turns-held}
 use Rattle.reglang.specs.declared.draft.Draft.{Draft}
-use Rattle.reglang.specs.declared.open_process.Open.{Open}
+use Rattle.reglang.specs.declared.draft.Open.{Open}
 use Rattle.reglang.specs.declared.refusals.LineRefusal.{LineRefusal}
 
 pub added : (before : Contents) (frames : List Frame) (block : Block) (n : ℕ) (fits : Bool) (statement next : Block) → nat_lt n 200 ≡ true → fits ≡ true → next ≡ block ⊕ statement → add before frames block n fits statement ≡ Ok (Inside before frames next (n + 1))

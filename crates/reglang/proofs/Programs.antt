@@ -1,21 +1,17 @@
 -- Programs of a list, each within its limits.
-use Rattle.std.proofs.Common.{◌≡◌, ℕ, true, List, [], ◌∷◌, ◌++◌, ◌<◌, length, get_or, Some, None, Result, Ok, Err, map, refl, ap, sym, ◌∙◌, subst, arith}
+use Rattle.std.proofs.Common.{◌≡◌, ℕ, true, List, [], ◌∷◌, ◌++◌, ◌<◌, length, get_or, Some, Result, Ok, Err, map, refl, ap, sym, ◌∙◌, subst, arith}
 use Rattle.std.specs.List.{All, AllByRecursion}
 use Rattle.std.proofs.lemmas.List.Elements.{recursion_from_All, All-from_recursion}
-use Rattle.std.specs.Prelude.{IfOk, slice_get, option_and_then, option_map}
+use Rattle.std.specs.Prelude.{IfOk, slice_get, option_map}
 use Rattle.std.proofs.lemmas.Bool.{eqb-true}
-use Rattle.std.proofs.lemmas.Option.{get_or_from_slice_get, slice_get-map, slice_get_read, slice_get_within}
+use Rattle.std.proofs.lemmas.Option.{slice_get-map, slice_get_read}
 use Rattle.std.proofs.lemmas.List.{length-map}
 use Rattle.regmodel.specs.declared.memory.OutOfMemory.{OutOfMemory}
 use Rattle.regmodel.specs.declared.programs.Prog.{Prog}
 use Rattle.regmodel.specs.declared.statements.Stmt.{Stmt}
-use Rattle.regmodel.specs.Limits.{IsWithin}
-use Rattle.regmodel.specs.OfProg.{program_of}
-use Rattle.regmodel.specs.Program.{Block}
-use Rattle.regmodel.specs.Blocks.{block_of, with_stmt}
+use Rattle.regmodel.specs.Prelude.{IsWithin, program_of, Block, block_of, with_stmt}
 use Rattle.reglang.specs.Contents.{IsBodyWithin, program_over}
 use Rattle.reglang.specs.Bodies.{is_over, body_of}
-use Rattle.reglang.specs.Sources.{own_program}
 use Rattle.reglang.specs.declared.source.Process.{Process}
 use Rattle.reglang.specs.declared.source.Process.TheVariants as process
 use Rattle.uses.proofs.ExpansionLimits.{fitting}
@@ -46,21 +42,6 @@ program_at n ps i p below here (Ok prog) told =
     ∙ (ap (option_map (program_over n)) (slice_get-map body_of ps i)
     ∙ (ap (λ o. option_map (program_over n) (option_map body_of o)) (slice_get_read ps (length ps) i p refl inside here)
     ∙ ap Some (sym told)))
-
--- the program of its own that the process at a place has
-pub own_text : (n : ℕ) (ps : List Process) (i : ℕ) (prog : Prog) → All (λ p. is_over n p ≡ true) ps → slice_get ps i ≡ Some (process.Text prog) → Some (program_of prog) ≡ option_and_then (own_program n) (slice_get (map body_of ps) i)
-own_text n ps i prog fit here =
-    let over : is_over n (process.Text prog) ≡ true = subst (λ p. is_over n p ≡ true) (get_or_from_slice_get ps i (process.Text prog) (process.Text prog) here) (fit i (process.Text prog) (slice_get_within ps i (process.Text prog) here)) in
-    ap (λ m. Some (record { registers = m; body = block_of prog.body.items })) (eqb-true prog.registers n over)
-    ∙ sym (ap (option_and_then (own_program n)) (slice_get-map body_of ps i ∙ ap (option_map body_of) here))
-
--- a use line has none
-pub own_use : (n : ℕ) (ps : List Process) (i : ℕ) (kind : Use) → slice_get ps i ≡ Some (process.Use kind) → None ≡ option_and_then (own_program n) (slice_get (map body_of ps) i)
-own_use n ps i kind here = sym (ap (option_and_then (own_program n)) (slice_get-map body_of ps i ∙ ap (option_map body_of) here))
-
--- nor a process that is not there
-pub own_none : (n : ℕ) (ps : List Process) (i : ℕ) → slice_get ps i ≡ None → None ≡ option_and_then (own_program n) (slice_get (map body_of ps) i)
-own_none n ps i here = sym (ap (option_and_then (own_program n)) (slice_get-map body_of ps i ∙ ap (option_map body_of) here))
 
 body_fits : (n : ℕ) (p : Process) → is_over n p ≡ true → IsBodyWithin n (body_of p)
 body_fits n (process.Text prog) h = subst (λ m. IsWithin (record { registers = m; body = block_of prog.body.items })) (eqb-true prog.registers n h) (within_limits prog)

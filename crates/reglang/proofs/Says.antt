@@ -5,9 +5,10 @@ use Rattle.std.specs.Prelude.{if◌then◌else◌, ◌&&◌, nat_lt, max, option
 use Rattle.std.specs.List.{AllByRecursion}
 use Rattle.std.proofs.lemmas.Bool.{ltb-true, ltb-false}
 use Rattle.regmodel.specs.declared.clauses.Clause.{Clause}
+use Rattle.regmodel.specs.Prelude.{Block}
 use Rattle.regmodel.specs.Limits.{expr_fits, simple_fits, statements}
 use Rattle.regmodel.specs.Program as program
-use Rattle.regmodel.specs.Program.{Block, Simple, Stop}
+use Rattle.regmodel.specs.Program.{Simple, Stop}
 use Rattle.reglang.specs.Contents.{Contents, Body, Text, Kind, IsSourceWithin}
 use Rattle.reglang.specs.Drafts.{Frame, First, Second, Turn, Reading, Empty, Between, Inside, Used, ◌⊕◌, turns, add_simple, enter, enter_else, leave, leave_if, leave_repeat, take_line, take_if_said, contents_at_end, read_from, faulty_at, goes_on, statements_around, ContentsFit, InsideFits, ReadingFits}
 use Rattle.reglang.specs.Grammar.{Begins, Then, BlockSays, Part, Process, Check, PartSays, PartsSay, processes_in, clauses_in, LinesSay, lines_said, line_said, simple_line}

@@ -6,9 +6,10 @@ use Rattle.std.proofs.lemmas.List.{append_assoc}
 use Rattle.std.proofs.lemmas.List.Elements.{recursion_from_All}
 use Rattle.std.proofs.lemmas.List.Folds.{list_all-append}
 use Rattle.regmodel.specs.declared.clauses.Clause.{Clause}
+use Rattle.regmodel.specs.Prelude.{Block}
 use Rattle.regmodel.specs.Limits.{expr_fits, operands_fit, simple_fits}
 use Rattle.regmodel.specs.Program as program
-use Rattle.regmodel.specs.Program.{Block, Simple}
+use Rattle.regmodel.specs.Program.{Simple}
 use Rattle.reglang.specs.Contents.{IsSourceWithin, Body, Contents, IsBodyWithin, Kind, Text, clause_fits}
 use Rattle.reglang.specs.Grammar.{BlockSays, BodySays, Check, ElseSays, LinesSay, Part, PartSays, PartsSay, Process, Spells, clauses_in, processes_in, simple_line}
 use Rattle.uses.specs.Uses.{is_between, is_mark, use_fits}

@@ -27,7 +27,8 @@ line_with keyword.End [] = Some line.End
 line_with keyword.Set (Target to ∷ Expression value ∷ []) = Some (line.Set to value)
 line_with keyword.Read (Target to ∷ Operand from ∷ []) = Some (line.Read to from)
 line_with keyword.Write (Operand to ∷ Expression value ∷ []) = Some (line.Write to value)
-line_with keyword.Scan (Number cell ∷ Number first ∷ Number count ∷ []) = Some (line.Scan cell first count)
+line_with keyword.Scan (Number cell ∷ Number first ∷ Number count ∷ []) =
+    Some (line.Scan cell first count)
 line_with keyword.If (Expression test ∷ []) = Some (line.If test)
 line_with keyword.Else [] = Some line.Else
 line_with keyword.Fi [] = Some line.Fi
@@ -41,9 +42,12 @@ line_with _ _ = None
 abbrev pub use_with : Kind → List Argument → Option Use
 use_with kind.Split (Number base ∷ Number id ∷ []) = Some (use_line.Split base id)
 use_with kind.Grid (Number base ∷ Number side ∷ Number id ∷ []) = Some (use_line.Grid base side id)
-use_with kind.Tree (Number base ∷ Number depth ∷ Number id ∷ Number value ∷ []) = Some (use_line.Tree base depth id value)
-use_with kind.Name (Number base ∷ Number slots ∷ Number slot ∷ []) = Some (use_line.Name base slots slot)
-use_with kind.Names (Number base ∷ Number slots ∷ Number slot ∷ []) = Some (use_line.Names base slots slot)
+use_with kind.Tree (Number base ∷ Number depth ∷ Number id ∷ Number value ∷ []) =
+    Some (use_line.Tree base depth id value)
+use_with kind.Name (Number base ∷ Number slots ∷ Number slot ∷ []) =
+    Some (use_line.Name base slots slot)
+use_with kind.Names (Number base ∷ Number slots ∷ Number slot ∷ []) =
+    Some (use_line.Names base slots slot)
 use_with _ _ = None
 
 -- the clause that a property and arguments make
@@ -69,7 +73,8 @@ line_parts line.End = (keyword.End, [])
 line_parts (line.Set to value) = (keyword.Set, Target to ∷ Expression value ∷ [])
 line_parts (line.Read to from) = (keyword.Read, Target to ∷ Operand from ∷ [])
 line_parts (line.Write to value) = (keyword.Write, Operand to ∷ Expression value ∷ [])
-line_parts (line.Scan cell first count) = (keyword.Scan, Number cell ∷ Number first ∷ Number count ∷ [])
+line_parts (line.Scan cell first count) =
+    (keyword.Scan, Number cell ∷ Number first ∷ Number count ∷ [])
 line_parts (line.If test) = (keyword.If, Expression test ∷ [])
 line_parts line.Else = (keyword.Else, [])
 line_parts line.Fi = (keyword.Fi, [])
@@ -84,9 +89,12 @@ line_parts (line.Check clause) = (keyword.Check, [])
 abbrev pub use_parts : Use → Kind × List Argument
 use_parts (use_line.Split base id) = (kind.Split, Number base ∷ Number id ∷ [])
 use_parts (use_line.Grid base side id) = (kind.Grid, Number base ∷ Number side ∷ Number id ∷ [])
-use_parts (use_line.Tree base depth id value) = (kind.Tree, Number base ∷ Number depth ∷ Number id ∷ Number value ∷ [])
-use_parts (use_line.Name base slots slot) = (kind.Name, Number base ∷ Number slots ∷ Number slot ∷ [])
-use_parts (use_line.Names base slots slot) = (kind.Names, Number base ∷ Number slots ∷ Number slot ∷ [])
+use_parts (use_line.Tree base depth id value) =
+    (kind.Tree, Number base ∷ Number depth ∷ Number id ∷ Number value ∷ [])
+use_parts (use_line.Name base slots slot) =
+    (kind.Name, Number base ∷ Number slots ∷ Number slot ∷ [])
+use_parts (use_line.Names base slots slot) =
+    (kind.Names, Number base ∷ Number slots ∷ Number slot ∷ [])
 
 -- the property of a clause and its arguments
 abbrev pub clause_parts : Clause → Property × List Argument

@@ -20,7 +20,8 @@ number_of_check number _ = []
 -- the numbers of the checks among these lines, which come after so many others
 abbrev pub checks_after : ℕ → List (List ℕ) → List ℕ
 checks_after before [] = []
-checks_after before (line ∷ lines) = number_of_check (suc before) (read_line line) ++ checks_after (suc before) lines
+checks_after before (line ∷ lines) =
+    number_of_check (suc before) (read_line line) ++ checks_after (suc before) lines
 
 -- the numbers of the lines of a text that are checks, rising
 abbrev pub check_lines : List ℕ → List ℕ
@@ -34,4 +35,7 @@ pub record ChecksAt (text : List ℕ) (clause : Clause) (number : ℕ) : Type 0 
 
 -- the check of a clause i, counted from 0, is on check line i
 abbrev pub AreChecksOf : List ℕ → List Clause → Type 0
-AreChecksOf text clauses = (i : ℕ) → IfSome (slice_get clauses i) (λ clause. MatchOption (slice_get (check_lines text) i) ⊥ (ChecksAt text clause))
+AreChecksOf text clauses =
+    (i : ℕ)
+    → IfSome (slice_get clauses i)
+    (λ clause. MatchOption (slice_get (check_lines text) i) ⊥ (ChecksAt text clause))

@@ -20,9 +20,9 @@ use Rattle.reglang.specs.declared.source.Source.{Source}
 use Rattle.reglang.specs.Faults.{Opened, If, Else, Repeat, repeats_in}
 use Rattle.uses.specs.Uses.{is_between, use_fits}
 use Rattle.reglang.specs.declared.parts.Parts.{Parts}
-use Rattle.reglang.specs.declared.open_process.Open.{Open}
-use Rattle.reglang.specs.declared.open_process.Open.TheVariants as opened
-use Rattle.reglang.specs.declared.open_process.OpenProcess.{OpenProcess}
+use Rattle.reglang.specs.declared.draft.Open.{Open}
+use Rattle.reglang.specs.declared.draft.Open.TheVariants as opened
+use Rattle.reglang.specs.declared.draft.OpenProcess.{OpenProcess}
 use Rattle.reglang.specs.declared.draft.Draft.{Draft}
 use Rattle.reglang.specs.declared.draft.Draft.TheVariants as draft
 use Rattle.reglang.specs.declared.refusals.LineRefusal.{LineRefusal}
@@ -77,11 +77,15 @@ with_clause before clause = record before { clauses = before.clauses ++ clause �
 
 -- one statement more
 abbrev pub add : Contents → List Frame → Block → ℕ → Bool → Block → Result Reading LineFault
-add before frames block n fits statement = if nat_lt n MOST_STATEMENTS && fits then Ok (Inside before frames (block ⊕ statement) (suc n)) else Err PastLimit
+add before frames block n fits statement =
+    if nat_lt n MOST_STATEMENTS && fits
+    then Ok (Inside before frames (block ⊕ statement) (suc n))
+    else Err PastLimit
 
 -- one simple statement more, where a line is one
 abbrev pub add_simple : Contents → List Frame → Block → ℕ → Option Simple → Result Reading LineFault
-add_simple before frames block n (Some statement) = add before frames block n (simple_fits before.registers statement) (program.Do statement Stop)
+add_simple before frames block n (Some statement) =
+    add before frames block n (simple_fits before.registers statement) (program.Do statement Stop)
 add_simple before frames block n None = Err Misplaced
 
 -- one open block more
@@ -93,18 +97,22 @@ enter before frame frames n fits =
 
 -- the `else` of the innermost block, an `if` without one
 abbrev pub enter_else : Contents → List Frame → Block → ℕ → Result Reading LineFault
-enter_else before (First test outer ∷ frames) block n = Ok (Inside before (Second test block outer ∷ frames) Stop n)
+enter_else before (First test outer ∷ frames) block n =
+    Ok (Inside before (Second test block outer ∷ frames) Stop n)
 enter_else before frames block n = Err Misplaced
 
 -- the `fi` of the innermost block, an `if`, which is now a statement of the block around it
 abbrev pub leave_if : Contents → List Frame → Block → ℕ → Result Reading LineFault
-leave_if before (First test outer ∷ frames) block n = Ok (Inside before frames (outer ⊕ program.If test block Stop Stop) n)
-leave_if before (Second test first outer ∷ frames) block n = Ok (Inside before frames (outer ⊕ program.If test first block Stop) n)
+leave_if before (First test outer ∷ frames) block n =
+    Ok (Inside before frames (outer ⊕ program.If test block Stop Stop) n)
+leave_if before (Second test first outer ∷ frames) block n =
+    Ok (Inside before frames (outer ⊕ program.If test first block Stop) n)
 leave_if before frames block n = Err Misplaced
 
 -- the `done` of the innermost block, a `repeat`
 abbrev pub leave_repeat : Contents → List Frame → Block → ℕ → Result Reading LineFault
-leave_repeat before (Turn count outer ∷ frames) block n = Ok (Inside before frames (outer ⊕ program.Repeat count block Stop) n)
+leave_repeat before (Turn count outer ∷ frames) block n =
+    Ok (Inside before frames (outer ⊕ program.Repeat count block Stop) n)
 leave_repeat before frames block n = Err Misplaced
 
 -- the `end` of a process without open blocks
@@ -114,12 +122,18 @@ leave before (frame ∷ frames) block = Err Misplaced
 
 -- a use line, which stands alone
 abbrev pub stand_for : Contents → ℕ → Use → Result Reading LineFault
-stand_for before n kind = if nat_lt 0 n then Err Misplaced else (if use_fits kind before.registers then Ok (Used before kind) else Err PastLimit)
+stand_for before n kind =
+    if nat_lt 0 n then Err Misplaced
+    else (if use_fits kind before.registers then Ok (Used before kind) else Err PastLimit)
 
 -- one clause more, where there is one and room for it
 abbrev pub add_clause : Contents → Option Clause → Result Reading LineFault
-add_clause before (Some clause) = if nat_lt (length before.clauses) MOST_CHECKS then Ok (Between (with_clause before clause)) else Err PastLimit
-add_clause before None = if nat_lt (length before.clauses) MOST_CHECKS then Err NoClause else Err PastLimit
+add_clause before (Some clause) =
+    if nat_lt (length before.clauses) MOST_CHECKS
+    then Ok (Between (with_clause before clause))
+    else Err PastLimit
+add_clause before None =
+    if nat_lt (length before.clauses) MOST_CHECKS then Err NoClause else Err PastLimit
 
 -- so many registers, and nothing after them
 abbrev pub begun : ℕ → Contents
@@ -127,22 +141,29 @@ begun registers = record { registers = registers; processes = []; clauses = [] }
 
 -- the first line, one between processes, one of a process, and one after a use line; or its fault
 abbrev pub begin : Line → Result Reading LineFault
-begin (line.Registers n) = if is_between 1 MOST_REGISTERS n then Ok (Between (begun n)) else Err PastLimit
+begin (line.Registers n) =
+    if is_between 1 MOST_REGISTERS n then Ok (Between (begun n)) else Err PastLimit
 begin line.Process = Err NoRegisters
 begin (line.Check clause) = Err NoRegisters
 begin _ = Err Misplaced
 
 -- a line between processes
 abbrev pub take_between : Contents → Line → Result Reading LineFault
-take_between before line.Process = if nat_lt (length before.processes) MOST_PROCESSES then Ok (Inside before [] Stop 0) else Err PastLimit
+take_between before line.Process =
+    if nat_lt (length before.processes) MOST_PROCESSES
+    then Ok (Inside before [] Stop 0)
+    else Err PastLimit
 take_between before (line.Check clause) = add_clause before clause
 take_between before _ = Err Misplaced
 
 -- a line of a process
 abbrev pub take_inside : Contents → List Frame → Block → ℕ → Line → Result Reading LineFault
 take_inside before frames block n line.Halt = add before frames block n true (program.Halt Stop)
-take_inside before frames block n (line.If test) = enter before (First test block) frames n (expr_fits test)
-take_inside before frames block n (line.Repeat count) = enter before (Turn count block) frames n (expr_fits count && nat_lt (turns frames) MOST_OPEN_REPEATS)
+take_inside before frames block n (line.If test) =
+    enter before (First test block) frames n (expr_fits test)
+take_inside before frames block n (line.Repeat count) =
+    enter before (Turn count block) frames n
+    (expr_fits count && nat_lt (turns frames) MOST_OPEN_REPEATS)
 take_inside before frames block n line.Else = enter_else before frames block n
 take_inside before frames block n line.Fi = leave_if before frames block n
 take_inside before frames block n line.Done = leave_repeat before frames block n
@@ -178,7 +199,8 @@ take_if_said reading (Err fault) = Err fault
 -- what was read, at the end of a text; or its fault
 abbrev pub contents_at_end : Reading → Result Contents LineFault
 contents_at_end Empty = Err NoRegisters
-contents_at_end (Between before) = if nat_lt 0 (length before.processes) then Ok before else Err PastLimit
+contents_at_end (Between before) =
+    if nat_lt 0 (length before.processes) then Ok before else Err PastLimit
 contents_at_end (Inside before frames block n) = Err Misplaced
 contents_at_end (Used before kind) = Err Misplaced
 
@@ -188,14 +210,17 @@ faulty_at number (Ok x) = Ok x
 faulty_at number (Err fault) = Err (record { line = number; code = code_of fault })
 
 -- goes on with a value, or keeps the fault
-abbrev pub goes_on : {A B : Type 0} → Result A ReadFault → (A → Result B ReadFault) → Result B ReadFault
+abbrev pub goes_on :
+    {A B : Type 0} → Result A ReadFault → (A → Result B ReadFault) → Result B ReadFault
 goes_on (Ok x) f = f x
 goes_on (Err fault) f = Err fault
 
 -- what a text makes of what was read, where so many lines came before
 abbrev pub read_from : Reading → ℕ → List (List ℕ) → Result Contents ReadFault
 read_from reading n [] = faulty_at (max 1 n) (contents_at_end reading)
-read_from reading n (line ∷ lines) = goes_on (faulty_at (suc n) (take_if_said reading (read_line line))) (λ next. read_from next (suc n) lines)
+read_from reading n (line ∷ lines) =
+    goes_on (faulty_at (suc n) (take_if_said reading (read_line line)))
+    (λ next. read_from next (suc n) lines)
 
 -- ---- what is known of what was read
 
@@ -210,18 +235,21 @@ pub record BlockFits (registers blocks repeats : ℕ) (block : Block) : Type 0 w
 abbrev pub FramesFit : ℕ → List Frame → Block → Type 0
 FramesFit r [] block = BlockFits r 0 0 block
 FramesFit r (First test outer ∷ frames) block =
-    (expr_fits test ≡ true) × (BlockFits r (suc (length frames)) (turns frames) block × FramesFit r frames outer)
+    (expr_fits test ≡ true)
+    × (BlockFits r (suc (length frames)) (turns frames) block × FramesFit r frames outer)
 FramesFit r (Second test first outer ∷ frames) block =
     (expr_fits test ≡ true) × (BlockFits r (suc (length frames)) (turns frames) first
     × (BlockFits r (suc (length frames)) (turns frames) block × FramesFit r frames outer))
 FramesFit r (Turn count outer ∷ frames) block =
-    (expr_fits count ≡ true) × (BlockFits r (suc (length frames)) (suc (turns frames)) block × FramesFit r frames outer)
+    (expr_fits count ≡ true)
+    × (BlockFits r (suc (length frames)) (suc (turns frames)) block × FramesFit r frames outer)
 
 -- how many statements there are around the innermost block
 abbrev pub statements_around : List Frame → ℕ
 statements_around [] = 0
 statements_around (First test outer ∷ frames) = suc (statements outer + statements_around frames)
-statements_around (Second test first outer ∷ frames) = suc (statements first + statements outer + statements_around frames)
+statements_around (Second test first outer ∷ frames) =
+    suc (statements first + statements outer + statements_around frames)
 statements_around (Turn count outer ∷ frames) = suc (statements outer + statements_around frames)
 
 -- whole processes and checks within the limits
@@ -234,7 +262,8 @@ pub record ContentsFit (before : Contents) : Type 0 where
   pub clauses_fit : All (λ clause. clause_fits clause ≡ true) before.clauses
 
 -- a process so far within the limits
-pub record InsideFits (before : Contents) (frames : List Frame) (block : Block) (n : ℕ) : Type 0 where
+pub record InsideFits (before : Contents) (frames : List Frame) (block : Block)
+    (n : ℕ) : Type 0 where
   pub contents : ContentsFit before
   pub room : length before.processes < MOST_PROCESSES
   pub nested : FramesFit before.registers frames block
@@ -263,7 +292,8 @@ contents_before parts = contents_with parts.registers parts.processes.items part
 -- one open block
 abbrev pub frame_of : Open → Frame
 frame_of (opened.First test outer) = First test (block_of outer.items)
-frame_of (opened.Second test first outer) = Second test (block_of first.items) (block_of outer.items)
+frame_of (opened.Second test first outer) =
+    Second test (block_of first.items) (block_of outer.items)
 frame_of (opened.Turn count outer) = Turn count (block_of outer.items)
 
 -- open blocks, the innermost first; in memory it is the last
@@ -283,16 +313,20 @@ open_with before opens block n = Inside (contents_before before) (frames_of open
 
 -- an open process
 abbrev pub inside_of : OpenProcess → Reading
-inside_of process = open_with process.before process.blocks.items (block_of process.block.items) process.statements
+inside_of process =
+    open_with process.before process.blocks.items (block_of process.block.items) process.statements
 
 -- one statement more in it, where its operands are within their limits
 abbrev pub add_to : OpenProcess → Bool → Stmt → Result Reading LineFault
 add_to process fits stmt =
-    add (contents_before process.before) (frames_of process.blocks.items) (block_of process.block.items) process.statements fits (with_stmt stmt Stop)
+    add (contents_before process.before) (frames_of process.blocks.items)
+    (block_of process.block.items) process.statements fits (with_stmt stmt Stop)
 
 -- whether it has room for one more statement and one more block
 abbrev pub may_enter : OpenProcess → Bool
-may_enter process = nat_lt process.statements MOST_STATEMENTS && nat_lt (length process.blocks.items) MOST_OPEN_BLOCKS
+may_enter process =
+    nat_lt process.statements MOST_STATEMENTS
+    && nat_lt (length process.blocks.items) MOST_OPEN_BLOCKS
 
 -- statements and one more
 abbrev pub pushed : List Stmt → Stmt → Block
@@ -300,7 +334,8 @@ pushed stmts stmt = block_of stmts ⊕ with_stmt stmt Stop
 
 -- one more block is open, without statements so far
 abbrev pub entered : Parts → Open → List Open → ℕ → Reading
-entered before opened opens n = Inside (contents_before before) (frame_of opened ∷ frames_of opens) Stop (suc n)
+entered before opened opens n =
+    Inside (contents_before before) (frame_of opened ∷ frames_of opens) Stop (suc n)
 
 -- what was read so far
 abbrev pub reading_of : Draft → Reading
@@ -321,10 +356,12 @@ IsWantOf may_ask refusal.Memory = may_ask ≡ true
 
 -- the answer is what is expected, unless memory was refused
 abbrev pub Answers : Result Reading LineFault → Result Draft LineRefusal → Type 0
-Answers expected result = MatchResult result (λ draft. expected ≡ Ok (reading_of draft)) (IsRefusalOf expected)
+Answers expected result =
+    MatchResult result (λ draft. expected ≡ Ok (reading_of draft)) (IsRefusalOf expected)
 
 -- a line is answered as is expected, and memory is refused only where it may ask for it
-pub record AnswersLine (may_ask : Bool) (expected : Result Reading LineFault) (result : Result Draft LineRefusal) : Type 0 where
+pub record AnswersLine (may_ask : Bool) (expected : Result Reading LineFault)
+    (result : Result Draft LineRefusal) : Type 0 where
   pub answers : Answers expected result
   pub memory : IfErr result (IsWantOf may_ask)
 
@@ -332,5 +369,6 @@ pub record AnswersLine (may_ask : Bool) (expected : Result Reading LineFault) (r
 abbrev pub AnswersAtEnd : Reading → List ℕ → Result Source LineFault → Type 0
 AnswersAtEnd reading numbers result =
     MatchResult result
-    (λ source. (contents_at_end reading ≡ Ok (contents_of source)) × (check_lines_of source ≡ numbers))
+    (λ source. (contents_at_end reading ≡ Ok (contents_of source))
+    × (check_lines_of source ≡ numbers))
     (λ fault. contents_at_end reading ≡ Err fault)

@@ -35,16 +35,25 @@ no_process = refl
 pub open_process : first_fault (codes "registers 1" ▹ codes "process" ▹ codes "halt") ≡ at 3 5
 open_process = refl
 
-pub open_block : first_fault (codes "registers 1" ▹ codes "process" ▹ codes "if v0" ▹ codes "end" ▹ []) ≡ at 4 5
+pub open_block :
+    first_fault (codes "registers 1" ▹ codes "process" ▹ codes "if v0" ▹ codes "end" ▹ []) ≡ at 4 5
 open_block = refl
 
-pub registers_of_a_kind : first_fault (codes "registers 1" ▹ codes "process" ▹ codes "use split 0 1" ▹ codes "end" ▹ []) ≡ at 3 6
+pub registers_of_a_kind :
+    first_fault (codes "registers 1" ▹ codes "process" ▹ codes "use split 0 1" ▹ codes "end" ▹ [])
+    ≡ at 3 6
 registers_of_a_kind = refl
 
-pub line_after_use : first_fault (codes "registers 2" ▹ codes "process" ▹ codes "use split 0 1" ▹ codes "halt" ▹ codes "end" ▹ []) ≡ at 4 5
+pub line_after_use :
+    first_fault (codes "registers 2" ▹ codes "process" ▹ codes "use split 0 1" ▹ codes "halt"
+    ▹ codes "end" ▹ [])
+    ≡ at 4 5
 line_after_use = refl
 
-pub no_clause : first_fault (codes "registers 1" ▹ codes "process" ▹ codes "halt" ▹ codes "end" ▹ codes "check atmost 1" ▹ []) ≡ at 5 8
+pub no_clause :
+    first_fault (codes "registers 1" ▹ codes "process" ▹ codes "halt" ▹ codes "end"
+    ▹ codes "check atmost 1" ▹ [])
+    ≡ at 5 8
 no_clause = refl
 
 -- a tab, in a skipped line too
@@ -52,7 +61,10 @@ pub tab : first_fault ((codes "# a" ++ 9 ∷ []) ▹ codes "registers 1" ▹ [])
 tab = refl
 
 -- accepted: what faults only when it is run is no fault of the text
-pub count_past_the_limit : first_fault (codes "registers 1" ▹ codes "process" ▹ codes "repeat 100" ▹ codes "done" ▹ codes "end" ▹ []) ≡ None
+pub count_past_the_limit :
+    first_fault (codes "registers 1" ▹ codes "process" ▹ codes "repeat 100" ▹ codes "done"
+    ▹ codes "end" ▹ [])
+    ≡ None
 count_past_the_limit = refl
 
 pub nothing_to_do : first_fault (codes "registers 1" ▹ codes "process" ▹ codes "end" ▹ []) ≡ None
@@ -63,25 +75,31 @@ abbrev of_third_line : List ℕ → Option ReadFault
 of_third_line line = first_fault (codes "registers 2" ▹ codes "process" ▹ line ▹ codes "end" ▹ [])
 
 -- there is no variable v16, `scan` is no later word, and `names` no first one
-pub unknown_words : map of_third_line (codes "set v16 1" ∷ codes "read v0 scan" ∷ codes "names 0 2 0" ∷ []) ≡ replicate 3 (at 3 2)
+pub unknown_words :
+    map of_third_line (codes "set v16 1" ∷ codes "read v0 scan" ∷ codes "names 0 2 0" ∷ [])
+    ≡ replicate 3 (at 3 2)
 unknown_words = refl
 
 pub no_number : of_third_line (codes "emit 007") ≡ at 3 3
 no_number = refl
 
 -- an operand is missing, a number stands where a target goes, and a variable where a cell goes
-pub no_forms : map of_third_line (codes "emit" ∷ codes "set 5 v0" ∷ codes "scan v0 0 1" ∷ []) ≡ replicate 3 (at 3 4)
+pub no_forms :
+    map of_third_line (codes "emit" ∷ codes "set 5 v0" ∷ codes "scan v0 0 1" ∷ [])
+    ≡ replicate 3 (at 3 4)
 no_forms = refl
 
 -- a value past the limit, a slot past the last, a 33rd cell, a scan of nothing, and
 -- of a third register
 pub past_the_limits : map of_third_line
-    (codes "emit 1000000001" ∷ codes "use names 0 2 2" ∷ codes "scan 31 0 2" ∷ codes "scan 0 0 0" ∷ codes "scan 0 1 2" ∷ [])
+    (codes "emit 1000000001" ∷ codes "use names 0 2 2" ∷ codes "scan 31 0 2" ∷ codes "scan 0 0 0"
+    ∷ codes "scan 0 1 2" ∷ [])
     ≡ replicate 5 (at 3 6)
 past_the_limits = refl
 
 -- a scan of both registers, and the last slot
-pub no_faults : map of_third_line (codes "scan 0 0 2" ∷ codes "use names 0 2 1" ∷ []) ≡ replicate 2 None
+pub no_faults :
+    map of_third_line (codes "scan 0 0 2" ∷ codes "use names 0 2 1" ∷ []) ≡ replicate 2 None
 no_faults = refl
 
 -- whether no line of a text has a fault: then its end is at fault, or nothing
@@ -91,10 +109,14 @@ are_all_faultless text = are_faultless at_start (lines text)
 pub no_line : are_all_faultless [] ≡ true
 no_line = refl
 
-pub end_missing : are_all_faultless (codes "registers 1" ▹ codes "process" ▹ codes "if v0" ▹ codes "halt" ▹ []) ≡ true
+pub end_missing :
+    are_all_faultless (codes "registers 1" ▹ codes "process" ▹ codes "if v0" ▹ codes "halt" ▹ [])
+    ≡ true
 end_missing = refl
 
-pub fi_missing : are_all_faultless (codes "registers 1" ▹ codes "process" ▹ codes "if v0" ▹ codes "end" ▹ []) ≡ false
+pub fi_missing :
+    are_all_faultless (codes "registers 1" ▹ codes "process" ▹ codes "if v0" ▹ codes "end" ▹ [])
+    ≡ false
 fi_missing = refl
 
 pub process_before_registers : are_all_faultless (codes "process" ▹ codes "end" ▹ []) ≡ false
@@ -102,5 +124,8 @@ process_before_registers = refl
 
 -- memory may be refused at a statement and at the end of a process, and not where one begins, nor
 -- at a line that is skipped
-pub lines_that_ask : map (λ line. asks (read_line line)) (codes "halt" ∷ codes "end" ∷ codes "process" ∷ codes "# halt" ∷ []) ≡ true ∷ true ∷ false ∷ false ∷ []
+pub lines_that_ask :
+    map (λ line. asks (read_line line))
+    (codes "halt" ∷ codes "end" ∷ codes "process" ∷ codes "# halt" ∷ [])
+    ≡ true ∷ true ∷ false ∷ false ∷ []
 lines_that_ask = refl

@@ -96,7 +96,8 @@ at_start = record { registers = None; processes = 0; checks = 0; place = Outside
 -- after lines that were taken from there on
 abbrev pub context_after_lines : List Line → Context → Context
 context_after_lines [] context = context
-context_after_lines (line ∷ lines) context = context_after_lines lines (context_after_line line context)
+context_after_lines (line ∷ lines) context =
+    context_after_lines lines (context_after_line line context)
 
 -- ---- the conditions of the faults
 
@@ -181,7 +182,8 @@ has_turns place = nat_lt (repeats_in (opened_at place)) MOST_OPEN_REPEATS
 
 -- whether a simple statement, where a line is one, is within the limits
 abbrev pub is_simple_within : Context → Option Simple → Bool
-is_simple_within context (Some statement) = has_room context.place && simple_fits (unwrap_or context.registers 0) statement
+is_simple_within context (Some statement) =
+    has_room context.place && simple_fits (unwrap_or context.registers 0) statement
 is_simple_within context None = true
 
 -- whether a line is within the limits where it stands
@@ -190,8 +192,11 @@ is_within context (line.Registers n) = is_between 1 MOST_REGISTERS n
 is_within context line.Process = nat_lt context.processes MOST_PROCESSES
 is_within context (line.Check clause) = nat_lt context.checks MOST_CHECKS
 is_within context (line.Use kind) = use_fits kind (unwrap_or context.registers 0)
-is_within context (line.If test) = has_room context.place && expr_fits test && has_depth context.place
-is_within context (line.Repeat count) = has_room context.place && (expr_fits count && has_turns context.place) && has_depth context.place
+is_within context (line.If test) =
+    has_room context.place && expr_fits test && has_depth context.place
+is_within context (line.Repeat count) =
+    has_room context.place && (expr_fits count && has_turns context.place)
+    && has_depth context.place
 is_within context line.Halt = has_room context.place
 is_within context line = is_simple_within context (simple_of line)
 
@@ -235,7 +240,8 @@ end_fault context =
 abbrev pub are_faultless : Context → List (List ℕ) → Bool
 are_faultless context [] = true
 are_faultless context (line ∷ lines) =
-    is_none (fault_of_line context (read_line line)) && are_faultless (context_after_lines (line_said (read_line line)) context) lines
+    is_none (fault_of_line context (read_line line))
+    && are_faultless (context_after_lines (line_said (read_line line)) context) lines
 
 -- ---- where memory may be asked for
 
@@ -273,7 +279,8 @@ or_later None later = later
 abbrev pub fault_from : List (List ℕ) → List (List ℕ) → Option ReadFault
 fault_from before [] = at_line (max 1 (length before)) (end_fault (context_after before))
 fault_from before (line ∷ lines) =
-    or_later (at_line (suc (length before)) (fault_of_line (context_after before) (read_line line))) (fault_from (before ++ line ∷ []) lines)
+    or_later (at_line (suc (length before)) (fault_of_line (context_after before) (read_line line)))
+    (fault_from (before ++ line ∷ []) lines)
 
 -- the first fault of a text, where it has one
 abbrev pub first_fault : List ℕ → Option ReadFault
@@ -310,7 +317,9 @@ WantsMemory text fault = fault.code ≡ NO_MEMORY → RunsOut text fault.line
 
 -- it is told to be that of the end just where no line has one, unless memory was refused
 abbrev pub TellsEnd : List ℕ → Rejection → Type 0
-TellsEnd text rejection = (fault_of rejection).code ≢ NO_MEMORY → rejection.is_of_end ≡ are_faultless at_start (lines text)
+TellsEnd text rejection =
+    (fault_of rejection).code ≢ NO_MEMORY
+    → rejection.is_of_end ≡ are_faultless at_start (lines text)
 
 -- and never where memory was
 abbrev pub TellsMemory : Rejection → Type 0

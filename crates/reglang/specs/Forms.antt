@@ -62,7 +62,8 @@ _ ⊛ _ = None
 -- one operand, or two with an operator between them
 abbrev pub expr_of : List Word → Option Expr
 expr_of (a ∷ []) = Some expr.One ⊛ operand_of a
-expr_of (a ∷ op ∷ b ∷ []) = Some (λ x op y. expr.Two x op y) ⊛ operand_of a ⊛ operator_of op ⊛ operand_of b
+expr_of (a ∷ op ∷ b ∷ []) =
+    Some (λ x op y. expr.Two x op y) ⊛ operand_of a ⊛ operator_of op ⊛ operand_of b
 expr_of _ = None
 
 -- the kind that a word is
@@ -86,7 +87,8 @@ argument_of sort.Number word = option_map argument.Number (number_in word)
 argument_of (sort.NumberTo limit) word = option_map argument.Number (number_to limit word)
 argument_of sort.Target word = option_map argument.Target (target_of word)
 argument_of sort.Operand word = option_map argument.Operand (operand_of word)
-argument_of sort.Expression word = option_map (λ a. argument.Expression (expr.One a)) (operand_of word)
+argument_of sort.Expression word =
+    option_map (λ a. argument.Expression (expr.One a)) (operand_of word)
 
 -- an argument and those after it
 abbrev pub and_more : Option Argument → Option (List Argument) → Option (List Argument)
@@ -97,7 +99,8 @@ and_more argument more = Some (λ a rest. a ∷ rest) ⊛ argument ⊛ more
 abbrev pub arguments : List Sort → List Word → Option (List Argument)
 arguments [] [] = Some []
 arguments [] (word ∷ words) = None
-arguments (sort.Expression ∷ sorts) words = option_map (λ e. argument.Expression e ∷ []) (expr_of words)
+arguments (sort.Expression ∷ sorts) words =
+    option_map (λ e. argument.Expression e ∷ []) (expr_of words)
 arguments (sort ∷ sorts) [] = None
 arguments (sort ∷ sorts) (word ∷ words) = and_more (argument_of sort word) (arguments sorts words)
 
@@ -108,16 +111,19 @@ use_of kind words = option_and_then (use_with kind) (arguments (kind_sorts kind)
 -- what follows `use`: a kind and its arguments
 abbrev pub use_form : List Word → Option Line
 use_form [] = None
-use_form (word ∷ words) = option_map line.Use (option_and_then (λ kind. use_of kind words) (kind_of word))
+use_form (word ∷ words) =
+    option_map line.Use (option_and_then (λ kind. use_of kind words) (kind_of word))
 
 -- a property with its arguments
 abbrev pub property_clause : Property → List Word → Option Clause
-property_clause property words = option_and_then (clause_with property) (arguments (property_sorts property) words)
+property_clause property words =
+    option_and_then (clause_with property) (arguments (property_sorts property) words)
 
 -- what follows `check`: a property and its arguments
 abbrev pub clause_of : List Word → Option Clause
 clause_of [] = None
-clause_of (word ∷ words) = option_and_then (λ property. property_clause property words) (property_of word)
+clause_of (word ∷ words) =
+    option_and_then (λ property. property_clause property words) (property_of word)
 
 -- the line that a first word and those after it make
 abbrev pub form_of : Keyword → List Word → Option Line
@@ -171,4 +177,5 @@ read_line line = if is_printable line then line_of (words_said line) else Err No
 -- one word more is kept where there is room: whatever comes after, the first six are those that
 -- they would be
 abbrev pub KeepsFirst : List Word → Word → List Word → Type 0
-KeepsFirst old word new = (more : List Word) → take MOST_WORDS (new ++ more) ≡ take MOST_WORDS (old ++ word ∷ more)
+KeepsFirst old word new =
+    (more : List Word) → take MOST_WORDS (new ++ more) ≡ take MOST_WORDS (old ++ word ∷ more)

@@ -42,8 +42,10 @@ abbrev pub BlockSays : Block → List Line → Type 0
 BlockSays program.Stop lines = lines ≡ []
 BlockSays (program.Do statement rest) lines = Begins (simple_line statement) (BlockSays rest) lines
 BlockSays (program.If test first second rest) lines =
-    Begins (line.If test) (Then (BlockSays first) (Then (ElseSays second (BlockSays second)) (Begins line.Fi (BlockSays rest)))) lines
-BlockSays (program.Repeat count body rest) lines = Begins (line.Repeat count) (Then (BlockSays body) (Begins line.Done (BlockSays rest))) lines
+    Begins (line.If test) (Then (BlockSays first)
+    (Then (ElseSays second (BlockSays second)) (Begins line.Fi (BlockSays rest)))) lines
+BlockSays (program.Repeat count body rest) lines =
+    Begins (line.Repeat count) (Then (BlockSays body) (Begins line.Done (BlockSays rest))) lines
 BlockSays (program.Halt rest) lines = Begins line.Halt (BlockSays rest) lines
 
 -- its statements, or a use line alone
@@ -58,7 +60,8 @@ pub data Part : Type 0 where
 
 -- the lines of a process, or of a check
 abbrev pub PartSays : Part → List Line → Type 0
-PartSays (Process body) lines = Begins line.Process (Then (BodySays body) (λ last. last ≡ line.End ∷ [])) lines
+PartSays (Process body) lines =
+    Begins line.Process (Then (BodySays body) (λ last. last ≡ line.End ∷ [])) lines
 PartSays (Check clause) lines = lines ≡ line.Check (Some clause) ∷ []
 
 -- parts one after another

@@ -12,7 +12,9 @@ use Rattle.reglang.specs.declared.arguments.Line.TheVariants as line
 abbrev halts : Contents
 halts = record { registers = 1; processes = Text (Halt Stop) ∷ []; clauses = [] }
 
-pub a_process_that_halts : LinesSay halts (lines_said (codes "# done" ∷ codes "registers 1" ∷ codes "process" ∷ codes "  halt" ∷ [] ∷ codes "end" ∷ []))
+pub a_process_that_halts :
+    LinesSay halts (lines_said (codes "# done" ∷ codes "registers 1" ∷ codes "process"
+    ∷ codes "  halt" ∷ [] ∷ codes "end" ∷ []))
 a_process_that_halts = record {
   parts = Process (Text (Halt Stop)) ∷ [];
   whole = record {
@@ -25,7 +27,13 @@ a_process_that_halts = record {
       before = record {
         more = line.Halt ∷ line.End ∷ [];
         whole = refl;
-        holds = record { front = line.Halt ∷ []; back = line.End ∷ []; whole = refl; before = record { more = []; whole = refl; holds = refl }; after = refl };
+        holds = record {
+          front = line.Halt ∷ [];
+          back = line.End ∷ [];
+          whole = refl;
+          before = record { more = []; whole = refl; holds = refl };
+          after = refl;
+        };
       };
       after = refl;
     };
@@ -47,7 +55,13 @@ without_else = record {
     back = line.Fi ∷ [];
     whole = refl;
     before = refl;
-    after = record { front = []; back = line.Fi ∷ []; whole = refl; before = inl (refl, refl); after = record { more = []; whole = refl; holds = refl } };
+    after = record {
+      front = [];
+      back = line.Fi ∷ [];
+      whole = refl;
+      before = inl (refl, refl);
+      after = record { more = []; whole = refl; holds = refl };
+    };
   };
 }
 

@@ -33,6 +33,8 @@ is_printable line = list_all (λ b. nat_le (byte " ") b && nat_le b (byte "~")) 
 
 -- the first part of a text, a line or a word, and what follows it, which is shorter than the text;
 -- nothing where it has no parts
-abbrev pub SplitsOff : (List ℕ → List (List ℕ)) → List ℕ → Option (Bor (List ℕ) × Bor (List ℕ)) → Type 0
+abbrev pub SplitsOff :
+    (List ℕ → List (List ℕ)) → List ℕ → Option (Bor (List ℕ) × Bor (List ℕ)) → Type 0
 SplitsOff parts text split =
-    MatchOption split (parts text ≡ []) (λ r. (parts text ≡ r.0.now ∷ parts r.1.now) × (length r.1.now < length text))
+    MatchOption split (parts text ≡ [])
+    (λ r. (parts text ≡ r.0.now ∷ parts r.1.now) × (length r.1.now < length text))

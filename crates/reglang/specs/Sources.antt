@@ -11,7 +11,8 @@ use Rattle.reglang.specs.declared.source.Source.{Source}
 
 -- so many registers, these processes and these clauses
 abbrev pub contents_with : ℕ → List Process → List Clause → Contents
-contents_with registers processes clauses = record { registers = registers; processes = map body_of processes; clauses = clauses }
+contents_with registers processes clauses =
+    record { registers = registers; processes = map body_of processes; clauses = clauses }
 
 -- a source as a value
 abbrev pub contents_of : Source → Contents
@@ -36,7 +37,8 @@ own_program registers (Kind kind) = None
 
 -- the same of process p of a source, where there is one
 abbrev pub own_program_at : Contents → ℕ → Option Program
-own_program_at source p = option_and_then (own_program source.registers) (slice_get source.processes p)
+own_program_at source p =
+    option_and_then (own_program source.registers) (slice_get source.processes p)
 
 -- what a process of it runs, counted from 0
 abbrev pub body_at : Source → ℕ → Option Body

@@ -75,7 +75,8 @@ cell_or None else_word = else_word
 -- the cell that is named between brackets: by a number word below 32, or by a variable
 abbrev pub cell_word : Option (List ℕ) → Word
 cell_word None = Other
-cell_word (Some index) = cell_or (only_below CELLS (number_of index)) (cell_or_other (variable_of index))
+cell_word (Some index) =
+    cell_or (only_below CELLS (number_of index)) (cell_or_other (variable_of index))
 
 -- the variable with this number, where there is one
 abbrev pub variable_or : Option ℕ → Word → Word

@@ -79,7 +79,8 @@ use_words kind = word.Kind (use_parts kind).0 ∷ arguments_words (use_parts kin
 
 -- a property and its arguments
 abbrev pub clause_words : Clause → List Word
-clause_words clause = word.Property (clause_parts clause).0 ∷ arguments_words (clause_parts clause).1
+clause_words clause =
+    word.Property (clause_parts clause).0 ∷ arguments_words (clause_parts clause).1
 
 -- what a line has after its first word
 abbrev pub later_words : Line → List Word
@@ -120,8 +121,12 @@ else_lines second lines = line.Else ∷ lines
 abbrev pub block_lines : Block → List Line
 block_lines program.Stop = []
 block_lines (program.Do statement rest) = simple_line statement ∷ block_lines rest
-block_lines (program.If test first second rest) = line.If test ∷ (block_lines first ++ (else_lines second (block_lines second) ++ (line.Fi ∷ block_lines rest)))
-block_lines (program.Repeat count body rest) = line.Repeat count ∷ (block_lines body ++ (line.Done ∷ block_lines rest))
+block_lines (program.If test first second rest) =
+    line.If test
+    ∷ (block_lines first
+    ++ (else_lines second (block_lines second) ++ (line.Fi ∷ block_lines rest)))
+block_lines (program.Repeat count body rest) =
+    line.Repeat count ∷ (block_lines body ++ (line.Done ∷ block_lines rest))
 block_lines (program.Halt rest) = line.Halt ∷ block_lines rest
 
 -- its statements, or a use line
@@ -143,7 +148,9 @@ processes_lines bodies = flat_map process_lines bodies
 
 -- the `registers` line, the processes in their order, the checks in theirs
 abbrev pub source_lines : Contents → List Line
-source_lines source = line.Registers source.registers ∷ (processes_lines source.processes ++ map check_line source.clauses)
+source_lines source =
+    line.Registers source.registers
+    ∷ (processes_lines source.processes ++ map check_line source.clauses)
 
 -- the text that is written of a source
 abbrev pub source_text : Contents → List ℕ
@@ -161,7 +168,9 @@ else_text second = lines_text (else_lines (block_of second) (block_lines (block_
 
 -- a text grew by the lines of a statement, whatever comes after it
 abbrev pub GrowsBy : Stmt → List ℕ → List ℕ → Type 0
-GrowsBy stmt old new = (rest : Block) → new ++ lines_text (block_lines rest) ≡ old ++ lines_text (block_lines (with_stmt stmt rest))
+GrowsBy stmt old new =
+    (rest : Block)
+    → new ++ lines_text (block_lines rest) ≡ old ++ lines_text (block_lines (with_stmt stmt rest))
 
 -- the lines of what a process runs
 abbrev pub body_text : Process → List ℕ

@@ -1,5 +1,5 @@
 -- Texts that are written.
-use Rattle.std.specs.Prelude.{◌≡◌, [], ◌∷◌, Some, refl, codes}
+use Rattle.std.specs.Prelude.{◌≡◌, [], ◌∷◌, Some, refl, codes, ◌++◌}
 use Rattle.std.specs.Fmt.{digits}
 use Rattle.regmodel.specs.declared.statements.Target.TheVariants as target
 use Rattle.regmodel.specs.declared.statements.Operand.TheVariants as operand
@@ -12,7 +12,10 @@ use Rattle.reglang.specs.Writing.{line_text, source_text}
 use Rattle.uses.specs.declared.kinds.Use.TheVariants as use_line
 use Rattle.reglang.specs.declared.arguments.Line.TheVariants as line
 
-pub write_line : line_text (line.Write (operand.Number 0) (expr.Two (operand.CellOf 15) op.Add (operand.Number 1000000000)))
+pub write_line :
+    line_text
+    (line.Write (operand.Number 0)
+    (expr.Two (operand.CellOf 15) op.Add (operand.Number 1000000000)))
     ≡ codes "write 0 [v15] + 1000000000"
 unfolding digits
 write_line = refl
@@ -28,7 +31,10 @@ scan_line = refl
 -- no `else` where the second part is empty
 pub one_part : source_text (record {
   registers = 1;
-  processes = Text (program.If (expr.One (operand.Var 0)) (program.Halt program.Stop) program.Stop program.Stop) ∷ [];
+  processes =
+      Text (program.If (expr.One (operand.Var 0)) (program.Halt program.Stop) program.Stop
+      program.Stop)
+      ∷ [];
   clauses = clause.Distinct ∷ [];
 }) ≡ codes "registers 1\nprocess\nif v0\nhalt\nfi\nend\ncheck distinct\n"
 unfolding digits
@@ -38,7 +44,8 @@ one_part = refl
 pub second_part : source_text (record {
   registers = 2;
   processes =
-      Text (program.If (expr.One (operand.Cell 31)) program.Stop (program.Do (program.Read (target.Var 1) (operand.Number 0)) program.Stop) program.Stop)
+      Text (program.If (expr.One (operand.Cell 31)) program.Stop
+      (program.Do (program.Read (target.Var 1) (operand.Number 0)) program.Stop) program.Stop)
       ∷ Kind (use_line.Split 0 7) ∷ [];
   clauses = [];
 }) ≡ codes "registers 2\nprocess\nif [31]\nelse\nread v1 0\nfi\nend\nprocess\nuse split 0 7\nend\n"
@@ -49,9 +56,11 @@ second_part = refl
 pub scans : source_text (record {
   registers = 2;
   processes =
-      Text (program.Repeat (expr.One (operand.Number 3)) (program.Do (program.Scan 0 1 1) program.Stop) (program.Halt program.Stop))
+      Text (program.Repeat (expr.One (operand.Number 3))
+      (program.Do (program.Scan 0 1 1) program.Stop) (program.Halt program.Stop))
       ∷ Kind (use_line.Names 0 2 0) ∷ [];
   clauses = [];
-}) ≡ codes "registers 2\nprocess\nrepeat 3\nscan 0 1 1\ndone\nhalt\nend\nprocess\nuse names 0 2 0\nend\n"
+}) ≡ codes "registers 2\nprocess\nrepeat 3\nscan 0 1 1\ndone\nhalt\nend\n"
+    ++ codes "process\nuse names 0 2 0\nend\n"
 unfolding digits
 scans = refl

@@ -2,13 +2,9 @@
 #![tactic(auto)]
 
 mod arguments;
-mod copies;
 mod draft;
-mod draft_lines;
 mod forms;
 pub mod laws;
-mod lines;
-mod open_process;
 mod operands;
 mod part_lines;
 mod parts;
@@ -22,10 +18,9 @@ mod words;
 mod writer;
 
 pub use arguments::{Argument, Line};
-pub use forms::{is_known, read_line};
-pub use lines::{split_line, split_word, without_indent};
+pub use forms::{is_known, read_line, split_line, split_word, without_indent};
 pub use operands::{argument_of, kind_of, number_in, operator_of, property_of, target_of};
-pub use reader::{ReadFault, Rejection, read_source, read_text};
+pub use reader::{ReadFault, Rejection, Spelling, read_source, read_text};
 pub use refusals::{LineFault, LineRefusal};
 pub use sorts::{MOST_ARGUMENTS, Sort, Sorts, kind_sorts, property_sorts, sorts_after};
 pub use source::Source;

@@ -9,8 +9,7 @@ ghost use Rattle.reglang.specs.declared.arguments.Line.TheVariants as line;
 ghost use Rattle.reglang.specs.declared.source.Process.TheVariants as process;
 
 use crate::arguments::Line;
-use crate::draft::Draft;
-use crate::open_process::OpenProcess;
+use crate::draft::{Draft, OpenProcess};
 use crate::parts::Parts;
 use crate::refusals::{LineFault, LineRefusal};
 use crate::source::Process;

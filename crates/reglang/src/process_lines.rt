@@ -6,8 +6,7 @@ ghost use Rattle.reglang.specs.Faults.{may_ask};
 ghost use Rattle.reglang.specs.declared.arguments.Line.TheVariants as line;
 
 use crate::arguments::Line;
-use crate::draft::Draft;
-use crate::open_process::{Open, OpenProcess, open_repeats};
+use crate::draft::{Draft, Open, OpenProcess, open_repeats};
 use crate::refusals::{LineFault, LineRefusal};
 use crate::source::Process;
 use regmodel::limits::{MOST_OPEN_REPEATS, MOST_STATEMENTS};

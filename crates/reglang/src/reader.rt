@@ -1,7 +1,7 @@
-//! The reader of texts.
+//! The reader of texts, and a text with the source that was read from it.
 
-ghost use Rattle.std.specs.Prelude.{◌≡◌, ◌<◌, ◌≤◌, ◌++◌, IfErr, IfOk, length};
-ghost use Rattle.reglang.specs.Checks.{check_lines, number_of_check};
+ghost use Rattle.std.specs.Prelude.{◌≡◌, ◌<◌, ◌≤◌, ◌++◌, IfErr, IfOk, Some, length, slice_get};
+ghost use Rattle.reglang.specs.Checks.{AreChecksOf, check_lines, number_of_check};
 ghost use Rattle.reglang.specs.Drafts.{AnswersLine, ReadingFits, checks_in, reading_of, take_if_said};
 ghost use Rattle.reglang.specs.Faults.{HasNoneBefore, IsFirst, IsUnspelled, TellsEnd, TellsMemory, WantsMemory, asks, last_line};
 ghost use Rattle.reglang.specs.Forms as forms;
@@ -11,8 +11,8 @@ ghost use Rattle.reglang.specs.Sources.{check_lines_of, contents_of};
 
 use crate::arguments::Line;
 use crate::draft::Draft;
-use crate::forms::read_line;
-use crate::lines::split_line;
+use crate::forms::{read_line, split_line};
+use crate::laws::{each_check_is_that_of_its_clause, what_is_spelled_is_known};
 use crate::refusals::LineRefusal;
 use crate::source::Source;
 use arrayvec::ArrayVec;
@@ -156,5 +156,39 @@ fn next(
         Ok(Some(line)) => draft.take(alloc, line),
         Ok(None) => Ok(draft),
         Err(fault) => Err(LineRefusal::Fault(fault)),
+    }
+}
+
+/// A text and the source that it spells and that was read from it.
+#[derive(Clone, Copy)]
+pub struct Spelling<'a> {
+    /// The text.
+    pub text: &'a [u8],
+    /// The source.
+    pub source: &'a Source,
+    ghost spelled: { ∥ Spells text.now (contents_of source.now) ∥₁ },
+    ghost lines: { check_lines_of source.now ≡ check_lines text.now },
+}
+
+impl Spelling<'_> {
+    /// A law: the text spells the source.
+    pub fn spells(&self)
+        ensures { Spells self.now.text.now (contents_of self.now.source.now) }
+    {
+        what_is_spelled_is_known();
+    }
+
+    /// The number of the line that is the check of clause i, counted from 1.
+    pub fn check_line(&self, i: usize) -> u64
+        requires there { i < length (contents_of self.now.source.now).clauses }
+        ensures number { slice_get (check_lines self.now.text.now) i ≡ Some result }
+        ensures checks { AreChecksOf self.now.text.now (contents_of self.now.source.now).clauses }
+    {
+        self.spells();
+        each_check_is_that_of_its_clause();
+        let Some(line) = self.source.check_lines().get(i) else {
+            unreachable!()
+        };
+        *line
     }
 }

@@ -1,13 +1,14 @@
-//! Sources: 1 to 8 processes over the same registers, and the properties asked of their outcomes.
+//! Sources: 1 to 8 processes over the same registers, and the properties asked of their outcomes;
+//! and copies of the statements of a process.
 
-ghost use Rattle.std.specs.Prelude.{◌≡◌, ◌<◌, ◌≤◌, All, length, true};
+ghost use Rattle.std.specs.Prelude.{◌≡◌, ◌<◌, ◌≤◌, All, length, true, IfOk};
+ghost use Rattle.regmodel.specs.Prelude.{Block, block_of, with_stmt};
 ghost use Rattle.regmodel.specs.declared.limits.TheConstants.{MOST_CHECKS, MOST_PROCESSES, MOST_REGISTERS};
 ghost use Rattle.reglang.specs.Contents.{clause_fits};
 ghost use Rattle.reglang.specs.Bodies.{is_over};
 
-use crate::copies::copy_block;
 use arrayvec::ArrayVec;
-use regmodel::{Clause, Clauses, OutOfMemory, Prog};
+use regmodel::{Clause, Clauses, OutOfMemory, Prog, Stmt};
 use std::alloc::Global;
 use uses::{Use, expand};
 
@@ -22,7 +23,7 @@ pub enum Process {
 
 impl Process {
     ghost use Rattle.std.specs.Prelude.{IfOk};
-    ghost use Rattle.regmodel.specs.OfProg.{program_of};
+    ghost use Rattle.regmodel.specs.Prelude.{program_of};
     ghost use Rattle.reglang.specs.Contents.{program_over};
     ghost use Rattle.reglang.specs.Bodies.{body_of};
 
@@ -65,8 +66,7 @@ pub struct Source {
 
 impl Source {
     ghost use Rattle.std.specs.Prelude.{Some, IfOk, slice_get};
-    ghost use Rattle.regmodel.specs.OfProg.{program_of};
-    ghost use Rattle.regmodel.specs.Limits.{IsWithin};
+    ghost use Rattle.regmodel.specs.Prelude.{program_of, IsWithin};
     ghost use Rattle.std.specs.Prelude.{map, option_map};
     ghost use Rattle.reglang.specs.Contents.{IsSourceWithin};
     ghost use Rattle.reglang.specs.Bodies.{body_of};
@@ -172,5 +172,42 @@ impl Source {
         ensures { IfOk result (λ q. slice_get (source_programs self.now) p ≡ Some (program_of q)) }
     {
         self.processes[p].prog(alloc, self.registers())
+    }
+}
+
+/// A copy of a block. An error where a request for memory was refused.
+#[cycle(copies)]
+pub fn copy_block(alloc: Global, block: &[Stmt]) -> Result<Vec<Stmt>, OutOfMemory>
+    ensures { IfOk result (λ copy. block_of copy.items ≡ block_of block.now) }
+{
+    let mut copy = Vec::new(alloc);
+    for stmt in block {
+        let stmt = copy_stmt(alloc, stmt)?;
+        copy.push(stmt)?;
+    }
+    Ok(copy)
+}
+
+/// A copy of a statement.
+#[cycle(copies)]
+fn copy_stmt(alloc: Global, stmt: &Stmt) -> Result<Stmt, OutOfMemory>
+    ensures { IfOk result (λ copy. (rest : Block) → with_stmt copy rest ≡ with_stmt stmt.now rest) }
+{
+    match stmt {
+        Stmt::Assign(target, expr) => Ok(Stmt::Assign(*target, *expr)),
+        Stmt::Read(target, operand) => Ok(Stmt::Read(*target, *operand)),
+        Stmt::Write(operand, expr) => Ok(Stmt::Write(*operand, *expr)),
+        Stmt::Scan(cell, first, count) => Ok(Stmt::Scan(*cell, *first, *count)),
+        Stmt::If(expr, first, second) => {
+            let first = copy_block(alloc, first.as_slice())?;
+            let second = copy_block(alloc, second.as_slice())?;
+            Ok(Stmt::If(*expr, first, second))
+        }
+        Stmt::Repeat(expr, body) => {
+            let body = copy_block(alloc, body.as_slice())?;
+            Ok(Stmt::Repeat(*expr, body))
+        }
+        Stmt::Emit(expr) => Ok(Stmt::Emit(*expr)),
+        Stmt::Halt => Ok(Stmt::Halt),
     }
 }

@@ -3,9 +3,7 @@ use Rattle.std.proofs.Common.{◌≡◌, ◌-◌, ◌≤◌, ℕ, Bool, true, fa
 use Rattle.std.proofs.lemmas.Bool.{ltb-true, ltb-false}
 use Rattle.std.proofs.lemmas.List.{take-take}
 use Rattle.regmodel.specs.declared.outcomes.ProcEnd.{ProcEnd}
-use Rattle.regmodel.specs.Letters.{Schedule}
-use Rattle.regmodel.specs.Outcomes.{outcome_of}
-use Rattle.regmodel.specs.Program.{Program}
+use Rattle.regmodel.specs.Prelude.{Schedule, outcome_of, Program}
 
 -- what is found of the outcome at a beginning of a beginning, of programs that have stayed the same
 pub found-at : (accepts : List ProcEnd → Bool) (ps qs : List Program) (w u v : Schedule) (n k : ℕ) (found : Bool) → qs ≡ ps → u ≡ take n w → v ≡ take k u → k ≤ n → found ≡ accepts (outcome_of qs v) → accepts (outcome_of ps (take k w)) ≡ found

@@ -4,15 +4,15 @@ use Rattle.std.specs.Prelude.{nat_lt}
 use Rattle.std.specs.List.{position, position_or_len}
 use Rattle.std.proofs.lemmas.Bool.{ltb-true}
 use Rattle.std.proofs.lemmas.List.{take-append-drop}
-use Rattle.std.proofs.lemmas.Option.{slice_get-get_or, slice_get_within}
+use Rattle.std.proofs.lemmas.Option.{slice_get-get_or}
 use Rattle.regmodel.specs.declared.clauses.Clause.{Clause}
 use Rattle.regmodel.specs.declared.clauses.Clause.TheVariants as clause
-use Rattle.regmodel.specs.declared.letters.Letter.{Letter}
-use Rattle.regmodel.specs.declared.letters.Letter.TheVariants.{Run}
+use Rattle.regmodel.specs.declared.schedules.Letter.{Letter}
+use Rattle.regmodel.specs.declared.schedules.Letter.TheVariants.{Run}
 use Rattle.regmodel.specs.declared.outcomes.ProcEnd.{ProcEnd}
-use Rattle.regmodel.specs.Program.{Program}
-use Rattle.regmodel.specs.Schedules.{IsSchedule, is_possible}
+use Rattle.regmodel.specs.Prelude.{IsSchedule, Program, is_possible}
 use Rattle.reglang.specs.Checks.{AreChecksOf, ChecksAt, check_lines}
+use Rattle.reglang.proofs.CheckLines.{own_line}
 use Rattle.world.specs.Stops.{IsStopped}
 use Rattle.world.specs.declared.BadLetter.{BadLetter}
 use Rattle.verdict.specs.Breaches.{IsBrokenLine}
@@ -25,18 +25,6 @@ first_there false i n place h e = absurd cc
 
 pub place_there : {X : Type 0} (test : X → Bool) (xs : List X) (place : ℕ) → Some place ≡ position test xs → place < length xs
 place_there test xs place e = first_there (nat_lt (position_or_len test xs) (length xs)) (position_or_len test xs) (length xs) place refl e
-
-own_line : (text : List ℕ) (clauses : List Clause) (i : ℕ) → AreChecksOf text clauses → i < length clauses → MatchOption (slice_get (check_lines text) i) ⊥ (ChecksAt text (get_or clauses i clause.NoFault))
-own_line text clauses i checks inside =
-    subst (λ found. IfSome found (λ own. MatchOption (slice_get (check_lines text) i) ⊥ (ChecksAt text own))) (slice_get-get_or clauses i clause.NoFault inside) (checks i)
-
-is_within : (Says : ℕ → Type 0) (numbers : List ℕ) (i : ℕ) (told : Option ℕ) → slice_get numbers i ≡ told → MatchOption told ⊥ Says → i < length numbers
-is_within Says numbers i None e h = absurd h
-is_within Says numbers i (Some number) e h = slice_get_within numbers i number e
-
--- each clause has its line
-pub line_of_each : (text : List ℕ) (clauses : List Clause) (i : ℕ) → AreChecksOf text clauses → i < length clauses → i < length (check_lines text)
-line_of_each text clauses i checks inside = is_within _ (check_lines text) i (slice_get (check_lines text) i) refl (own_line text clauses i checks inside)
 
 -- the line of the first clause asked that is broken
 pub broken_line_is : (text : List ℕ) (clauses : List Clause) (asks : Bool) (ends : List ProcEnd) (place line : ℕ) (is_empty : Bool) → is_empty ≡ is_empty_at clauses place → Some place ≡ position (breaks asks ends) clauses → slice_get (check_lines text) place ≡ Some line → AreChecksOf text clauses → IsBrokenLine text clauses asks ends line is_empty

@@ -5,8 +5,8 @@ use Rattle.std.specs.List.{list_any, position, position_from}
 use Rattle.machine.specs.declared.stops.Stopped.{Stopped}
 use Rattle.regmodel.specs.declared.clauses.Clause.{Clause}
 use Rattle.regmodel.specs.declared.outcomes.End.{End}
-use Rattle.regmodel.specs.declared.outcomes.End.TheVariants.{Done, Fault, Crashed, Running}
 use Rattle.regmodel.specs.declared.outcomes.ProcEnd.{ProcEnd}
+use Rattle.regmodel.specs.declared.outcomes.End.TheVariants.{Done, Fault, Crashed, Running}
 use Rattle.regmodel.specs.Judging.{is_faulty, meets, meets_all}
 use Rattle.verdict.specs.Demands.{breaks, clauses_asked, is_ended, meets_demands}
 use Rattle.verdict.specs.Faults.{first_fault, first_fault_from}

@@ -3,13 +3,14 @@ use Rattle.std.proofs.Common.{◌≡◌, ℕ, zero, suc, ◌+◌, ◌≤◌, Boo
 use Rattle.std.proofs.lemmas.Bool.{ltb-true, ltb-false}
 use Rattle.std.proofs.lemmas.List.{length-append}
 use Rattle.std.specs.Prelude.{⊤, nat_lt}
-use Rattle.regmodel.specs.Act.{Flow, GoesOn, Wants, Ends, Faults, with_value, answer_read, answer_scan, answer_write, then_do, choose, emit, times, times_or_fault, exec_simple, exec, flow_pending, act_of}
-use Rattle.regmodel.specs.Program.{Block, Program, Simple, Stop, Do, Assign, Read, Write, Scan, If, Repeat, Emit, Halt}
-use Rattle.regmodel.specs.Reply.{Reply, Replies, value_of}
-use Rattle.regmodel.specs.Values.{Env, start_env, Place, InVar, InCell, expr_value, operand_value, and_then, below_or_fault, target_place, store, store_from}
+use Rattle.regmodel.specs.declared.statements.Expr.{Expr}
+use Rattle.regmodel.specs.Prelude.{Flow, then_do, times, exec, flow_pending, act_of, Block, Program, Replies, Env}
+use Rattle.regmodel.specs.Act.{GoesOn, Wants, Ends, Faults, with_value, answer_read, answer_scan, answer_write, choose, emit, times_or_fault, exec_simple}
+use Rattle.regmodel.specs.Program.{Simple, Stop, Do, Assign, Read, Write, Scan, If, Repeat, Emit, Halt}
+use Rattle.regmodel.specs.Reply.{Reply, value_of}
+use Rattle.regmodel.specs.Values.{start_env, Place, InVar, InCell, expr_value, operand_value, and_then, below_or_fault, target_place, store, store_from}
 use Rattle.regmodel.specs.declared.faults.TheConstants.{TOO_MANY_NUMBERS, TOO_MANY_TURNS}
 use Rattle.regmodel.specs.declared.limits.TheConstants.{MOST_NUMBERS, MOST_TURNS}
-use Rattle.regmodel.specs.declared.statements.Expr.{Expr}
 use Rattle.regmodel.specs.declared.statements.Expr.TheVariants.{One, Two}
 use Rattle.regmodel.specs.declared.statements.Operand.TheVariants as operand
 use Rattle.verdict.specs.Emissions.{EmitsAtMost, most_before, most_emitted, most_from, most_from_simple, most_turns}

@@ -4,17 +4,12 @@ use Rattle.std.proofs.lemmas.Bool.{and_parts, ltb-true}
 use Rattle.std.specs.Prelude.{is_some, nat_lt, not}
 use Rattle.std.specs.List.{find, list_any, range_with_len}
 use Rattle.std.specs.Option.{option_map}
-use Rattle.regmodel.specs.Act.{act_of}
-use Rattle.regmodel.specs.Letters.{Schedule, is_crash_of}
-use Rattle.regmodel.specs.Outcomes.{end_of, outcome_of, proc_end}
-use Rattle.regmodel.specs.Program.{Program}
-use Rattle.regmodel.specs.Replies.{pending_after, pending_at, replies}
-use Rattle.regmodel.specs.Reply.{Replies}
-use Rattle.regmodel.specs.Summary.{first_refused}
 use Rattle.regmodel.specs.declared.accesses.Pending.{Pending}
+use Rattle.regmodel.specs.declared.outcomes.ProcEnd.{ProcEnd}
+use Rattle.regmodel.specs.Prelude.{act_of, Schedule, is_crash_of, outcome_of, proc_end, Program, pending_after, pending_at, replies, Replies, first_refused}
+use Rattle.regmodel.specs.Outcomes.{end_of}
 use Rattle.regmodel.specs.declared.accesses.Pending.TheVariants as pending
 use Rattle.regmodel.specs.declared.outcomes.End.TheVariants.{Crashed}
-use Rattle.regmodel.specs.declared.outcomes.ProcEnd.{ProcEnd}
 use Rattle.patterns.specs.Matching.{allows, matches, matches_none}
 use Rattle.patterns.specs.declared.standings.Standing.{Standing}
 use Rattle.patterns.specs.declared.standings.Standing.TheVariants as standing

@@ -21,7 +21,8 @@ use Rattle.verdict.specs.declared.demands.Strictness.{Strictness}
 
 -- the line of the first clause that is asked and that an outcome breaks, and whether no number is
 -- in its range
-pub record IsBrokenLine (text : List ℕ) (clauses : List Clause) (asks_ended : Bool) (ends : List ProcEnd) (line : ℕ) (is_empty : Bool) : Type 0 where
+pub record IsBrokenLine (text : List ℕ) (clauses : List Clause) (asks_ended : Bool)
+    (ends : List ProcEnd) (line : ℕ) (is_empty : Bool) : Type 0 where
   pub place : ℕ
   pub first : position (breaks asks_ended ends) clauses ≡ Some place
   pub number : slice_get (check_lines text) place ≡ Some line
@@ -32,15 +33,22 @@ pub record IsBrokenLine (text : List ℕ) (clauses : List Clause) (asks_ended : 
 
 -- the line of the first clause asked that an outcome breaks, and the lowest process at fault, if
 -- any; the latter alone where none is broken; processes stop so
-abbrev pub IsCauseOf : List ℕ → List Clause → Bool → List (Option Stopped) → List ProcEnd → Cause → Type 0
+abbrev pub IsCauseOf :
+    List ℕ → List Clause → Bool → List (Option Stopped) → List ProcEnd → Cause → Type 0
 IsCauseOf text clauses asks_ended stops ends (Check line is_empty fault) =
     IsBrokenLine text clauses asks_ended ends line is_empty × (fault ≡ first_fault text stops ends)
 IsCauseOf text clauses asks_ended stops ends (Fault fault) =
-    (meets_all (clauses_asked asks_ended clauses) ends ≡ true) × (first_fault text stops ends ≡ Some fault)
+    (meets_all (clauses_asked asks_ended clauses) ends ≡ true)
+    × (first_fault text stops ends ≡ Some fault)
 
 -- the schedule, why and from where on it fails when judged so strictly, and the drawing
-pub record IsBreachOf (text : List ℕ) (source : Contents) (strictness : Strictness) (w : Schedule) (ends : List ProcEnd) (breach : Breach) : Type 0 where
+pub record IsBreachOf (text : List ℕ) (source : Contents) (strictness : Strictness) (w : Schedule)
+    (ends : List ProcEnd) (breach : Breach) : Type 0 where
   pub schedule : breach.schedule ≡ w
-  pub cause : IsCauseOf text source.clauses strictness.asks_ended (stops_after source w) ends breach.cause
-  pub onset : IsOnset (programs_in source) (meets_demands (clauses_asked false source.clauses) strictness.allows_faults) w breach.onset
+  pub cause :
+      IsCauseOf text source.clauses strictness.asks_ended (stops_after source w) ends breach.cause
+  pub onset :
+      IsOnset (programs_in source)
+      (meets_demands (clauses_asked false source.clauses) strictness.allows_faults) w
+      breach.onset
   pub drawing : IsPictureOf source w breach.drawing

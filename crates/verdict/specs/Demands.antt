@@ -29,11 +29,13 @@ breaks asks_ended ends clause = is_asked asks_ended clause && not (meets clause 
 -- an outcome meets what a check demands where it meets all clauses, and no process is at fault
 -- unless that is allowed
 abbrev pub meets_demands : List Clause → Bool → List ProcEnd → Bool
-meets_demands clauses allows_faults ends = meets_all clauses ends && (allows_faults || meets NoFault ends)
+meets_demands clauses allows_faults ends =
+    meets_all clauses ends && (allows_faults || meets NoFault ends)
 
 -- an outcome meets what is demanded of a schedule that is judged so strictly
 abbrev pub demands_of : Strictness → List Clause → List ProcEnd → Bool
-demands_of strictness clauses = meets_demands (clauses_asked strictness.asks_ended clauses) strictness.allows_faults
+demands_of strictness clauses =
+    meets_demands (clauses_asked strictness.asks_ended clauses) strictness.allows_faults
 
 -- what is looked for: what clauses ask; without a clause faults alone, or nothing where they are
 -- allowed

@@ -12,7 +12,8 @@ use Rattle.world.specs.Sound.{IsSameWorld, letters_of}
 -- the schedule of a source is drawn, and the world, which is the same afterwards, then stands there
 pub record IsDrawn {I : Type 0} {V : I → Type 0}
     (program : ((i : I) × V i) → Program) (rest : ((i : I) × V i) → Replies → Pending)
-    (resumed : ((i : I) × V i) → List ℕ → Replies → Pending) (source : Contents) (old new : World I V) (w : Schedule)
+    (resumed : ((i : I) × V i) → List ℕ → Replies → Pending) (source : Contents)
+    (old new : World I V) (w : Schedule)
     (picture : Picture) : Type 0 where
   pub same : IsSameWorld program rest resumed old new
   pub drawn : IsPictureOf source w picture

@@ -34,7 +34,8 @@ pub as_many_as_may_be : most_from (Repeat variable (emit 1 Stop) Stop) 0 ≡ 8
 as_many_as_may_be = refl
 
 -- `repeat v0`, `if v0`, `emit 1`, `halt`, `end`, `end`: the first `emit` is the last
-pub ends_in_a_turn : most_from (Repeat variable (If variable (emit 1 (Halt Stop)) Stop Stop) Stop) 0 ≡ 1
+pub ends_in_a_turn :
+    most_from (Repeat variable (If variable (emit 1 (Halt Stop)) Stop Stop) Stop) 0 ≡ 1
 ends_in_a_turn = refl
 
 -- done with these numbers
@@ -42,9 +43,12 @@ abbrev done : List ℕ → Standing
 done numbers = Just (record { started = true; fate = end.Done (record { items = numbers }) })
 
 -- of the second pattern process 1 would have to emit two numbers, and emits at most one
-pub second_of_process_one : first_shortfall 1 (2 ∷ 1 ∷ []) ((done (1 ∷ 2 ∷ []) ∷ Any ∷ []) ∷ (Any ∷ done (1 ∷ 2 ∷ []) ∷ []) ∷ [])
+pub second_of_process_one :
+    first_shortfall 1 (2 ∷ 1 ∷ [])
+    ((done (1 ∷ 2 ∷ []) ∷ Any ∷ []) ∷ (Any ∷ done (1 ∷ 2 ∷ []) ∷ []) ∷ [])
     ≡ Some (record { pattern = 2; process = 1; asked = 2; most = 1 })
 second_of_process_one = refl
 
-pub none_asks_for_more : first_shortfall 1 (2 ∷ 1 ∷ []) ((done (1 ∷ 2 ∷ []) ∷ done (3 ∷ []) ∷ []) ∷ []) ≡ None
+pub none_asks_for_more :
+    first_shortfall 1 (2 ∷ 1 ∷ []) ((done (1 ∷ 2 ∷ []) ∷ done (3 ∷ []) ∷ []) ∷ []) ≡ None
 none_asks_for_more = refl

@@ -25,20 +25,24 @@ most_turns (Two a op b) = MOST_TURNS
 -- the most numbers before so many turns, where `before` tells those before a turn by those after it
 abbrev pub most_before : (ℕ → ℕ) → ℕ → ℕ → ℕ
 most_before before zero after = after
-most_before before (suc turns) after = let less = most_before before turns after in max less (before less)
+most_before before (suc turns) after =
+    let less = most_before before turns after in max less (before less)
 
--- the most numbers from a simple statement on, where after it at most so many are: an `emit` adds one
+-- the most numbers from a simple statement on, where after it at most so many are: an `emit` adds
+-- one
 abbrev pub most_from_simple : Simple → ℕ → ℕ
 most_from_simple (Emit value) after = min MOST_NUMBERS (after + 1)
 most_from_simple _ after = after
 
--- the most numbers that are emitted from a block on, where after it at most so many are: an `if` has
--- those of its greater branch, and behind a `halt` there are none
+-- the most numbers that are emitted from a block on, where after it at most so many are: an `if`
+-- has those of its greater branch, and behind a `halt` there are none
 abbrev pub most_from : Block → ℕ → ℕ
 most_from Stop after = after
 most_from (Do statement rest) after = most_from_simple statement (most_from rest after)
-most_from (If test first second rest) after = max (most_from first (most_from rest after)) (most_from second (most_from rest after))
-most_from (Repeat count body rest) after = most_before (most_from body) (most_turns count) (most_from rest after)
+most_from (If test first second rest) after =
+    max (most_from first (most_from rest after)) (most_from second (most_from rest after))
+most_from (Repeat count body rest) after =
+    most_before (most_from body) (most_turns count) (most_from rest after)
 most_from (Halt rest) after = 0
 
 -- the most numbers that a program emits

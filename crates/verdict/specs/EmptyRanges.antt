@@ -10,8 +10,12 @@ is_empty_range _ = false
 
 -- so does the one at this place
 abbrev pub is_empty_at : List Clause → ℕ → Bool
-is_empty_at clauses place = elim (slice_get clauses place) [ Some own ↦ is_empty_range own | None ↦ false ]
+is_empty_at clauses place = elim (slice_get clauses place) [
+  | Some own ↦ is_empty_range own
+  | None ↦ false
+]
 
 -- that no number is in the range of a check, where none is
 abbrev pub empty_text : Bool → List ℕ
-empty_text is_empty = if is_empty then codes "No number is in that range: each name breaks it.\n" else []
+empty_text is_empty =
+    if is_empty then codes "No number is in that range: each name breaks it.\n" else []

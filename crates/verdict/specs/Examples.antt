@@ -1,6 +1,6 @@
 -- Worked examples of what a check demands, of checks that are vacuous, of faults, repeats and
 -- patterns in words, and of paths in a shell.
-use Rattle.std.specs.Prelude.{◌≡◌, ℕ, Bool, List, true, false, [], ◌∷◌, Option, None, Some, codes, refl}
+use Rattle.std.specs.Prelude.{◌≡◌, ℕ, Bool, List, true, false, [], ◌∷◌, Option, None, Some, codes, refl, ◌++◌}
 use Rattle.std.specs.Fmt.{digits}
 use Rattle.machine.specs.declared.culprits.Culprit.{Culprit}
 use Rattle.machine.specs.declared.culprits.Culprit.TheVariants.{Register, Cell, Value, Turns}
@@ -42,10 +42,16 @@ pub allowed_but_running : meets_demands (clause.Ended ∷ []) true (idle end.Run
 allowed_but_running = refl
 
 -- `ended` alone is left out
-pub not_asked_to_end : meets_demands (clauses_asked false (clause.Ended ∷ clause.Distinct ∷ [])) false (idle end.Running ∷ []) ≡ true
+pub not_asked_to_end :
+    meets_demands (clauses_asked false (clause.Ended ∷ clause.Distinct ∷ [])) false
+    (idle end.Running ∷ [])
+    ≡ true
 not_asked_to_end = refl
 
-pub asked_for_no_fault : meets_demands (clauses_asked false (clause.Ended ∷ clause.NoFault ∷ [])) true (idle (end.Fault 2) ∷ []) ≡ false
+pub asked_for_no_fault :
+    meets_demands (clauses_asked false (clause.Ended ∷ clause.NoFault ∷ [])) true
+    (idle (end.Fault 2) ∷ [])
+    ≡ false
 asked_for_no_fault = refl
 
 -- no number is from 5 to 3, and one is from 3 to 3
@@ -56,13 +62,21 @@ pub three_alone : is_empty_range (clause.Within 3 3) ≡ false
 three_alone = refl
 
 -- a process is done in the second outcome, but none has a name
-pub nameless : want_of clause.Distinct ((idle end.Crashed ∷ []) ∷ (idle (end.Done (record { items = [] })) ∷ []) ∷ []) ≡ Some subject.Named
+pub nameless :
+    want_of clause.Distinct
+    ((idle end.Crashed ∷ []) ∷ (idle (end.Done (record { items = [] })) ∷ []) ∷ [])
+    ≡ Some subject.Named
 nameless = refl
 
-pub done_once : want_of clause.SelfSeen ((idle end.Crashed ∷ []) ∷ (idle (end.Done (record { items = [] })) ∷ []) ∷ []) ≡ None
+pub done_once :
+    want_of clause.SelfSeen
+    ((idle end.Crashed ∷ []) ∷ (idle (end.Done (record { items = [] })) ∷ []) ∷ [])
+    ≡ None
 done_once = refl
 
-pub never_done : want_of clause.SelfSeen ((idle end.Crashed ∷ []) ∷ (idle end.Running ∷ []) ∷ []) ≡ Some subject.Done
+pub never_done :
+    want_of clause.SelfSeen ((idle end.Crashed ∷ []) ∷ (idle end.Running ∷ []) ∷ [])
+    ≡ Some subject.Done
 never_done = refl
 
 -- two processes with a statement each, as a text that a tool made
@@ -73,7 +87,9 @@ made = codes "registers 1\nprocess\nhalt\nend\n#line 7 \"a.m4\"\nprocess\n write
 abbrev stopped : ℕ → Option Culprit → Option Stopped
 stopped at culprit = Some (record { at = at; culprit = culprit })
 
-pub second_of_three : first_fault made (stopped 0 None ∷ stopped 0 (Some (Register 9 1)) ∷ stopped 1 (Some (Turns 120)) ∷ [])
+pub second_of_three :
+    first_fault made
+    (stopped 0 None ∷ stopped 0 (Some (Register 9 1)) ∷ stopped 1 (Some (Turns 120)) ∷ [])
     (idle end.Crashed ∷ idle (end.Fault 2) ∷ idle (end.Fault 3) ∷ [])
     ≡ Some (record { process = 1; code = 2; line = Some 7; culprit = Some (Register 9 1) })
 second_of_three = refl
@@ -81,8 +97,11 @@ second_of_three = refl
 pub none_at_fault : first_fault made (stopped 0 None ∷ []) (idle end.Running ∷ []) ≡ None
 none_at_fault = refl
 
-pub at_a_line_of_another_file : fault_line made (Some (record { process = 1; code = 2; line = Some 7; culprit = Some (Register 9 1) }))
-    ≡ codes "At its end process 1 is at fault at line 8 of a.m4: it names a register or a cell that is not there: register 9 of 1.\n"
+pub at_a_line_of_another_file :
+    fault_line made
+    (Some (record { process = 1; code = 2; line = Some 7; culprit = Some (Register 9 1) }))
+    ≡ codes "At its end process 1 is at fault at line 8 of a.m4: it names a register or a cell"
+    ++ codes " that is not there: register 9 of 1.\n"
 unfolding digits
 at_a_line_of_another_file = refl
 
@@ -103,37 +122,50 @@ too_often = refl
 
 -- a text with a loop that is meant to turn thrice
 abbrev looped : List ℕ
-looped = codes "registers 1\nprocess\nrepeat v0 - 1\ndone\n  repeat v0 < 3\ndone\nrepeat 1 = 1\ndone\nend\n"
+looped =
+    codes "registers 1\nprocess\nrepeat v0 - 1\ndone\n  repeat v0 < 3\ndone\n"
+    ++ codes "repeat 1 = 1\ndone\nend\n"
 
 pub the_first_one : first_single_repeat looped ≡ Some 5
 the_first_one = refl
 
-pub as_a_note : single_repeat_text looped ≡ codes "repeat v0 < 3 (line 5) repeats once or not at all.\n"
+pub as_a_note :
+    single_repeat_text looped ≡ codes "repeat v0 < 3 (line 5) repeats once or not at all.\n"
 unfolding digits
 as_a_note = refl
 
 pub nothing_to_note : single_repeat_text made ≡ []
 nothing_to_note = refl
 
-pub one_of_three : match_text 3 (record { number = 2; pattern = Done ∷ Any ∷ [] }) ≡ codes "It matches pattern 2 of 3: done *; *\n"
+pub one_of_three :
+    match_text 3 (record { number = 2; pattern = Done ∷ Any ∷ [] })
+    ≡ codes "It matches pattern 2 of 3: done *; *\n"
 unfolding digits
 one_of_three = refl
 
 pub the_only_one : match_text 1 (record { number = 1; pattern = Any ∷ [] }) ≡ []
 the_only_one = refl
 
-pub none_of_two : nowhere_text (codes "a.reg") 2 8 1 ≡ codes "a.reg: no schedule leads to any of 2 patterns, up to 8 letters and 1 crash\n"
+pub none_of_two :
+    nowhere_text (codes "a.reg") 2 8 1
+    ≡ codes "a.reg: no schedule leads to any of 2 patterns, up to 8 letters and 1 crash\n"
 unfolding digits
 none_of_two = refl
 
-pub no_more_crashes : first_excess 1 ((Any ∷ Just (idle end.Crashed) ∷ []) ∷ (Just (idle end.Crashed) ∷ Just (idle end.Crashed) ∷ []) ∷ []) ≡ Some 1
+pub no_more_crashes :
+    first_excess 1 ((Any ∷ Just (idle end.Crashed) ∷ [])
+    ∷ (Just (idle end.Crashed) ∷ Just (idle end.Crashed) ∷ []) ∷ [])
+    ≡ Some 1
 no_more_crashes = refl
 
-pub second_asks : excess_text 2 (Some 2) ≡ codes "Pattern 2 asks for more crashes than there may be: give a greater --crashes.\n"
+pub second_asks :
+    excess_text 2 (Some 2)
+    ≡ codes "Pattern 2 asks for more crashes than there may be: give a greater --crashes.\n"
 unfolding digits
 second_asks = refl
 
-pub second_in_vain : shortfall_text 2 (Some (record { pattern = 2; process = 1; asked = 2; most = 1 }))
+pub second_in_vain :
+    shortfall_text 2 (Some (record { pattern = 2; process = 1; asked = 2; most = 1 }))
     ≡ codes "Pattern 2 cannot match: it asks for 2 numbers of process 1, which emits at most 1.\n"
 unfolding digits
 second_in_vain = refl
@@ -167,16 +199,22 @@ empty_path = refl
 abbrev drawn : Room → Bool → Breadth
 drawn room lines = record { room = room; lines = lines }
 
-pub command_of_a_file : show_text (codes "./regtry") (codes "it.reg") (drawn Usual false) [] ≡ codes "\n./regtry show it.reg '.'\n"
+pub command_of_a_file :
+    show_text (codes "./regtry") (codes "it.reg") (drawn Usual false) []
+    ≡ codes "\n./regtry show it.reg '.'\n"
 command_of_a_file = refl
 
 pub command_of_what_was_read : show_text (codes "regtry") (codes "-") (drawn Usual false) []
     ≡ codes "\nregtry show FILE '.', where FILE holds what was read\n"
 command_of_what_was_read = refl
 
-pub command_with_lines : show_text (codes "regtry") (codes "-x.reg") (drawn Whole true) [] ≡ codes "\nregtry show --all --lines -- -x.reg '.'\n"
+pub command_with_lines :
+    show_text (codes "regtry") (codes "-x.reg") (drawn Whole true) []
+    ≡ codes "\nregtry show --all --lines -- -x.reg '.'\n"
 command_with_lines = refl
 
-pub command_of_a_width : show_text (codes "regtry") (codes "it.reg") (drawn (Places 80) false) [] ≡ codes "\nregtry show --width 80 it.reg '.'\n"
+pub command_of_a_width :
+    show_text (codes "regtry") (codes "it.reg") (drawn (Places 80) false) []
+    ≡ codes "\nregtry show --width 80 it.reg '.'\n"
 unfolding digits
 command_of_a_width = refl

@@ -8,7 +8,12 @@ use Rattle.patterns.specs.declared.standings.Standing.TheVariants as standing
 
 -- a process has crashed
 abbrev pub is_crashed : End → Bool
-is_crashed fate = elim fate [ Done numbers ↦ false | Fault code ↦ false | Crashed ↦ true | Running ↦ false ]
+is_crashed fate = elim fate [
+  | Done numbers ↦ false
+  | Fault code ↦ false
+  | Crashed ↦ true
+  | Running ↦ false
+]
 
 -- whether a process that stands so has crashed
 abbrev pub has_crashed : Standing → Bool
@@ -19,7 +24,8 @@ has_crashed (standing.Just end) = is_crashed end.fate
 -- how many of these processes have crashed
 abbrev pub crashed_in : List Standing → ℕ
 crashed_in [] = 0
-crashed_in (standing ∷ standings) = if has_crashed standing then crashed_in standings + 1 else crashed_in standings
+crashed_in (standing ∷ standings) =
+    if has_crashed standing then crashed_in standings + 1 else crashed_in standings
 
 -- the place of the first pattern in which more have crashed than may crash, counted from 0
 abbrev pub first_excess : ℕ → List (List Standing) → Option ℕ

@@ -11,12 +11,18 @@ use Rattle.verdict.specs.declared.faults.ProcessFault.{ProcessFault}
 
 -- the code of a fault
 abbrev pub code_of : End → Option ℕ
-code_of fate = elim fate [ Done numbers ↦ None | Fault code ↦ Some code | Crashed ↦ None | Running ↦ None ]
+code_of fate = elim fate [
+  | Done numbers ↦ None
+  | Fault code ↦ Some code
+  | Crashed ↦ None
+  | Running ↦ None
+]
 
 -- the number of the line of a text on which the statement stands at which process p stops, where
 -- processes stop so
 abbrev pub stop_line : List ℕ → List (Option Stopped) → ℕ → Option ℕ
-stop_line text stops p = option_and_then (λ stop. statement_line text p stop.at) (get_or stops p None)
+stop_line text stops p =
+    option_and_then (λ stop. statement_line text p stop.at) (get_or stops p None)
 
 -- what is out of range there
 abbrev pub stop_culprit : List (Option Stopped) → ℕ → Option Culprit
@@ -24,10 +30,16 @@ stop_culprit stops p = option_and_then (λ stop. stop.culprit) (get_or stops p N
 
 -- the lowest process at fault, the line at which it stops, and what is out of range there; the
 -- first of these is process p
-abbrev pub first_fault_from : List ℕ → List (Option Stopped) → ℕ → List ProcEnd → Option ProcessFault
+abbrev pub first_fault_from :
+    List ℕ → List (Option Stopped) → ℕ → List ProcEnd → Option ProcessFault
 first_fault_from text stops p [] = None
 first_fault_from text stops p (end ∷ ends) = elim (code_of end.fate) [
-  | Some code ↦ Some (record { process = p; code = code; line = stop_line text stops p; culprit = stop_culprit stops p })
+  | Some code ↦ Some (record {
+    process = p;
+    code = code;
+    line = stop_line text stops p;
+    culprit = stop_culprit stops p;
+  })
   | None ↦ first_fault_from text stops (p + 1) ends
 ]
 

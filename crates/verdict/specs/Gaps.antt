@@ -16,13 +16,17 @@ is_met w outcomes = list_any (λ ends. list_any (includes w) ends) outcomes
 -- what a clause speaks of and none of these outcomes has, so that it is vacuous: it asks nothing of
 -- them
 abbrev pub want_of : Clause → List (List ProcEnd) → Option Subject
-want_of clause outcomes = elim (subject_of clause) [ Some w ↦ if is_met w outcomes then None else Some w | None ↦ None ]
+want_of clause outcomes = elim (subject_of clause) [
+  | Some w ↦ if is_met w outcomes then None else Some w
+  | None ↦ None
+]
 
 -- the line of clause i and what it wants, where it is vacuous
 abbrev pub gap_at : List ℕ → List Clause → List (List ProcEnd) → ℕ → Option Gap
 gap_at text clauses outcomes i = elim (slice_get clauses i) [
   | Some clause ↦ elim (want_of clause outcomes) [
-    | Some w ↦ option_map (λ line. record { line = line; want = w }) (slice_get (check_lines text) i)
+    | Some w ↦ option_map (λ line. record { line = line; want = w })
+        (slice_get (check_lines text) i)
     | None ↦ None
   ]
   | None ↦ None
@@ -30,4 +34,5 @@ gap_at text clauses outcomes i = elim (slice_get clauses i) [
 
 -- the lines of the vacuous clauses, each with what it wants
 abbrev pub gaps_of : List ℕ → List Clause → List (List ProcEnd) → List Gap
-gaps_of text clauses outcomes = filter_map (gap_at text clauses outcomes) (range_with_len 0 (length clauses))
+gaps_of text clauses outcomes =
+    filter_map (gap_at text clauses outcomes) (range_with_len 0 (length clauses))

@@ -12,14 +12,18 @@ use Rattle.verdict.specs.declared.breaches.Verdict.TheVariants.{Fails, Holds}
 
 -- outcomes behind an empty line: how many they are, and a line for each
 abbrev pub outcome_list : List (List ProcEnd) → List ℕ
-outcome_list outcomes = codes "\n" ++ number_line (codes "outcomes") (length outcomes) ++ flat_map outcome_line outcomes
+outcome_list outcomes =
+    codes "\n" ++ number_line (codes "outcomes") (length outcomes) ++ flat_map outcome_line outcomes
 
 -- what is told of a source, and then its outcomes: where none fails those that were found, else
 -- those of the exploration beside it
-abbrev pub listed_text : List ℕ → List ℕ → List ℕ → Breadth → Bool → Verdict → Option Findings → List ℕ
+abbrev pub listed_text :
+    List ℕ → List ℕ → List ℕ → Breadth → Bool → Verdict → Option Findings → List ℕ
 listed_text program path text breadth is_shortest (Holds held) explored =
-    verdict_text program path text breadth is_shortest (Holds held) ++ outcome_list held.exploration.outcomes
+    verdict_text program path text breadth is_shortest (Holds held)
+    ++ outcome_list held.exploration.outcomes
 listed_text program path text breadth is_shortest (Fails breach cut) (Some explored) =
-    verdict_text program path text breadth is_shortest (Fails breach cut) ++ outcome_list explored.outcomes
+    verdict_text program path text breadth is_shortest (Fails breach cut)
+    ++ outcome_list explored.outcomes
 listed_text program path text breadth is_shortest (Fails breach cut) None =
     verdict_text program path text breadth is_shortest (Fails breach cut)

@@ -7,9 +7,11 @@ use Rattle.regmodel.specs.declared.outcomes.ProcEnd.{ProcEnd}
 
 -- of each beginning of so many letters or more the outcome is refused, but not of that with one
 -- letter less
-pub record FailsFrom (programs : List Program) (accepts : List ProcEnd → Bool) (w : Schedule) (onset : ℕ) : Type 0 where
+pub record FailsFrom (programs : List Program) (accepts : List ProcEnd → Bool) (w : Schedule)
+    (onset : ℕ) : Type 0 where
   pub there : onset ≤ length w
-  pub refused : (k : ℕ) → onset ≤ k → k ≤ length w → accepts (outcome_of programs (take k w)) ≡ false
+  pub refused :
+      (k : ℕ) → onset ≤ k → k ≤ length w → accepts (outcome_of programs (take k w)) ≡ false
   pub accepted : 0 < onset → accepts (outcome_of programs (take (onset - 1) w)) ≡ true
 
 -- so it is with the letter that is told; where none is, the schedule's own outcome is accepted

@@ -26,14 +26,22 @@ abbrev pub shortfall_in : ℕ → ℕ → List ℕ → List Standing → Option 
 shortfall_in pattern process [] standings = None
 shortfall_in pattern process (most ∷ more) [] = None
 shortfall_in pattern process (most ∷ more) (standing ∷ standings) =
-    if nat_lt most (asked_by standing) then Some (record { pattern = pattern; process = process; asked = asked_by standing; most = most })
+    if nat_lt most (asked_by standing) then Some (record {
+      pattern = pattern;
+      process = process;
+      asked = asked_by standing;
+      most = most;
+    })
     else shortfall_in pattern (process + 1) more standings
 
 -- the first pattern that does, by its number; the first of these patterns has this one
 abbrev pub first_shortfall : ℕ → List ℕ → List (List Standing) → Option Shortfall
 first_shortfall number most [] = None
 first_shortfall number most (pattern ∷ patterns) =
-    elim (shortfall_in number 0 most pattern) [ Some found ↦ Some found | None ↦ first_shortfall (number + 1) most patterns ]
+    elim (shortfall_in number 0 most pattern) [
+      | Some found ↦ Some found
+      | None ↦ first_shortfall (number + 1) most patterns
+    ]
 
 -- each of these patterns does
 abbrev pub are_in_vain : List ℕ → List (List Standing) → Bool

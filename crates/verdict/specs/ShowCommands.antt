@@ -42,5 +42,6 @@ options_text breadth = room_option breadth.room ++ lines_option breadth.lines
 -- by which the program was called; options stand before the file, which may stand behind two dashes
 abbrev pub show_text : List ℕ → List ℕ → Breadth → Schedule → List ℕ
 show_text program path breadth w =
-    codes "\n" ++ program ++ codes " show " ++ options_text breadth ++ typed_file path ++ codes " '" ++ schedule_text w ++ codes "'"
+    codes "\n" ++ program ++ codes " show " ++ options_text breadth ++ typed_file path ++ codes " '"
+    ++ schedule_text w ++ codes "'"
     ++ file_wanted path ++ codes "\n"

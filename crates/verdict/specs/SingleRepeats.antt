@@ -29,9 +29,13 @@ says_single_repeat _ = false
 
 -- the number of the first such line of a text, counted from 1
 abbrev pub first_single_repeat : List ℕ → Option ℕ
-first_single_repeat text = position_from (λ line. says_single_repeat (read_line line)) 1 (lines text)
+first_single_repeat text =
+    position_from (λ line. says_single_repeat (read_line line)) 1 (lines text)
 
 -- that this line repeats once or not at all, where there is one
 abbrev pub single_repeat_text : List ℕ → List ℕ
 single_repeat_text text =
-    elim (first_single_repeat text) [ Some number ↦ line_text text number ++ codes " repeats once or not at all.\n" | None ↦ [] ]
+    elim (first_single_repeat text) [
+      | Some number ↦ line_text text number ++ codes " repeats once or not at all.\n"
+      | None ↦ []
+    ]

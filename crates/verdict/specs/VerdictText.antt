@@ -43,20 +43,25 @@ crashes_text n = if n == 0 then codes "no crashes" else counted n (codes "crash"
 -- the check line that is broken, that no number is in its range, where none is, and the process at
 -- fault beside it; or that process alone
 abbrev pub cause_text : List ℕ → Cause → List ℕ
-cause_text text (Check line is_empty fault) = line_text text line ++ codes "\n" ++ empty_text is_empty ++ fault_line text fault
+cause_text text (Check line is_empty fault) =
+    line_text text line ++ codes "\n" ++ empty_text is_empty ++ fault_line text fault
 cause_text text (Fault fault) = fault_text text fault ++ codes "\n"
 
 -- that a schedule fails; and that no shorter one does, where the shortest one was asked for
 abbrev pub fails_text : Bool → List ℕ
-fails_text is_shortest = if is_shortest then codes " fails, and no shorter one: " else codes " fails: "
+fails_text is_shortest =
+    if is_shortest then codes " fails, and no shorter one: " else codes " fails: "
 
 -- that it fails from this letter on, where there is one
 abbrev pub from_step_text : ℕ → List ℕ
-from_step_text letter = if letter == 0 then [] else codes "It fails from step " ++ decimal letter ++ codes " on.\n"
+from_step_text letter =
+    if letter == 0 then [] else codes "It fails from step " ++ decimal letter ++ codes " on.\n"
 
 -- that a schedule is cut off, and none fails otherwise
 abbrev pub cut_alone_text : List ℕ
-cut_alone_text = codes "It is cut off with a process still running" ++ codes "; up to this length none fails otherwise.\n"
+cut_alone_text =
+    codes "It is cut off with a process still running"
+    ++ codes "; up to this length none fails otherwise.\n"
 
 -- from which letter on each beginning fails, where that comes about by a letter; where the schedule
 -- fails for being cut off, that it does
@@ -67,7 +72,8 @@ onset_text onset = elim onset [ Some letter ↦ from_step_text letter | None ↦
 -- repeats once or not at all
 abbrev pub failing_text : List ℕ → List ℕ → Bool → ℕ → Cause → Option ℕ → List ℕ
 failing_text path text is_shortest letters cause onset =
-    path ++ codes ": a schedule of " ++ letters_text letters ++ fails_text is_shortest ++ cause_text text cause ++ onset_text onset
+    path ++ codes ": a schedule of " ++ letters_text letters ++ fails_text is_shortest
+    ++ cause_text text cause ++ onset_text onset
     ++ single_repeat_text text ++ codes "\n"
 
 -- that a schedule fails and why, the schedule as a drawing that may be so broad, and the command
@@ -81,12 +87,16 @@ breach_text program path text breadth is_shortest breach =
 -- that a schedule is cut off, what it breaks, and the command that draws it
 abbrev pub cut_text : List ℕ → List ℕ → List ℕ → Breadth → Cut → List ℕ
 cut_text program path text breadth cut =
-    codes "\nA schedule of " ++ letters_text (length cut.schedule) ++ codes " is cut off, with a process still running: " ++ cause_text text cut.cause
+    codes "\nA schedule of " ++ letters_text (length cut.schedule)
+    ++ codes " is cut off, with a process still running: " ++ cause_text text cut.cause
     ++ show_text program path breadth cut.schedule
 
 -- the same, where one is told beside another schedule that fails
 abbrev pub beside_text : List ℕ → List ℕ → List ℕ → Breadth → Option Cut → List ℕ
-beside_text program path text breadth cut = elim cut [ Some c ↦ cut_text program path text breadth c | None ↦ [] ]
+beside_text program path text breadth cut = elim cut [
+  | Some c ↦ cut_text program path text breadth c
+  | None ↦ []
+]
 
 -- whether schedules were cut off: some process still wants an access after as many letters as there
 -- may be
@@ -105,20 +115,27 @@ reach_of findings = record {
 
 -- how much was tried
 abbrev pub tried_text : ℕ → ℕ → List ℕ
-tried_text tried outcomes = counted tried (codes "schedule") (codes "s") ++ codes " tried, " ++ counted outcomes (codes "outcome") (codes "s")
+tried_text tried outcomes =
+    counted tried (codes "schedule") (codes "s") ++ codes " tried, "
+    ++ counted outcomes (codes "outcome") (codes "s")
 
 -- how far was explored
 abbrev pub bounds_text : ℕ → ℕ → List ℕ
-bounds_text limit crashes = codes ", up to " ++ letters_text limit ++ codes " and " ++ crashes_text crashes ++ codes "\n"
+bounds_text limit crashes =
+    codes ", up to " ++ letters_text limit ++ codes " and " ++ crashes_text crashes ++ codes "\n"
 
 -- what can be done about schedules that were cut off at this length
 abbrev pub advice_text : ℕ → List ℕ
-advice_text limit = if limit == MOST_LETTERS then codes ", and 64 letters are the most.\n" else codes ": give a greater --length, up to 64.\n"
+advice_text limit =
+    if limit == MOST_LETTERS
+    then codes ", and 64 letters are the most.\n"
+    else codes ": give a greater --length, up to 64.\n"
 
 -- that schedules of this length were cut off
 abbrev pub cut_off_text : ℕ → List ℕ
 cut_off_text limit =
-    codes "Some schedules were cut off at " ++ letters_text limit ++ codes ", with a process still running; longer ones were not tried" ++ advice_text limit
+    codes "Some schedules were cut off at " ++ letters_text limit
+    ++ codes ", with a process still running; longer ones were not tried" ++ advice_text limit
 
 -- the same, where they were
 abbrev pub caution_text : Bool → ℕ → List ℕ
@@ -146,17 +163,21 @@ gaps_text text gaps = flat_map (gap_text text) gaps
 -- that no schedule fails, and how much was tried
 abbrev pub holding_text : List ℕ → Reach → List ℕ
 holding_text path reach =
-    path ++ codes ": no schedule fails: " ++ tried_text reach.tried reach.outcomes ++ bounds_text reach.length reach.crashes
+    path ++ codes ": no schedule fails: " ++ tried_text reach.tried reach.outcomes
+    ++ bounds_text reach.length reach.crashes
 
 -- the same, what was looked for, which checks could not be broken, which line repeats once or not
 -- at all, and whether schedules were cut off
 abbrev pub held_text : List ℕ → List ℕ → Reach → Asked → List Gap → List ℕ
 held_text path text reach asked gaps =
-    holding_text path reach ++ asked_text asked ++ gaps_text text gaps ++ single_repeat_text text ++ caution_text reach.cut_off reach.length
+    holding_text path reach ++ asked_text asked ++ gaps_text text gaps ++ single_repeat_text text
+    ++ caution_text reach.cut_off reach.length
 
 -- what a program that was called by these words tells of a source in the file of this path, where
 -- the least failing schedule was asked for, or the shortest one
 abbrev pub verdict_text : List ℕ → List ℕ → List ℕ → Breadth → Bool → Verdict → List ℕ
 verdict_text program path text breadth is_shortest (Fails breach cut) =
-    breach_text program path text breadth is_shortest breach ++ beside_text program path text breadth cut
-verdict_text program path text breadth is_shortest (Holds held) = held_text path text (reach_of held.exploration) held.asked held.gaps.items
+    breach_text program path text breadth is_shortest breach
+    ++ beside_text program path text breadth cut
+verdict_text program path text breadth is_shortest (Holds held) =
+    held_text path text (reach_of held.exploration) held.asked held.gaps.items

@@ -14,12 +14,15 @@ use Rattle.verdict.specs.declared.ways.Way.{Way}
 
 -- that a schedule of so many letters leads to an outcome
 abbrev pub leading_text : List ℕ → ℕ → List ProcEnd → List ℕ
-leading_text path letters ends = path ++ codes ": a schedule of " ++ letters_text letters ++ codes " leads to " ++ outcome_text ends ++ codes "\n"
+leading_text path letters ends =
+    path ++ codes ": a schedule of " ++ letters_text letters ++ codes " leads to "
+    ++ outcome_text ends ++ codes "\n"
 
 -- which pattern it matches, by its number and its text, of so many that were looked for
 abbrev pub match_line : ℕ → Match → List ℕ
 match_line sought found =
-    codes "It matches pattern " ++ decimal found.number ++ codes " of " ++ decimal sought ++ codes ": " ++ pattern_text found.pattern ++ codes "\n"
+    codes "It matches pattern " ++ decimal found.number ++ codes " of " ++ decimal sought
+    ++ codes ": " ++ pattern_text found.pattern ++ codes "\n"
 
 -- the same, where several were looked for
 abbrev pub match_text : ℕ → Match → List ℕ
@@ -27,31 +30,37 @@ match_text sought found = if sought == 1 then [] else match_line sought found
 
 -- where no schedule leads, of so many patterns
 abbrev pub nowhere : ℕ → List ℕ
-nowhere sought = if sought == 1 then codes "there" else codes "to any of " ++ decimal sought ++ codes " patterns"
+nowhere sought =
+    if sought == 1 then codes "there" else codes "to any of " ++ decimal sought ++ codes " patterns"
 
 -- that no shorter schedule leads there, where the shortest one was asked for
 abbrev pub no_shorter_text : Bool → ℕ → List ℕ
-no_shorter_text is_shortest sought = if is_shortest then codes "No shorter one leads " ++ nowhere sought ++ codes ".\n" else []
+no_shorter_text is_shortest sought =
+    if is_shortest then codes "No shorter one leads " ++ nowhere sought ++ codes ".\n" else []
 
 -- what is told of a way, with the drawing of the schedule, which may be so broad, and the command
 -- that draws it again
 abbrev pub way_text : List ℕ → List ℕ → List ℕ → Breadth → ℕ → Bool → Way → List ℕ
 way_text program path text breadth sought is_shortest way =
-    leading_text path (length way.schedule) way.outcome ++ (match_text sought way.matched ++ no_shorter_text is_shortest sought) ++ codes "\n"
+    leading_text path (length way.schedule) way.outcome
+    ++ (match_text sought way.matched ++ no_shorter_text is_shortest sought) ++ codes "\n"
     ++ drawing_text breadth text way.drawing ++ show_text program path breadth way.schedule
 
 -- that no schedule leads there, and how far was looked
 abbrev pub nowhere_text : List ℕ → ℕ → ℕ → ℕ → List ℕ
-nowhere_text path sought limit crashes = path ++ codes ": no schedule leads " ++ nowhere sought ++ bounds_text limit crashes
+nowhere_text path sought limit crashes =
+    path ++ codes ": no schedule leads " ++ nowhere sought ++ bounds_text limit crashes
 
 -- a pattern, by its number; the only one without
 abbrev pub pattern_told : ℕ → ℕ → List ℕ
-pattern_told sought number = if sought == 1 then codes "The pattern" else codes "Pattern " ++ decimal number
+pattern_told sought number =
+    if sought == 1 then codes "The pattern" else codes "Pattern " ++ decimal number
 
 -- which pattern asks for more crashes than there may be, where one does
 abbrev pub excess_text : ℕ → Option ℕ → List ℕ
 excess_text sought excess = elim excess [
-  | Some number ↦ pattern_told sought number ++ codes " asks for more crashes than there may be: give a greater --crashes.\n"
+  | Some number ↦ pattern_told sought number
+      ++ codes " asks for more crashes than there may be: give a greater --crashes.\n"
   | None ↦ []
 ]
 
@@ -62,7 +71,8 @@ most_text most = if most == 0 then codes "none" else codes "at most " ++ decimal
 -- which pattern asks for more numbers than a process emits, where one does
 abbrev pub shortfall_text : ℕ → Option Shortfall → List ℕ
 shortfall_text sought shortfall = elim shortfall [
-  | Some s ↦ pattern_told sought s.pattern ++ codes " cannot match: it asks for " ++ counted s.asked (codes "number") (codes "s") ++ codes " of process "
+  | Some s ↦ pattern_told sought s.pattern ++ codes " cannot match: it asks for "
+      ++ counted s.asked (codes "number") (codes "s") ++ codes " of process "
       ++ decimal s.process ++ codes ", which emits " ++ most_text s.most ++ codes ".\n"
   | None ↦ []
 ]
@@ -72,6 +82,7 @@ abbrev pub discovery_text : List ℕ → List ℕ → List ℕ → Breadth → D
 discovery_text program path text breadth discovery is_shortest =
     elim discovery.way [
       | Some way ↦ way_text program path text breadth discovery.sought is_shortest way
-      | None ↦ nowhere_text path discovery.sought discovery.least.length discovery.least.crashes ++ excess_text discovery.sought discovery.excess
+      | None ↦ nowhere_text path discovery.sought discovery.least.length discovery.least.crashes
+          ++ excess_text discovery.sought discovery.excess
           ++ shortfall_text discovery.sought discovery.shortfall
     ]

@@ -9,14 +9,16 @@ use Rattle.patterns.specs.declared.standings.Standing.{Standing}
 use Rattle.verdict.specs.declared.ways.Way.{Way}
 
 -- the schedule, its outcome, the first of these patterns that the outcome matches, and its drawing
-pub record IsWayOf (source : Contents) (patterns : List (List Standing)) (w : Schedule) (ends : List ProcEnd) (way : Way) : Type 0 where
+pub record IsWayOf (source : Contents) (patterns : List (List Standing)) (w : Schedule)
+    (ends : List ProcEnd) (way : Way) : Type 0 where
   pub schedule : way.schedule ≡ w
   pub outcome : way.outcome ≡ ends
   pub matched : IsFirstMatch patterns ends way.matched
   pub drawing : IsPictureOf source w way.drawing
 
 -- the way to what was found, where something was
-abbrev pub IsWayFor : Contents → List (List Standing) → Option (Schedule × List ProcEnd) → Option Way → Type 0
+abbrev pub IsWayFor :
+    Contents → List (List Standing) → Option (Schedule × List ProcEnd) → Option Way → Type 0
 IsWayFor source patterns None None = Unit {0}
 IsWayFor source patterns (Some (w, ends)) (Some way) = IsWayOf source patterns w ends way
 IsWayFor source patterns _ _ = ⊥

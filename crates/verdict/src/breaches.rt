@@ -2,7 +2,7 @@
 
 ghost use Rattle.std.specs.Prelude.{◌≡◌, Bool, IfSome, IsNone, false, is_some, map, true};
 ghost use Rattle.regmodel.specs.Judging.{meets_all};
-ghost use Rattle.regmodel.specs.Schedules.{IsSchedule};
+ghost use Rattle.regmodel.specs.Prelude.{IsSchedule};
 ghost use Rattle.reglang.specs.Sources.{contents_of, registers_of, source_programs};
 ghost use Rattle.report.specs.PlainCheck.{IsPlainCheck};
 ghost use Rattle.report.specs.PlainReport.{IsPlainLeast};
@@ -18,11 +18,10 @@ use crate::empty_ranges::is_empty_at;
 use crate::faults::{ProcessFault, first_fault};
 use crate::gaps::{Gap, gaps_of};
 use crate::onsets::onset_of;
-use crate::spellings::Spelling;
 use arrayvec::ArrayVec;
 use drawing::{Drawing, draw};
 use machine::Machine;
-use reglang::Source;
+use reglang::{Source, Spelling};
 use regmodel::laws::the_first_refused_is_a_schedule;
 use regmodel::{Outcome, Prefix, Settings};
 use report::{Checked, Exploration, Least};

@@ -1,9 +1,7 @@
 //! How many numbers a process can emit at most, by its text.
 
 ghost use Rattle.std.specs.Prelude.{◌≡◌, ℕ, IfOk, map};
-ghost use Rattle.regmodel.specs.Blocks.{block_of, with_stmt};
-ghost use Rattle.regmodel.specs.OfProg.{program_of};
-ghost use Rattle.regmodel.specs.Program.{Block};
+ghost use Rattle.regmodel.specs.Prelude.{block_of, with_stmt, program_of, Block};
 ghost use Rattle.reglang.specs.Sources.{source_programs};
 ghost use Rattle.verdict.specs.Emissions as spec;
 

@@ -6,8 +6,8 @@ ghost use Rattle.regmodel.specs.Judging.{includes};
 ghost use Rattle.reglang.specs.Sources.{contents_of};
 ghost use Rattle.verdict.specs.Gaps as spec;
 
-use crate::spellings::Spelling;
 use arrayvec::ArrayVec;
+use reglang::Spelling;
 use regmodel::{Clause, Subject};
 use report::Exploration;
 use tallies::{Ends, Outcomes};

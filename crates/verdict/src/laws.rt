@@ -1,12 +1,7 @@
 //! Laws of what processes emit, as contracts of functions that do nothing.
 
 ghost use Rattle.std.specs.Prelude.{◌≡◌, ℕ, false, true, List, map, None, Some};
-ghost use Rattle.regmodel.specs.Act.{act_of};
-ghost use Rattle.regmodel.specs.Letters.{Schedule};
-ghost use Rattle.regmodel.specs.Outcomes.{outcome_of};
-ghost use Rattle.regmodel.specs.Program.{Program};
-ghost use Rattle.regmodel.specs.Reply.{Replies};
-ghost use Rattle.regmodel.specs.Summary.{first_refused};
+ghost use Rattle.regmodel.specs.Prelude.{act_of, Schedule, outcome_of, Program, Replies, first_refused};
 ghost use Rattle.patterns.specs.Matching.{matches, matches_none};
 ghost use Rattle.patterns.specs.declared.standings.Standing.{Standing};
 ghost use Rattle.verdict.specs.Emissions.{EmitsAtMost, most_emitted};

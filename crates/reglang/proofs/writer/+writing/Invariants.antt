@@ -1,5 +1,5 @@
 use Rattle.std.proofs.Common.{◌≡◌, ◌++◌, drop}
-use Rattle.regmodel.specs.Blocks.{block_of}
+use Rattle.regmodel.specs.Prelude.{block_of}
 use Rattle.reglang.specs.Writing.{block_lines, lines_text}
 use Rattle.reglang.proofs.writer.+writing.Given as goal
 

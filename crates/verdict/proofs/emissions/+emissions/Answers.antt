@@ -1,5 +1,5 @@
 use Rattle.std.proofs.Common.{◌≡◌, max, ap, sym, ◌∙◌, arith}
-use Rattle.regmodel.specs.Blocks.{block_of, with_stmt}
+use Rattle.regmodel.specs.Prelude.{block_of, with_stmt}
 use Rattle.regmodel.proofs.Rows.{with_stmt-If, with_stmt-Repeat}
 use Rattle.verdict.specs.Emissions.{most_before, most_from, most_turns}
 use Rattle.verdict.proofs.NumbersEmitted.{no_more}

@@ -1,5 +1,5 @@
 use Rattle.std.proofs.Common.{◌≡◌, ◌≤◌, drop, length}
-use Rattle.regmodel.specs.Blocks.{block_of}
+use Rattle.regmodel.specs.Prelude.{block_of}
 use Rattle.verdict.specs.Emissions.{most_before, most_from}
 use Rattle.verdict.proofs.emissions.+emissions.Given as goal
 

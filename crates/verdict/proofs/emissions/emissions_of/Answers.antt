@@ -1,7 +1,7 @@
 use Rattle.std.proofs.Common.{◌∷◌, [], ◌++◌, ap, sym, ◌∙◌, arith, map, take}
 use Rattle.std.proofs.lemmas.List.{map_push, take_all}
-use Rattle.regmodel.specs.OfProg.{program_of}
-use Rattle.regmodel.proofs.Members.{take_push}
+use Rattle.regmodel.specs.Prelude.{program_of}
+use Rattle.lists.proofs.Members.{take_push}
 use Rattle.reglang.specs.Sources.{source_programs}
 use Rattle.verdict.specs.Emissions.{most_emitted}
 use Rattle.verdict.proofs.GapRows.{length_more}

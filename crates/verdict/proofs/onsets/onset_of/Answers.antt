@@ -1,6 +1,6 @@
 use Rattle.std.proofs.Common.{◌-◌, ◌≡◌, false, length, take, ap, ◌∙◌, arith}
 use Rattle.std.proofs.lemmas.List.{take-take}
-use Rattle.regmodel.specs.Outcomes.{outcome_of}
+use Rattle.regmodel.specs.Prelude.{outcome_of}
 use Rattle.world.specs.Sound.{letters_of}
 use Rattle.verdict.specs.Demands.{clauses_asked, meets_demands}
 use Rattle.world.proofs.SameWorlds.{same_since}

@@ -1,5 +1,5 @@
 use Rattle.std.proofs.Common.{◌≡◌, ◌≤◌, ℕ, false, length, take}
-use Rattle.regmodel.specs.Outcomes.{outcome_of}
+use Rattle.regmodel.specs.Prelude.{outcome_of}
 use Rattle.world.specs.Sound.{IsSameWorld, letters_of, world_programs}
 use Rattle.verdict.specs.Demands.{clauses_asked, meets_demands}
 use Rattle.verdict.proofs.onsets.onset_of.Given as goal

@@ -3,7 +3,7 @@ use Rattle.std.proofs.lemmas.Iterator.{YieldsList-from_slice}
 use Rattle.std.proofs.lemmas.Iterator.Consumers.{YieldsList-from_filter, count_from_yields_List}
 use Rattle.std.proofs.lemmas.List.Sums.{length-filter}
 use Rattle.reglang.specs.Drafts.{is_turn}
-use Rattle.reglang.proofs.open_process.open_repeats.Goals as goal
+use Rattle.reglang.proofs.draft.open_repeats.Goals as goal
 
 pub returns : goal.returns
 returns c =

@@ -1,10 +1,10 @@
 use Rattle.std.proofs.Common.{◌+◌, ◌∷◌, ◌++◌, drop, ap, sym, ◌∙◌}
 use Rattle.std.proofs.lemmas.List.{append-nil, drop_more, drop_all}
 use Rattle.regmodel.specs.Program as program
-use Rattle.regmodel.specs.Blocks.{block_of, with_stmt}
+use Rattle.regmodel.specs.Prelude.{block_of, with_stmt}
 use Rattle.regmodel.proofs.Rows.{with_stmt-If, with_stmt-Repeat}
 use Rattle.reglang.proofs.Programs.{block_of_same}
-use Rattle.reglang.proofs.copies.+copies.Goals as goal
+use Rattle.reglang.proofs.source.+copies.Goals as goal
 
 pub copy_block-loop-stmt-preserved : goal.copy_block-loop-stmt-preserved
 copy_block-loop-stmt-preserved t c =

@@ -1,10 +1,10 @@
 use Rattle.std.proofs.Common.{Ok, ap, sym, ◌∙◌, arith}
 use Rattle.std.specs.List.{count_by}
-use Rattle.regmodel.specs.Blocks.{block_of}
+use Rattle.regmodel.specs.Prelude.{block_of}
 use Rattle.reglang.specs.Drafts.{contents_before, entered, is_turn}
-use Rattle.reglang.specs.declared.open_process.Open.TheVariants.{Turn}
+use Rattle.reglang.specs.declared.draft.Open.TheVariants.{Turn}
 use Rattle.reglang.proofs.OneLineMore.{answered, entered_repeat, no_more_turns}
-use Rattle.reglang.proofs.open_process.OpenProcess.enter_repeat.Goals as goal
+use Rattle.reglang.proofs.draft.OpenProcess.enter_repeat.Goals as goal
 
 pub returns-then-open_repeats : goal.returns-then-open_repeats
 returns-then-open_repeats c =

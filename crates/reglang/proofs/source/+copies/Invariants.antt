@@ -1,6 +1,6 @@
 use Rattle.std.proofs.Common.{◌≡◌, ◌++◌, drop}
-use Rattle.regmodel.specs.Blocks.{block_of}
-use Rattle.reglang.proofs.copies.+copies.Given as goal
+use Rattle.regmodel.specs.Prelude.{block_of}
+use Rattle.reglang.proofs.source.+copies.Given as goal
 
 -- the copies so far and what is left mean the whole
 abbrev pub invariant-copy_block-loop-stmt : goal.invariant-copy_block-loop-stmt

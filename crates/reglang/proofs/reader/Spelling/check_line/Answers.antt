@@ -2,8 +2,8 @@ use Rattle.std.proofs.Common.{◌≡◌, ap, length, refl, slice_get, sym, ◌�
 use Rattle.std.proofs.lemmas.Option.{slice_get_read}
 use Rattle.reglang.specs.Checks.{check_lines}
 use Rattle.reglang.specs.Sources.{check_lines_of, contents_of}
-use Rattle.verdict.proofs.BrokenChecks.{line_of_each}
-use Rattle.verdict.proofs.spellings.Spelling.check_line.Goals as goal
+use Rattle.reglang.proofs.CheckLines.{line_of_each}
+use Rattle.reglang.proofs.reader.Spelling.check_line.Goals as goal
 
 pub unreachable-requires : goal.unreachable-requires
 unreachable-requires c =

@@ -1,10 +1,10 @@
 use Rattle.std.proofs.Common.{ap, ◌∙◌, arith}
 use Rattle.std.proofs.lemmas.Bool.Decides.{nat_tests}
 use Rattle.regmodel.specs.Program.{Stop}
-use Rattle.regmodel.specs.Blocks.{block_of, with_stmt}
+use Rattle.regmodel.specs.Prelude.{block_of, with_stmt}
 use Rattle.reglang.proofs.Joins.{block_of-push}
 use Rattle.reglang.proofs.OneLineMore.{added}
-use Rattle.reglang.proofs.open_process.OpenProcess.add.Goals as goal
+use Rattle.reglang.proofs.draft.OpenProcess.add.Goals as goal
 
 pub returns : goal.returns
 returns c =

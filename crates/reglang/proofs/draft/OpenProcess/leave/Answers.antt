@@ -1,8 +1,8 @@
 use Rattle.std.proofs.Common.{Ok, ap, sym, ◌∙◌}
-use Rattle.regmodel.specs.Blocks.{block_of}
+use Rattle.regmodel.specs.Prelude.{block_of}
 use Rattle.reglang.specs.Drafts.{Inside, contents_before, frames_of}
 use Rattle.reglang.proofs.Joins.{block_of-push}
-use Rattle.reglang.proofs.open_process.OpenProcess.leave.Goals as goal
+use Rattle.reglang.proofs.draft.OpenProcess.leave.Goals as goal
 
 pub returns : goal.returns
 returns c =

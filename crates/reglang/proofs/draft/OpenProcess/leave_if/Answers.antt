@@ -1,12 +1,12 @@
 use Rattle.std.proofs.Common.{Ok, ap, sym, ◌∙◌}
 use Rattle.regmodel.proofs.Rows.{with_stmt-If}
 use Rattle.regmodel.specs.Program.{If, Stop}
-use Rattle.regmodel.specs.Blocks.{block_of}
+use Rattle.regmodel.specs.Prelude.{block_of}
 use Rattle.regmodel.specs.declared.statements.Stmt.TheVariants as stmt
 use Rattle.reglang.specs.Drafts.{open_with, pushed}
 use Rattle.reglang.proofs.Frames.{frames_pushed}
 use Rattle.reglang.proofs.OneLineMore.{answered, left_first, left_second}
-use Rattle.reglang.proofs.open_process.OpenProcess.leave_if.Goals as goal
+use Rattle.reglang.proofs.draft.OpenProcess.leave_if.Goals as goal
 
 pub returns-in-Some-First : goal.returns-in-Some-First
 returns-in-Some-First c =

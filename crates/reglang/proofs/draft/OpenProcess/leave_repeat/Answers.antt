@@ -5,7 +5,7 @@ use Rattle.regmodel.specs.declared.statements.Stmt.TheVariants as stmt
 use Rattle.reglang.specs.Drafts.{open_with, pushed}
 use Rattle.reglang.proofs.Frames.{frames_pushed}
 use Rattle.reglang.proofs.OneLineMore.{answered, left_repeat}
-use Rattle.reglang.proofs.open_process.OpenProcess.leave_repeat.Goals as goal
+use Rattle.reglang.proofs.draft.OpenProcess.leave_repeat.Goals as goal
 
 pub returns-in-Some-Turn : goal.returns-in-Some-Turn
 returns-in-Some-Turn c =
