@@ -3,10 +3,7 @@ use Rattle.std.proofs.Common.{◌≡◌, ℕ, List, Some, None, ap, sym, ◌∙�
 use Rattle.machine.specs.Stops.{stops_at}
 use Rattle.reglang.specs.Contents.{Contents, programs_in}
 use Rattle.reglang.specs.Sources.{own_program_at}
-use Rattle.regmodel.specs.Letters.{Schedule}
-use Rattle.regmodel.specs.Program.{Program}
-use Rattle.regmodel.specs.Replies.{replies}
-use Rattle.regmodel.specs.Reply.{Replies}
+use Rattle.regmodel.specs.Prelude.{Schedule, Program, replies, Replies}
 use Rattle.drawing.specs.Stops.{stop_after, stop_of}
 
 -- by its own program, on what it was answered

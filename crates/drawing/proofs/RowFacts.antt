@@ -2,14 +2,10 @@
 use Rattle.std.proofs.Common.{◌≡◌, ℕ, ◌+◌, ◌<◌, ◌==◌, not, List, [], ◌∷◌, ◌++◌, Option, Some, get_or, length, length-append, take, ap, sym, subst, ◌∙◌, append_assoc, arith}
 use Rattle.std.proofs.lemmas.List.{append-nil, take_more}
 use Rattle.std.proofs.lemmas.List.FromFn.{length-map-range_with_len}
-use Rattle.regmodel.specs.declared.letters.Letter.{Letter}
+use Rattle.regmodel.specs.declared.schedules.Letter.{Letter}
 use Rattle.regmodel.specs.declared.outcomes.ProcEnd.{ProcEnd}
-use Rattle.regmodel.specs.Letters.{Schedule, process_of}
-use Rattle.regmodel.specs.Wanted.{wanted_after}
+use Rattle.regmodel.specs.Prelude.{Schedule, process_of, wanted_after, outcome_of, Program, value_after}
 use Rattle.reglang.specs.Contents.{Contents, programs_in}
-use Rattle.regmodel.specs.Outcomes.{outcome_of}
-use Rattle.regmodel.specs.Program.{Program}
-use Rattle.regmodel.specs.Replies.{value_after}
 use Rattle.world.specs.Registers.{values_after}
 use Rattle.drawing.specs.declared.drawings.Deed.{Deed}
 use Rattle.drawing.specs.declared.drawings.Held.{Held}
@@ -61,8 +57,8 @@ pub rows-past : (source : Contents) (v w : Schedule) (rows more : List Row) (a :
 rows-past source v w rows more a row went pushed before last = rw (went, pushed) (rows-more source [] v rows a row before last)
 
 -- what a letter does, by programs that have stayed the same
-pub deed-same : (ps qs : List Program) (v : Schedule) (a : Letter) (did : Deed) → qs ≡ ps → deed_by (value_after qs v) a (wanted_after qs v (process_of a)) ≡ Some did → deed_by (value_after ps v) a (wanted_after ps v (process_of a)) ≡ Some did
-deed-same ps qs v a did same told = subst (λ (rs : List Program). deed_by (value_after rs v) a (wanted_after rs v (process_of a)) ≡ Some did) same told
+pub deed-same : (ps qs : List Program) (v : Schedule) (a : Letter) (did : Deed) → qs ≡ ps → deed_by a (wanted_after qs v (process_of a)) ≡ Some did → deed_by a (wanted_after ps v (process_of a)) ≡ Some did
+deed-same ps qs v a did same told = subst (λ (rs : List Program). deed_by a (wanted_after rs v (process_of a)) ≡ Some did) same told
 
 -- the picture of the parts
 pub picture-whole : (source : Contents) (qs : List Program) (v w : Schedule) (picture : Picture) (start : List Held) (rows : List Row) (ends : List ProcEnd) (stops : List (Option Stopped)) → picture ≡ record { start = start; rows = rows; ends = ends; stops = stops } → qs ≡ programs_in source → v ≡ w → start ≡ all_held (programs_in source) source.registers [] [] → AreRowsOf source [] v rows → ends ≡ outcome_of qs v → stops ≡ stops_after source v → IsPictureOf source w picture

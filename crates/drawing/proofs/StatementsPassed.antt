@@ -1,5 +1,5 @@
 -- The lines of statements, past one line.
-use Rattle.std.proofs.Common.{◌≡◌, ℕ, suc, ◌+◌, ◌==◌, ◌&&◌, true, false, List, [], ◌∷◌, ◌++◌, Some, ap}
+use Rattle.std.proofs.Common.{◌≡◌, ℕ, suc, ◌+◌, ◌==◌, ◌&&◌, true, false, List, [], ◌∷◌, ◌++◌, ap}
 use Rattle.std.specs.Prelude.{if◌then◌else◌, slice_get}
 use Rattle.reglang.specs.Forms.{read_line}
 use Rattle.drawing.specs.StatementLines.{begun_with, says_statement, statements_after}
@@ -8,11 +8,6 @@ use Rattle.drawing.specs.StatementLines.{begun_with, says_statement, statements_
 pub none-here : (p before begun k : ℕ) (line : List ℕ) (more : List (List ℕ)) → (says_statement (read_line line) && begun == p + 1) ≡ false → slice_get (statements_after p before begun (line ∷ more)) k ≡ slice_get (statements_after p (before + 1) (begun_with (read_line line) begun) more) k
 none-here p before begun k line more other =
     ap (λ own. slice_get ((if own then (before + 1) ∷ [] else []) ++ statements_after p (before + 1) (begun_with (read_line line) begun) more) k) other
-
--- one that is has the first
-pub first-here : (p before begun : ℕ) (line : List ℕ) (more : List (List ℕ)) → (says_statement (read_line line) && begun == p + 1) ≡ true → slice_get (statements_after p before begun (line ∷ more)) 0 ≡ Some (before + 1)
-first-here p before begun line more own =
-    ap (λ own. slice_get ((if own then (before + 1) ∷ [] else []) ++ statements_after p (before + 1) (begun_with (read_line line) begun) more) 0) own
 
 -- and those past it stand behind
 pub more-here : (p before begun k : ℕ) (line : List ℕ) (more : List (List ℕ)) → (says_statement (read_line line) && begun == p + 1) ≡ true → slice_get (statements_after p before begun (line ∷ more)) (suc k) ≡ slice_get (statements_after p (before + 1) (begun_with (read_line line) begun) more) k

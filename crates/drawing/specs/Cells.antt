@@ -1,16 +1,17 @@
--- The texts of a drawing, cell by cell: lines from 0, the header, the start, a line a letter, the ends; columns from 0, the letters'
--- numbers, a column a process, a column a register.
+-- The texts of a drawing, cell by cell: lines from 0, the header, the start, a line a letter, the
+-- ends; columns from 0, the letters' numbers, a column a process, a column a register.
 use Rattle.std.specs.Prelude.{ℕ, zero, suc, ◌+◌, ◌-◌, ◌==◌, ◌&&◌, ◌||◌, Bool, true, false, not, List, [], ◌++◌, length, Option, Some, None}
 use Rattle.std.specs.Prelude.{codes, decimal, if◌then◌else◌, is_some, nat_le, nat_lt, slice_get}
 use Rattle.std.specs.List.{list_any}
 use Rattle.texts.specs.OutcomeText.{end_text, fate_text}
+use Rattle.regmodel.specs.declared.accesses.Access.TheVariants.{Read, Write, Scan}
 use Rattle.regmodel.specs.declared.outcomes.End as fates
 use Rattle.regmodel.specs.declared.outcomes.End.TheVariants as fate
 use Rattle.regmodel.specs.declared.outcomes.ProcEnd.{ProcEnd}
 use Rattle.drawing.specs.declared.cells.Line as lines
 use Rattle.drawing.specs.declared.cells.Line.TheVariants as line
 use Rattle.drawing.specs.declared.drawings.Deed.{Deed}
-use Rattle.drawing.specs.declared.drawings.Deed.TheVariants.{Read, Write, Scan, Crash}
+use Rattle.drawing.specs.declared.drawings.Deed.TheVariants.{Did, Crash}
 use Rattle.drawing.specs.declared.drawings.Held.{Held}
 use Rattle.drawing.specs.declared.drawings.Row.{Row}
 use Rattle.drawing.specs.Labels.{Labels, letter_line}
@@ -35,9 +36,14 @@ text_at text None = []
 abbrev pub value_text : Held → List ℕ
 value_text held = codes " " ++ decimal held.value
 
+-- the same of a register, where it is there
+abbrev pub value_at : List Held → ℕ → List ℕ
+value_at registers r = text_at value_text (slice_get registers r)
+
 -- what a scan of so many registers from the first on finds in a register, where it is one of them
 abbrev pub found_text : List Held → ℕ → ℕ → ℕ → List ℕ
-found_text registers first count r = if nat_le first r && nat_lt r (first + count) then text_at value_text (slice_get registers r) else []
+found_text registers first count r =
+    if nat_le first r && nat_lt r (first + count) then value_at registers r else []
 
 -- what it finds in all of them
 abbrev pub scanned_text : List Held → ℕ → ℕ → List ℕ
@@ -55,18 +61,22 @@ place_text names r = name_or names r (decimal r)
 abbrev pub is_named : Names → ℕ → Bool
 is_named names r = is_some (name_at names r)
 
--- the registers of a scan: the first one, and how many they are; or the first and the last one, where one of these has a name
+-- the registers of a scan: the first one, and how many they are; or the first and the last one,
+-- where one of these has a name
 abbrev pub span_text : Names → ℕ → ℕ → List ℕ
 span_text names first count =
     if is_named names first || is_named names (first + count - 1)
     then place_text names first ++ codes " .. " ++ place_text names (first + count - 1)
     else decimal first ++ codes " " ++ decimal count
 
--- what a letter did, after which registers hold this
+-- what a letter did, after which registers hold this: what it read is what they hold then
 abbrev pub deed_text : Names → List Held → Deed → List ℕ
-deed_text names registers (Read r v) = codes "read " ++ place_text names r ++ codes " = " ++ decimal v
-deed_text names registers (Write r v) = codes "write " ++ place_text names r ++ codes " " ++ decimal v
-deed_text names registers (Scan first count) = codes "scan " ++ span_text names first count ++ codes " =" ++ scanned_text registers first count
+deed_text names registers (Did (Read r)) =
+    codes "read " ++ place_text names r ++ codes " =" ++ value_at registers r
+deed_text names registers (Did (Write r v)) =
+    codes "write " ++ place_text names r ++ codes " " ++ decimal v
+deed_text names registers (Did (Scan first count)) =
+    codes "scan " ++ span_text names first count ++ codes " =" ++ scanned_text registers first count
 deed_text names registers Crash = codes "crash"
 
 -- whether a process has come to its end by itself
@@ -91,7 +101,9 @@ is_last rows row = not (list_any (is_later row.number row.process) rows)
 -- what a row's letter did, and where it is the last one of its process, how that came to its end
 abbrev pub row_text : Names → Picture → Row → List ℕ
 row_text names picture row =
-    deed_text names row.registers.items row.deed ++ (if is_last picture.rows row then text_at ending_text (slice_get picture.ends row.process) else [])
+    deed_text names row.registers.items row.deed
+    ++ (if is_last picture.rows row
+    then text_at ending_text (slice_get picture.ends row.process) else [])
 
 -- what a line is: the header, the start, one letter's row, or the ends
 pub data Line : Type 0 where
@@ -108,7 +120,8 @@ row_or_end None = End
 -- what the line with this number is
 abbrev pub line_at : Picture → ℕ → Line
 line_at picture line =
-    if line == 0 then Head else (if line == 1 then Start else row_or_end (slice_get picture.rows (line - 2)))
+    if line == 0 then Head
+    else (if line == 1 then Start else row_or_end (slice_get picture.rows (line - 2)))
 
 -- the same of a line whose row is behind a reference
 abbrev pub line_of : lines.Line → Line
@@ -125,23 +138,26 @@ gap_behind number = if nat_lt number 10 then codes "     " else codes "    "
 abbrev pub behind_number : ℕ → ℕ → List ℕ
 behind_number number line = gap_behind number ++ decimal line
 
--- the line with the statement that took a letter, where that is to be told of a text and there is one
+-- the line with the statement that took a letter, where there is one and it is to be told of a text
 abbrev pub line_beside : Option (List ℕ) → Row → List ℕ
 line_beside (Some text) row = text_at (behind_number row.number) (letter_line text row)
 line_beside None row = []
 
--- a line in the column of the letters' numbers, and in that of the lines of their statements, where these are to be told
+-- a line in the column of the letters' numbers, and in that of the lines of their statements, where
+-- these are to be told
 abbrev pub number_cell : Option (List ℕ) → Line → List ℕ
 number_cell lines Head = if is_some lines then codes "step  line" else codes "step"
 number_cell lines Start = codes "0"
 number_cell lines (Letter row) = decimal row.number ++ line_beside lines row
 number_cell lines End = []
 
--- a line in the column of process p: what the letter did, where it is one of p, and by its last one how p came to its end; then how p stands
+-- a line in the column of process p: what the letter did, where it is one of p, and by its last one
+-- how p came to its end; then how p stands
 abbrev pub process_cell : Names → Picture → ℕ → Line → List ℕ
 process_cell names picture p Head = codes "process " ++ decimal p
 process_cell names picture p Start = []
-process_cell names picture p (Letter row) = if row.process == p then row_text names picture row else []
+process_cell names picture p (Letter row) =
+    if row.process == p then row_text names picture row else []
 process_cell names picture p End = text_at end_text (slice_get picture.ends p)
 
 -- a line in the column of register r: its name, or else `r` and its number; then what it holds

@@ -43,7 +43,10 @@ tells_registers text = list_all is_range (parts text)
 
 -- whether a part tells a register
 abbrev pub is_within : ℕ → List ℕ → Bool
-is_within register part = elim (range_in part) [ Some (first, last) ↦ nat_le first register && nat_le register last | None ↦ false ]
+is_within register part = elim (range_in part) [
+  | Some (first, last) ↦ nat_le first register && nat_le register last
+  | None ↦ false
+]
 
 -- whether a text tells a register
 abbrev pub is_told : List ℕ → ℕ → Bool

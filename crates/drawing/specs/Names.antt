@@ -24,14 +24,19 @@ name_of (name ∷ more ∷ rest) = None
 abbrev pub number_word : ℕ → List ℕ
 number_word r = decimal r ++ codes ":"
 
--- the name that a line gives the register of this word, where it does: behind `#`, `register` and that word
+-- the name that a line gives the register of this word, where it does: behind `#`, `register` and
+-- that word
 abbrev pub name_in : List ℕ → List ℕ → Option (List ℕ)
-name_in number line = name_of (behind number (behind (codes "register") (behind (codes "#") (words line))))
+name_in number line =
+    name_of (behind number (behind (codes "register") (behind (codes "#") (words line))))
 
 -- the name that the first line gives it which does
 abbrev pub first_name : List ℕ → List (List ℕ) → Option (List ℕ)
 first_name number [] = None
-first_name number (line ∷ lines) = elim (name_in number line) [ Some name ↦ Some name | None ↦ first_name number lines ]
+first_name number (line ∷ lines) = elim (name_in number line) [
+  | Some name ↦ Some name
+  | None ↦ first_name number lines
+]
 
 -- the name that a text gives a register, where it does
 abbrev pub name_told : List ℕ → ℕ → Option (List ℕ)

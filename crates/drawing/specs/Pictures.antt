@@ -1,16 +1,14 @@
 -- What is drawn of a schedule.
 use Rattle.std.specs.Prelude.{◌≡◌, ℕ, ◌+◌, List, [], ◌∷◌, ◌++◌, length, IfErr, IfOk, OnOk, Option, Result, Some, None}
 use Rattle.regmodel.specs.declared.accesses.Access.{Access}
-use Rattle.regmodel.specs.declared.accesses.Access.TheVariants as access
 use Rattle.regmodel.specs.declared.accesses.Pending.{Pending}
-use Rattle.regmodel.specs.declared.letters.Letter.{Letter}
-use Rattle.regmodel.specs.declared.letters.Letter.TheVariants as letter
+use Rattle.regmodel.specs.declared.schedules.Letter.{Letter}
+use Rattle.regmodel.specs.declared.schedules.Letter.TheVariants as letter
 use Rattle.regmodel.specs.declared.outcomes.ProcEnd.{ProcEnd}
 use Rattle.regmodel.specs.Wanted.{wanted_after}
 use Rattle.regmodel.specs.Letters.{Schedule, process_of}
 use Rattle.regmodel.specs.Outcomes.{outcome_of}
 use Rattle.regmodel.specs.Program.{Program}
-use Rattle.regmodel.specs.Replies.{value_after}
 use Rattle.regmodel.specs.Reply.{Replies}
 use Rattle.regmodel.specs.Schedules.{IsSchedule}
 use Rattle.reglang.specs.Contents.{Contents, programs_in}
@@ -34,21 +32,23 @@ pub record Picture : Type 0 where
   pub ends : List ProcEnd
   pub stops : List (Option Stopped)
 
--- what a letter does, where `values` tells what registers hold before it, beside the access that its process wants; a run of a
--- process that wants none does nothing
-abbrev pub deed_by : (ℕ → ℕ) → Letter → Option Access → Option Deed
-deed_by values (letter.Run p) (Some (access.Read r)) = Some (deed.Read r (values r))
-deed_by values (letter.Run p) (Some (access.Write r v)) = Some (deed.Write r v)
-deed_by values (letter.Run p) (Some (access.Scan first count)) = Some (deed.Scan first count)
-deed_by values (letter.Run p) None = None
-deed_by values (letter.Crash p) wanted = Some deed.Crash
+-- what a letter does, beside what its process wants; a run of one that wants nothing does nothing
+abbrev pub deed_by : Letter → Option Access → Option Deed
+deed_by (letter.Run p) (Some access) = Some (deed.Did access)
+deed_by (letter.Run p) None = None
+deed_by (letter.Crash p) wanted = Some deed.Crash
 
--- the row of a letter that comes after `before`, with the statement at which its process stands before it
-pub record IsRowOf (source : Contents) (before : Schedule) (letter : Letter) (row : Row) : Type 0 where
+-- the row of a letter that comes after `before`, with the statement at which its process stands
+-- before it
+pub record IsRowOf (source : Contents) (before : Schedule) (letter : Letter)
+    (row : Row) : Type 0 where
   pub number : row.number ≡ length before + 1
   pub process : row.process ≡ process_of letter
-  pub deed : deed_by (value_after (programs_in source) before) letter (wanted_after (programs_in source) before (process_of letter)) ≡ Some row.deed
-  pub registers : row.registers.items ≡ all_held (programs_in source) source.registers before (before ++ letter ∷ [])
+  pub deed :
+      deed_by letter (wanted_after (programs_in source) before (process_of letter)) ≡ Some row.deed
+  pub registers :
+      row.registers.items
+      ≡ all_held (programs_in source) source.registers before (before ++ letter ∷ [])
   pub statement : row.statement ≡ statement_after source before (process_of letter)
 
 -- a row for each letter of `later`, which comes after `before`
@@ -56,7 +56,8 @@ abbrev pub AreRowsOf : Contents → Schedule → Schedule → List Row → Type 
 AreRowsOf source before [] [] = Unit {0}
 AreRowsOf source before [] (row ∷ rows) = ⊥
 AreRowsOf source before (letter ∷ later) [] = ⊥
-AreRowsOf source before (letter ∷ later) (row ∷ rows) = IsRowOf source before letter row × AreRowsOf source (before ++ letter ∷ []) later rows
+AreRowsOf source before (letter ∷ later) (row ∷ rows) =
+    IsRowOf source before letter row × AreRowsOf source (before ++ letter ∷ []) later rows
 
 -- what is drawn of a schedule of a source
 pub record IsPictureOf (source : Contents) (w : Schedule) (picture : Picture) : Type 0 where
@@ -66,17 +67,21 @@ pub record IsPictureOf (source : Contents) (w : Schedule) (picture : Picture) : 
   pub stops : picture.stops ≡ stops_after source w
 
 -- a world of the processes of a source, over its registers
-pub record IsWorldOf {I : Type 0} {V : I → Type 0} (program : ((i : I) × V i) → Program) (world : World I V) (source : Contents) : Type 0 where
+pub record IsWorldOf {I : Type 0} {V : I → Type 0} (program : ((i : I) × V i) → Program)
+    (world : World I V) (source : Contents) : Type 0 where
   pub programs : world_programs program world ≡ programs_in source
   pub registers : register_count_of world ≡ source.registers
 
--- the same world was led along a schedule of a source, which was drawn; or it stands before the first letter that is not possible
+-- the same world was led along a schedule of a source, which was drawn; or it stands before the
+-- first letter that is not possible
 pub record Draws {I : Type 0} {V : I → Type 0}
     (program : ((i : I) × V i) → Program) (rest : ((i : I) × V i) → Replies → Pending)
-    (resumed : ((i : I) × V i) → List ℕ → Replies → Pending) (source : Contents) (old new : World I V) (w : Schedule)
+    (resumed : ((i : I) × V i) → List ℕ → Replies → Pending) (source : Contents)
+    (old new : World I V) (w : Schedule)
     (result : Result Picture BadLetter) : Type 0 where
   pub same : IsSameWorld program rest resumed old new
   pub schedule : IfOk result (λ drawing. IsSchedule (world_programs program old) (budget_of old) w)
   pub drawn : IfOk result (IsPictureOf source w)
   pub ok : OnOk result (letters_of new ≡ w)
-  pub refused : IfErr result (IsStopped (world_programs program old) (budget_of old) w (letters_of new))
+  pub refused :
+      IfErr result (IsStopped (world_programs program old) (budget_of old) w (letters_of new))

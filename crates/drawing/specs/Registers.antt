@@ -15,4 +15,5 @@ held_after programs before after r = record {
 
 -- the same of each of so many registers
 abbrev pub all_held : List Program → ℕ → Schedule → Schedule → List Held
-all_held programs registers before after = map (held_after programs before after) (range_with_len 0 registers)
+all_held programs registers before after =
+    map (held_after programs before after) (range_with_len 0 registers)

@@ -2,9 +2,12 @@
 use Rattle.std.specs.Prelude.{◌≡◌, ℕ, List, [], ◌∷◌, ◌++◌, map, refl, None, Some, codes}
 use Rattle.drawing.specs.StatementLines.{statement_line, statement_lines}
 
--- a process with a comment and an empty line among its statements, a use line, and a process without any
+-- a process with a comment and an empty line among its statements, a use line, and a process
+-- without any
 abbrev three : List ℕ
-three = codes "registers 4\nprocess\n  read v0 0\n\n  if v0\n  # 6\n    write 0 1\n  else\n    halt\n  fi\nend\ncheck ended\n"
+three =
+    codes "registers 4\nprocess\n  read v0 0\n\n  if v0\n  # 6\n    write 0 1\n"
+    ++ codes "  else\n    halt\n  fi\nend\ncheck ended\n"
     ++ codes "process\n  use split 1 1\nend\nprocess\nend\n"
 
 pub an_else_and_a_fi_are_none : statement_lines three 0 ≡ 3 ∷ 5 ∷ 7 ∷ 9 ∷ []

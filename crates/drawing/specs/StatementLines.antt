@@ -7,7 +7,8 @@ use Rattle.reglang.specs.declared.arguments.Line.{Line}
 use Rattle.reglang.specs.declared.arguments.Line.TheVariants as line
 use Rattle.reglang.specs.declared.refusals.LineFault.{LineFault}
 
--- whether a line is a statement, or the use line that stands for all of them; one that parts or ends a block is none
+-- whether a line is a statement, or the use line that stands for all of them; one that parts or
+-- ends a block is none
 abbrev pub is_statement : Line → Bool
 is_statement (line.If test) = true
 is_statement (line.Repeat count) = true
@@ -25,7 +26,8 @@ abbrev pub begun_with : Result (Option Line) LineFault → ℕ → ℕ
 begun_with (Ok (Some line.Process)) begun = suc begun
 begun_with _ begun = begun
 
--- the numbers of the statements of process p among these lines, which come after so many others, by which so many processes had begun
+-- the numbers of the statements of process p among these lines, which come after so many others, by
+-- which so many processes had begun
 abbrev pub statements_after : ℕ → ℕ → ℕ → List (List ℕ) → List ℕ
 statements_after p before begun [] = []
 statements_after p before begun (line ∷ lines) =

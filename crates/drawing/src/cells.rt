@@ -10,7 +10,7 @@ use crate::cell_bytes::{Cell, MOST_CELL_BYTES};
 use crate::drawings::{Deed, Drawing, Held, Row};
 use crate::labels::{Labels, line_of};
 use crate::names::{MOST_NAME_BYTES, Names};
-use regmodel::{End, ProcEnd};
+use regmodel::{Access, End, ProcEnd};
 
 /// The most columns: the letters' numbers, 8 processes and 64 registers.
 pub(crate) const MOST_COLUMNS: usize = 73;
@@ -57,17 +57,17 @@ fn deed_cell(names: &Names<'_>, deed: Deed, registers: &[Held]) -> Cell
     ensures long { length result ≤ 748 }
 {
     match deed {
-        Deed::Read(r, value) => Cell::new()
+        Deed::Did(Access::Read(r)) => Cell::new()
             .with(b"read ")
             .with_place(names, usize::from(r))
-            .with(b" = ")
-            .with_number(value),
-        Deed::Write(r, value) => Cell::new()
+            .with(b" =")
+            .with(value_cell(registers, usize::from(r)).bytes().as_slice()),
+        Deed::Did(Access::Write(r, value)) => Cell::new()
             .with(b"write ")
             .with_place(names, usize::from(r))
             .with(b" ")
             .with_number(value),
-        Deed::Scan(first, count) => {
+        Deed::Did(Access::Scan(first, count)) => {
             let scan = Cell::new()
                 .with(b"scan ")
                 .with_span(names, first, count)
@@ -100,8 +100,17 @@ fn found_cell(registers: &[Held], first: usize, count: usize, r: usize) -> Cell
     ensures long { length result ≤ 11 }
 {
     if r < first || first + count <= r {
-        return Cell::new();
+        Cell::new()
+    } else {
+        value_cell(registers, r)
     }
+}
+
+/// What a register holds, behind a space, where it is there.
+fn value_cell(registers: &[Held], r: usize) -> Cell
+    ensures text { result ≡ texts.value_at registers.now r }
+    ensures long { length result ≤ 11 }
+{
     match registers.get(r) {
         Some(held) => Cell::new().with(b" ").with_number(held.value),
         None => Cell::new(),

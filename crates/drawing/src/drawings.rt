@@ -4,18 +4,14 @@ ghost use Rattle.std.specs.Prelude.{◌≡◌, ◌≤◌, None, get_or, length};
 
 use arrayvec::ArrayVec;
 use machine::Stopped;
-use regmodel::Outcome;
+use regmodel::{Access, Outcome};
 use std::marker::Model;
 
 /// What a letter did.
 #[derive(Clone, Copy, Default, PartialEq, Eq, Debug)]
 pub enum Deed {
-    /// It read from this register this value.
-    Read(u8, u32),
-    /// It wrote into this register this value.
-    Write(u8, u32),
-    /// It read from this register on so many at once; what they held is what they hold after it.
-    Scan(u8, u8),
+    /// Its process did this access. What it read is what the registers hold after it.
+    Did(Access),
     /// Its process crashed. It is the default because `ArrayVec` asks for one.
     #[default]
     Crash,
@@ -36,9 +32,12 @@ impl Deed {
     pub(crate) fn writes(self, register: usize) -> bool
         ensures { result ≡ layout.writes register self }
     {
-        match self {
-            Deed::Write(r, _) => usize::from(r) == register,
-            Deed::Read(..) | Deed::Scan(..) | Deed::Crash => false,
+        let Deed::Did(access) = self else {
+            return false;
+        };
+        match access.footprint().writes {
+            Some(write) => usize::from(write.register) == register,
+            None => false,
         }
     }
 
@@ -46,13 +45,15 @@ impl Deed {
     pub(crate) fn reads(self, register: usize) -> bool
         ensures { result ≡ layout.reads register self }
     {
-        match self {
-            Deed::Read(r, _) => usize::from(r) == register,
-            Deed::Scan(first, count) => {
-                let (first, count) = (usize::from(first), usize::from(count));
+        let Deed::Did(access) = self else {
+            return false;
+        };
+        match access.footprint().reads {
+            Some(range) => {
+                let (first, count) = (usize::from(range.first), usize::from(range.count));
                 first <= register && register < first + count
             }
-            Deed::Write(..) | Deed::Crash => false,
+            None => false,
         }
     }
 }

@@ -1,8 +1,7 @@
 //! What registers hold, beside what they held before.
 
 ghost use Rattle.std.specs.Prelude.{◌≡◌, ◌≤◌, ℕ, List, length};
-ghost use Rattle.regmodel.specs.Letters.{Schedule};
-ghost use Rattle.regmodel.specs.Program.{Program};
+ghost use Rattle.regmodel.specs.Prelude.{Schedule, Program};
 ghost use Rattle.world.specs.Registers.{values_after};
 ghost use Rattle.drawing.specs.Registers.{all_held};
 

@@ -1,6 +1,6 @@
 use Rattle.std.proofs.Common.{◌≡◌, ◌<◌, ◌∙◌, [], ap, get_or, length, refl, sym, arith}
 use Rattle.std.proofs.lemmas.List.{take_all}
-use Rattle.regmodel.specs.declared.letters.Letter.TheVariants.{Run}
+use Rattle.regmodel.specs.declared.schedules.Letter.TheVariants.{Run}
 use Rattle.regmodel.proofs.FullSchedules.{is_possible-there}
 use Rattle.world.proofs.SameWorlds.{same_since}
 use Rattle.world.specs.Sound.{budget_of, letters_of, world_programs}

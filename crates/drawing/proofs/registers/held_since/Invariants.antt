@@ -1,6 +1,5 @@
 use Rattle.std.proofs.Common.{◌≡◌, ℕ, List, length}
-use Rattle.regmodel.specs.Letters.{Schedule}
-use Rattle.regmodel.specs.Program.{Program}
+use Rattle.regmodel.specs.Prelude.{Schedule, Program}
 use Rattle.world.specs.Registers.{values_after}
 use Rattle.drawing.specs.Registers.{all_held}
 use Rattle.drawing.proofs.registers.held_since.Given as goal

@@ -1,7 +1,7 @@
 use Rattle.std.proofs.Common.{◌≡◌, Some, length, ap, sym, ◌∙◌, arith}
 use Rattle.drawing.proofs.ProcessStops.{at_own, at_use}
 use Rattle.std.specs.Prelude.{option_map}
-use Rattle.regmodel.specs.OfProg.{program_of}
+use Rattle.regmodel.specs.Prelude.{program_of}
 use Rattle.reglang.specs.Sources.{contents_of, own_program_at}
 use Rattle.world.specs.Sound.{letters_of}
 use Rattle.drawing.proofs.stops.stop_of.Goals as goal
