@@ -6,11 +6,11 @@ use Rattle.std.proofs.lemmas.Bool.{cases_lt}
 use Rattle.std.proofs.lemmas.List.{take_more}
 use Rattle.std.proofs.lemmas.List.Quantifiers.{all_pairs_push}
 use mathlib.Core.Logic.{⊎_elim}
-use Rattle.regmodel.specs.Outcomes.{outcome_cmp}
+use Rattle.regmodel.specs.declared.outcomes.ProcEnd.{ProcEnd}
+use Rattle.regmodel.specs.Prelude.{outcome_cmp}
 use Rattle.patterns.specs.declared.standings.Standing.{Standing}
 use Rattle.part_texts.specs.FitsPart.{FitsOutcome}
 use Rattle.std.specs.List.{flat_map, list_all}
-use Rattle.regmodel.specs.declared.outcomes.ProcEnd.{ProcEnd}
 use Rattle.texts.specs.OutcomeText.{end_text, outcome_text}
 use Rattle.patterns.specs.declared.standings.Standing.TheVariants.{Just}
 use Rattle.patterns.specs.PatternText.{FitsPattern, end_fits, pattern_text, standing_fits, standing_text}

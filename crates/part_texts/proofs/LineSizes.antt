@@ -3,12 +3,12 @@ use Rattle.std.proofs.Common.{◌≡◌, ℕ, ◌+◌, ◌*◌, ◌^◌, ◌<◌
 use Rattle.std.specs.List.{flat_map, list_all}
 use Rattle.std.proofs.lemmas.Bool.{and_parts, leb-true}
 use Rattle.std.proofs.lemmas.Fmt.{length-decimal-le}
-use Rattle.regmodel.specs.declared.letters.Letter.{Letter}
-use Rattle.regmodel.specs.declared.letters.Letter.TheVariants.{Run, Crash}
+use Rattle.regmodel.specs.declared.schedules.Letter.{Letter}
 use Rattle.regmodel.specs.declared.outcomes.End.{End}
-use Rattle.regmodel.specs.declared.outcomes.End.TheVariants.{Done, Fault, Crashed, Running}
 use Rattle.regmodel.specs.declared.outcomes.ProcEnd.{ProcEnd}
-use Rattle.regmodel.specs.Letters.{Schedule}
+use Rattle.regmodel.specs.declared.schedules.Letter.TheVariants.{Run, Crash}
+use Rattle.regmodel.specs.Prelude.{Schedule}
+use Rattle.regmodel.specs.declared.outcomes.End.TheVariants.{Done, Fault, Crashed, Running}
 use Rattle.regmodel.specs.Prefixes.{FitsPrefix}
 use Rattle.regmodel.specs.ScheduleText.{letter_text, schedule_text}
 use Rattle.texts.specs.Cuts.{has_no}

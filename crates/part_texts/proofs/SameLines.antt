@@ -6,10 +6,10 @@ use Rattle.std.proofs.lemmas.Bool.{and_parts, and_from}
 use Rattle.std.proofs.lemmas.Bool.Decides.{nat_tests}
 use Rattle.std.proofs.lemmas.Fmt.{decimal_injective, decimal_is_IsNumeral}
 use Rattle.std.proofs.lemmas.List.Elements.{All-head, All-tail}
-use Rattle.regmodel.specs.declared.letters.Letter.{Letter}
-use Rattle.regmodel.specs.declared.letters.Letter.TheVariants.{Run, Crash}
+use Rattle.regmodel.specs.declared.schedules.Letter.{Letter}
 use Rattle.regmodel.specs.declared.outcomes.ProcEnd.{ProcEnd}
-use Rattle.regmodel.specs.Letters.{process_of}
+use Rattle.regmodel.specs.declared.schedules.Letter.TheVariants.{Run, Crash}
+use Rattle.regmodel.specs.Prelude.{process_of}
 use Rattle.regmodel.specs.ScheduleText.{letter_text, schedule_text}
 use Rattle.texts.specs.Cuts.{has_no}
 use Rattle.texts.specs.NumberText.{number_line}

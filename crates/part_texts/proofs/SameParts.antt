@@ -2,11 +2,11 @@
 use Rattle.std.proofs.Common.{◌≡◌, ℕ, ◌≤◌, List, [], ◌∷◌, ◌++◌, length, codes, Option, Some, None, All, refl, ap, sym, subst, ◌∙◌, arith, append_assoc}
 use Rattle.std.specs.List.{flat_map}
 use Rattle.std.proofs.lemmas.List.Elements.{All-head, All-tail}
-use Rattle.regmodel.specs.declared.letters.Letter.{Letter}
-use Rattle.regmodel.specs.declared.letters.Letter.TheVariants.{Run, Crash}
+use Rattle.regmodel.specs.declared.schedules.Letter.{Letter}
 use Rattle.regmodel.specs.declared.outcomes.ProcEnd.{ProcEnd}
+use Rattle.regmodel.specs.declared.schedules.Letter.TheVariants.{Run, Crash}
+use Rattle.regmodel.specs.Prelude.{Summary}
 use Rattle.regmodel.specs.ScheduleText.{schedule_text}
-use Rattle.regmodel.specs.Summary.{Summary}
 use Rattle.regmodel.proofs.ScheduleTexts.{schedule_text-same}
 use Rattle.report.specs.ReportText.{least_text}
 use Rattle.texts.specs.NumberText.{number_line}

@@ -9,13 +9,11 @@ use Rattle.std.specs.declared.cmp.Ordering.TheVariants.{Less}
 use Rattle.std.proofs.lemmas.Bool.{false≢true}
 use Rattle.std.proofs.lemmas.List.{get_or_append_left, get_or_at}
 use Rattle.std.proofs.lemmas.List.Elements.{All-head, All-tail}
-use Rattle.regmodel.specs.Letters.{Schedule}
-use Rattle.regmodel.specs.Outcomes.{outcome_cmp}
+use Rattle.regmodel.specs.declared.outcomes.ProcEnd.{ProcEnd}
+use Rattle.regmodel.specs.Prelude.{Schedule, outcome_cmp, Summary}
 use Rattle.regmodel.specs.Prefixes.{FitsPrefix}
 use Rattle.regmodel.specs.ScheduleText.{schedule_text}
 use Rattle.regmodel.specs.Settings.{Bounds}
-use Rattle.regmodel.specs.Summary.{Summary}
-use Rattle.regmodel.specs.declared.outcomes.ProcEnd.{ProcEnd}
 use Rattle.report.specs.ReportText.{least_text}
 use Rattle.texts.specs.NumberText.{number_line}
 use Rattle.texts.specs.OutcomeText.{outcome_line, outcome_text}

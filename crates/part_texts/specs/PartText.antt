@@ -13,7 +13,8 @@ use Rattle.part_texts.specs.declared.parts.PartReport.{PartReport}
 
 -- which part of how many
 abbrev pub number_text : ℕ → ℕ → List ℕ
-number_text number count = codes "part " ++ decimal number ++ codes " of " ++ decimal count ++ codes "\n"
+number_text number count =
+    codes "part " ++ decimal number ++ codes " of " ++ decimal count ++ codes "\n"
 
 -- how far is explored
 abbrev pub bounds_text : ℕ → ℕ → ℕ → ℕ → List ℕ
@@ -31,7 +32,8 @@ source_text source = number_line (codes "source") (length source) ++ source
 
 -- the outcomes, behind a line with their number
 abbrev pub outcomes_text : List (List ProcEnd) → List ℕ
-outcomes_text outcomes = number_line (codes "outcomes") (length outcomes) ++ flat_map outcome_line outcomes
+outcomes_text outcomes =
+    number_line (codes "outcomes") (length outcomes) ++ flat_map outcome_line outcomes
 
 -- an outcome behind a word, on one line
 abbrev pub outcome_behind : List ℕ → List ProcEnd → List ℕ
@@ -44,7 +46,8 @@ head_text head = number_text head.number head.count ++ bounds_in head ++ source_
 -- what is found: the least failing schedule, behind how many schedules were tried and the outcomes,
 -- if more was sought than that schedule
 abbrev pub found_text : Found → List ℕ
-found_text (Explored s) = number_line (codes "tried") s.tried ++ outcomes_text s.outcomes ++ least_text s.least
+found_text (Explored s) =
+    number_line (codes "tried") s.tried ++ outcomes_text s.outcomes ++ least_text s.least
 found_text (Least least) = least_text least
 
 -- a line behind the rest of the text
@@ -59,7 +62,9 @@ part_text report = head_text report.head ++ found_text report.found ++ end_text
 abbrev pub explored_part : PlainHead → Findings → PartReport
 explored_part head findings = record {
   head = head;
-  found = Explored (record { tried = findings.tried; outcomes = findings.outcomes; least = findings.least });
+  found =
+      Explored
+      (record { tried = findings.tried; outcomes = findings.outcomes; least = findings.least });
 }
 
 -- a part of which the least failing schedule alone was sought

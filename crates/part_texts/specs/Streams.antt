@@ -10,7 +10,8 @@ abbrev pub left_of : {R : Type 0} → (R → Option (List ℕ)) → PartStream R
 left_of left stream = left stream.reader
 
 -- a text of this kind was read
-abbrev pub Reads : {R X : Type 0} → (R → Option (List ℕ)) → (X → List ℕ) → PartStream R → PartStream R → X → Type 0
+abbrev pub Reads : {R X : Type 0} → (R → Option (List ℕ)) → (X → List ℕ) → PartStream R
+    → PartStream R → X → Type 0
 Reads left text old new x = Consumes (left_of left old) (left_of left new) (text x)
 
 -- a line with its line feed

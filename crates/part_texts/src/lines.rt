@@ -1,8 +1,8 @@
 //! What stands on a line. No call takes memory.
 
 ghost use Rattle.std.specs.Prelude.{◌≡◌, ◌≢◌, ◌<◌, ◌≤◌, ◌^◌, ◌++◌, ℕ, IfNone, IfSome, List, codes, decimal};
-ghost use Rattle.regmodel.specs.declared.limits.TheConstants.{MOST_PARTS, MOST_PROCESSES};
 ghost use Rattle.regmodel.specs.declared.outcomes.ProcEnd.{ProcEnd};
+ghost use Rattle.regmodel.specs.declared.limits.TheConstants.{MOST_PARTS, MOST_PROCESSES};
 ghost use Rattle.texts.specs.OutcomeText.{outcome_text};
 ghost use Rattle.part_texts.specs.FitsPart.{FitsOutcome};
 

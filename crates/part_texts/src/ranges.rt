@@ -1,7 +1,7 @@
 //! Numbers within their ranges. No call takes memory.
 
 ghost use Rattle.std.specs.Prelude.{◌≡◌, ◌<◌, ◌≤◌, ◌^◌, IfErr, IfOk, IsOk};
-ghost use Rattle.regmodel.specs.declared.limits.TheConstants.{GREATEST_CUT, MOST_CRASHES, MOST_LETTERS, MOST_PARTS};
+ghost use Rattle.regmodel.specs.declared.limits.TheConstants.{GREATEST_CUT, MOST_PARTS, MOST_CRASHES, MOST_LETTERS};
 ghost use Rattle.part_texts.specs.declared.faults.Cause.TheVariants.{OutOfRange};
 
 use crate::faults::Cause;

@@ -2,7 +2,7 @@
 
 ghost use Rattle.std.specs.Prelude.{◌≡◌, ◌∷◌, ◌++◌, [], AllPairs, IsTrue};
 ghost use Rattle.std.specs.declared.cmp.Ordering.TheVariants.{Less};
-ghost use Rattle.regmodel.specs.Outcomes.{outcome_cmp};
+ghost use Rattle.regmodel.specs.Prelude.{outcome_cmp};
 
 use regmodel::Outcome;
 use regmodel::laws::{orders_are_those_of_the_definitions, outcomes_are_in_a_total_order};

@@ -6,8 +6,8 @@ use Rattle.std.proofs.lemmas.Fmt.{decimal_digit, decimal_injective}
 use Rattle.std.proofs.lemmas.List.Folds.{list_all-append}
 use Rattle.std.proofs.lemmas.Grind.{flat_map-append}
 use Rattle.regmodel.specs.declared.outcomes.End.{End}
-use Rattle.regmodel.specs.declared.outcomes.End.TheVariants.{Done, Fault, Crashed, Running}
 use Rattle.regmodel.specs.declared.outcomes.ProcEnd.{ProcEnd}
+use Rattle.regmodel.specs.declared.outcomes.End.TheVariants.{Done, Fault, Crashed, Running}
 use Rattle.texts.specs.Cuts.{has_no, begins_at}
 use Rattle.texts.specs.NumberText.{numbers_text}
 use Rattle.texts.specs.OutcomeText.{end_text, fate_text}
@@ -201,48 +201,11 @@ end-cut fate started text word after cut e =
     let same = cut_is 32 text word after (word_of fate) (after_word fate ++ idle_text started) cut (word-no_space fate) (after-begins fate started) (sym (end-parts fate started) ∙ e) in
     record { word_is = same.0; after_is = same.1 }
 
-done-at : (fate : End) (started : Bool) (word after : List ℕ) → IsEndCut fate started word after → word ≡ codes "done" → ((numbers : List ℕ) (s : Bool) → numbers_fit numbers ≡ true → numbers_text numbers ++ idle_text s ≢ after) → end_fits fate ≡ true → ⊥
-done-at (Done numbers) started word after cut w none fits = none numbers.items started fits cut.after_is
-done-at (Fault code) started word after cut w none fits = omega (arith, first-same 102 100 _ _ (cut.word_is ∙ w))
-done-at Crashed started word after cut w none fits = omega (arith, first-same 99 100 _ _ (cut.word_is ∙ w))
-done-at Running started word after cut w none fits = omega (arith, first-same 114 100 _ _ (cut.word_is ∙ w))
-
-fault-at : (fate : End) (started : Bool) (word after : List ℕ) → IsEndCut fate started word after → word ≡ codes "fault" → ((code : ℕ) (s : Bool) → code_fits code ≡ true → code_text code ++ idle_text s ≢ after) → end_fits fate ≡ true → ⊥
-fault-at (Done numbers) started word after cut w none fits = omega (arith, first-same 100 102 _ _ (cut.word_is ∙ w))
-fault-at (Fault code) started word after cut w none fits = none code started fits cut.after_is
-fault-at Crashed started word after cut w none fits = omega (arith, first-same 99 102 _ _ (cut.word_is ∙ w))
-fault-at Running started word after cut w none fits = omega (arith, first-same 114 102 _ _ (cut.word_is ∙ w))
-
-crashed-at : (fate : End) (started : Bool) (word after : List ℕ) → IsEndCut fate started word after → word ≡ codes "crashed" → ((s : Bool) → idle_text s ≢ after) → ⊥
-crashed-at (Done numbers) started word after cut w none = omega (arith, first-same 100 99 _ _ (cut.word_is ∙ w))
-crashed-at (Fault code) started word after cut w none = omega (arith, first-same 102 99 _ _ (cut.word_is ∙ w))
-crashed-at Crashed started word after cut w none = none started cut.after_is
-crashed-at Running started word after cut w none = omega (arith, first-same 114 99 _ _ (cut.word_is ∙ w))
-
-running-at : (fate : End) (started : Bool) (word after : List ℕ) → IsEndCut fate started word after → word ≡ codes "running" → ((s : Bool) → idle_text s ≢ after) → ⊥
-running-at (Done numbers) started word after cut w none = omega (arith, first-same 100 114 _ _ (cut.word_is ∙ w))
-running-at (Fault code) started word after cut w none = omega (arith, first-same 102 114 _ _ (cut.word_is ∙ w))
-running-at Crashed started word after cut w none = omega (arith, first-same 99 114 _ _ (cut.word_is ∙ w))
-running-at Running started word after cut w none = none started cut.after_is
-
 other-at : (fate : End) (started : Bool) (word after : List ℕ) → IsEndCut fate started word after → word ≢ codes "done" → word ≢ codes "fault" → word ≢ codes "crashed" → word ≢ codes "running" → ⊥
 other-at (Done numbers) started word after cut d f c r = d (sym cut.word_is)
 other-at (Fault code) started word after cut d f c r = f (sym cut.word_is)
 other-at Crashed started word after cut d f c r = c (sym cut.word_is)
 other-at Running started word after cut d f c r = r (sym cut.word_is)
-
--- why a text is that of no process, by its first word
-pub none-done : (text word after : List ℕ) → IsCut 32 text word after → word ≡ codes "done" → ((numbers : List ℕ) (s : Bool) → numbers_fit numbers ≡ true → numbers_text numbers ++ idle_text s ≢ after) → (p : ProcEnd) → end_fits p.fate ≡ true → end_text p ≢ text
-none-done text word after cut w none p fits e = done-at p.fate p.started word after (end-cut p.fate p.started text word after cut e) w none fits
-
-pub none-fault : (text word after : List ℕ) → IsCut 32 text word after → word ≡ codes "fault" → ((code : ℕ) (s : Bool) → code_fits code ≡ true → code_text code ++ idle_text s ≢ after) → (p : ProcEnd) → end_fits p.fate ≡ true → end_text p ≢ text
-none-fault text word after cut w none p fits e = fault-at p.fate p.started word after (end-cut p.fate p.started text word after cut e) w none fits
-
-pub none-crashed : (text word after : List ℕ) → IsCut 32 text word after → word ≡ codes "crashed" → ((s : Bool) → idle_text s ≢ after) → (p : ProcEnd) → end_fits p.fate ≡ true → end_text p ≢ text
-none-crashed text word after cut w none p fits e = crashed-at p.fate p.started word after (end-cut p.fate p.started text word after cut e) w none
-
-pub none-running : (text word after : List ℕ) → IsCut 32 text word after → word ≡ codes "running" → ((s : Bool) → idle_text s ≢ after) → (p : ProcEnd) → end_fits p.fate ≡ true → end_text p ≢ text
-none-running text word after cut w none p fits e = running-at p.fate p.started word after (end-cut p.fate p.started text word after cut e) w none
 
 pub none-other : (text word after : List ℕ) → IsCut 32 text word after → word ≢ codes "done" → word ≢ codes "fault" → word ≢ codes "crashed" → word ≢ codes "running" → (p : ProcEnd) → end_fits p.fate ≡ true → end_text p ≢ text
 none-other text word after cut d f c r p fits e = other-at p.fate p.started word after (end-cut p.fate p.started text word after cut e) d f c r

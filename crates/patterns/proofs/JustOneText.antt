@@ -7,8 +7,8 @@ use Rattle.std.proofs.lemmas.Bool.Decides.{nat_tests}
 use Rattle.std.proofs.lemmas.Fmt.{decimal_injective}
 use Rattle.std.proofs.lemmas.List.{append-nil}
 use Rattle.regmodel.specs.declared.outcomes.End.{End}
-use Rattle.regmodel.specs.declared.outcomes.End.TheVariants.{Done, Fault, Crashed, Running}
 use Rattle.regmodel.specs.declared.outcomes.ProcEnd.{ProcEnd}
+use Rattle.regmodel.specs.declared.outcomes.End.TheVariants.{Done, Fault, Crashed, Running}
 use Rattle.texts.specs.NumberText.{numbers_text}
 use Rattle.texts.specs.OutcomeText.{end_text}
 use Rattle.texts.proofs.Bytes.{IsCut, cut_same, no_space-decimal, begins_digit}

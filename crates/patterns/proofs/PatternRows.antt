@@ -1,5 +1,5 @@
 -- What is read of a pattern's text, and what is left of it, determine its standings.
-use Rattle.std.proofs.Common.{◌≡◌, ◌≢◌, ℕ, ◌<◌, ◌≤◌, Bool, true, ◌&&◌, List, [], ◌∷◌, ◌++◌, length, codes, refl, ap, sym, ◌∙◌, arith, append_assoc, length-append}
+use Rattle.std.proofs.Common.{◌≡◌, ◌≢◌, ℕ, ◌<◌, ◌≤◌, Bool, true, ◌&&◌, List, [], ◌∷◌, ◌++◌, length, codes, refl, ap, sym, ◌∙◌, arith, append_assoc}
 use Rattle.std.specs.List.{flat_map, list_all}
 use Rattle.std.proofs.lemmas.Bool.{and_parts, and_from}
 use Rattle.std.proofs.lemmas.Grind.{flat_map-append}
@@ -138,13 +138,6 @@ all-and v a hv ha = list_all-append standing_fits v (a ∷ []) ∙ and_from (all
 pub all-read : (v : List Standing) (a : Standing) (rest word after text : List ℕ) → IsReadUpTo v rest text → IsCut 59 rest word after → standing_text a ≡ word → length after < 1 → pattern_text (v ++ a ∷ []) ≡ text
 all-read v a rest word [] text read cut same ends = pattern-snoc v a ∙ ap (λ s. ended_text v ++ s) (same ∙ sym (append-nil word) ∙ cut.parts) ∙ sym read.parts
 all-read v a rest word (b ∷ after) text read cut same ends = absurd (omega arith)
-
-pub all-fits : (v : List Standing) (a : Standing) (rest text : List ℕ) → IsReadUpTo v rest text → standing_fits a ≡ true → length (v ++ a ∷ []) ≤ 8 → FitsPattern (v ++ a ∷ [])
-all-fits v a rest text read fits few = record {
-  some = omega (arith, length-append v (a ∷ []));
-  few = few;
-  fit = all-and v a read.fit fits;
-}
 
 -- else one standing more is read
 pub one-more : (v : List Standing) (a : Standing) (rest word after further text : List ℕ) → IsReadUpTo v rest text → IsCut 59 rest word after → standing_text a ≡ word → standing_fits a ≡ true → codes "; " ++ further ≡ after → IsReadUpTo (v ++ a ∷ []) further text

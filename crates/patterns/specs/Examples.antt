@@ -21,7 +21,8 @@ done_and_any = refl
 pub other_numbers : matches (Just (started (1 ∷ [])) ∷ Any ∷ []) outcome ≡ false
 other_numbers = refl
 
-pub took_a_step : matches (Any ∷ Just (record { started = true; fate = end.Crashed }) ∷ []) outcome ≡ false
+pub took_a_step : matches (Any ∷ Just (record { started = true; fate = end.Crashed }) ∷ []) outcome
+    ≡ false
 took_a_step = refl
 
 pub three_processes : matches (Any ∷ Any ∷ Any ∷ []) outcome ≡ false
@@ -33,9 +34,12 @@ one_of_two = refl
 pub none_of_two : matches_none ((Any ∷ []) ∷ (Any ∷ Done ∷ []) ∷ []) outcome ≡ true
 none_of_two = refl
 
-pub second_of_three : first_match ((Any ∷ Done ∷ []) ∷ (Done ∷ Any ∷ []) ∷ (Any ∷ Any ∷ []) ∷ []) outcome ≡ Some 1
+pub second_of_three :
+    first_match ((Any ∷ Done ∷ []) ∷ (Done ∷ Any ∷ []) ∷ (Any ∷ Any ∷ []) ∷ []) outcome ≡ Some 1
 second_of_three = refl
 
-pub text_of_a_pattern : pattern_text (Any ∷ Done ∷ Just (started (1 ∷ 20 ∷ [])) ∷ Just (idle (end.Fault 2)) ∷ []) ≡ codes "*; done *; done 1 20; fault 2 idle"
+pub text_of_a_pattern :
+    pattern_text (Any ∷ Done ∷ Just (started (1 ∷ 20 ∷ [])) ∷ Just (idle (end.Fault 2)) ∷ [])
+    ≡ codes "*; done *; done 1 20; fault 2 idle"
 unfolding digits
 text_of_a_pattern = refl

@@ -33,7 +33,8 @@ is_done Running = false
 abbrev pub allows : Standing → ProcEnd → Bool
 allows standing.Any end = true
 allows standing.Done end = is_done end.fate
-allows (standing.Just own) end = both_or_neither own.started end.started && are_alike own.fate end.fate
+allows (standing.Just own) end =
+    both_or_neither own.started end.started && are_alike own.fate end.fate
 
 -- whether an outcome has as many processes, and each stands as it may
 abbrev pub matches : List Standing → List ProcEnd → Bool
@@ -51,7 +52,8 @@ abbrev pub first_match : List (List Standing) → List ProcEnd → Option ℕ
 first_match patterns ends = position (λ pattern. matches pattern ends) patterns
 
 -- the first of some patterns that an outcome matches, and its number among them, counted from 1
-pub record IsFirstMatch (patterns : List (List Standing)) (ends : List ProcEnd) (found : Match) : Type 0 where
+pub record IsFirstMatch (patterns : List (List Standing)) (ends : List ProcEnd) (found : Match)
+    : Type 0 where
   pub place : ℕ
   pub first : first_match patterns ends ≡ Some place
   pub number : found.number ≡ place + 1

@@ -29,7 +29,8 @@ code_text code = codes " " ++ decimal code
 
 -- whether a process can emit so many numbers, and each of them
 abbrev pub numbers_fit : List ℕ → Bool
-numbers_fit numbers = nat_le (length numbers) MOST_NUMBERS && list_all (λ n. nat_le n GREATEST_VALUE) numbers
+numbers_fit numbers =
+    nat_le (length numbers) MOST_NUMBERS && list_all (λ n. nat_le n GREATEST_VALUE) numbers
 
 -- whether a process can be at fault with this code
 abbrev pub code_fits : ℕ → Bool
@@ -66,4 +67,5 @@ pub record IsBadAt (text : List ℕ) (place : ℕ) : Type 0 where
   pub count : length before ≡ place
   pub rest : List ℕ
   pub parts : text ≡ ended_text before ++ rest
-  pub none : place < MOST_PROCESSES → (s : Standing) (after : List ℕ) → standing_fits s ≡ true → standing_text s ++ (codes "; " ++ after) ≢ rest
+  pub none : place < MOST_PROCESSES → (s : Standing) (after : List ℕ) → standing_fits s ≡ true
+      → standing_text s ++ (codes "; " ++ after) ≢ rest

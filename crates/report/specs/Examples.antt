@@ -22,6 +22,7 @@ pub report_of_both : report_text found_of_both
 unfolding digits
 report_of_both = refl
 
-pub text_of_where_a_crash_leads : standing_text (started [] ∷ idle end.Crashed ∷ []) (5 ∷ 0 ∷ []) ≡ codes "outcome done; crashed idle\nregisters 5 0\n"
+pub text_of_where_a_crash_leads : standing_text (started [] ∷ idle end.Crashed ∷ []) (5 ∷ 0 ∷ [])
+    ≡ codes "outcome done; crashed idle\nregisters 5 0\n"
 unfolding digits
 text_of_where_a_crash_leads = refl

@@ -2,3 +2,4 @@ pub mod Examples
 pub mod PlainCheck
 pub mod PlainReport
 pub mod ReportText
+pub mod YieldText

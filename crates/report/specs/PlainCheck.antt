@@ -8,5 +8,7 @@ use Rattle.report.specs.PlainReport.{IsPlainLeast, IsPlainReport}
 
 -- the first refused of all schedules; or the plain report, where none is refused
 abbrev pub IsPlainCheck : List Program → ℕ → ℕ → (List ProcEnd → Bool) → Checked → Type 0
-IsPlainCheck programs limit crashes accepts (Fails least) = IsPlainLeast programs limit crashes accepts least × (is_some least.least ≡ true)
-IsPlainCheck programs limit crashes accepts (Holds exploration) = IsPlainReport programs limit crashes accepts exploration × (exploration.least ≡ None)
+IsPlainCheck programs limit crashes accepts (Fails least) =
+    IsPlainLeast programs limit crashes accepts least × (is_some least.least ≡ true)
+IsPlainCheck programs limit crashes accepts (Holds exploration) =
+    IsPlainReport programs limit crashes accepts exploration × (exploration.least ≡ None)

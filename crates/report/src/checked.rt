@@ -1,6 +1,6 @@
 //! What a check found.
 
-use crate::explorations::Exploration;
+use crate::explored::Exploration;
 use crate::least::Least;
 
 /// What a check found.

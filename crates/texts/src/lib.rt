@@ -5,21 +5,16 @@
 mod blocks;
 mod cuts;
 mod faults;
-mod number_lines;
 mod number_words;
 mod outcomes;
-mod parts;
 mod readers;
-mod rows;
 mod schedules;
 mod texts;
 
 pub use blocks::Block;
 pub use cuts::cut_at;
 pub use faults::{ANSWERED_ERROR, ReadFault, TOOK_NO_BYTE, WriteFault};
-pub use number_lines::NumberLine;
 pub use number_words::{long_number_of, number_of};
 pub use outcomes::OutcomeLine;
 pub use readers::ByteReader;
-pub use rows::{Joined, Led};
-pub use texts::{Text, write};
+pub use texts::{Joined, Led, NumberLine, Text, write};

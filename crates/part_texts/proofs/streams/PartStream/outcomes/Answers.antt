@@ -3,7 +3,7 @@ use Rattle.std.specs.List.{flat_map}
 use Rattle.std.specs.declared.cmp.Ordering.TheVariants.{Less}
 use Rattle.std.proofs.lemmas.List.Elements.{All-push}
 use Rattle.std.proofs.lemmas.Result.{err_from_is_err_and}
-use Rattle.regmodel.specs.Outcomes.{outcome_cmp}
+use Rattle.regmodel.specs.Prelude.{outcome_cmp}
 use Rattle.texts.specs.NumberText.{number_line}
 use Rattle.texts.specs.OutcomeText.{outcome_line}
 use Rattle.part_texts.specs.FitsPart.{FitsOutcome}

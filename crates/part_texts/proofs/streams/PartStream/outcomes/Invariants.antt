@@ -2,7 +2,7 @@ use Rattle.std.proofs.Common.{◌≡◌, All, AllPairs, length}
 use Rattle.std.specs.Io.KnownBytes.{Consumes}
 use Rattle.std.specs.List.{flat_map}
 use Rattle.std.specs.declared.cmp.Ordering.TheVariants.{Less}
-use Rattle.regmodel.specs.Outcomes.{outcome_cmp}
+use Rattle.regmodel.specs.Prelude.{outcome_cmp}
 use Rattle.texts.specs.OutcomeText.{outcome_line}
 use Rattle.part_texts.specs.FitsPart.{FitsOutcome}
 use Rattle.part_texts.proofs.streams.PartStream.outcomes.Given as goal
