@@ -1,11 +1,10 @@
 -- The statements of a looker's program.
 use Rattle.std.proofs.Common.{◌≡◌, ℕ, List, [], ◌∷◌, refl, ap, ◌∙◌}
 use Rattle.regmodel.specs.Program as program
-use Rattle.regmodel.specs.Program.{Program}
-use Rattle.regmodel.specs.Blocks.{block_of}
+use Rattle.regmodel.specs.declared.statements.Stmt.{Stmt}
+use Rattle.regmodel.specs.Prelude.{Program, block_of}
 use Rattle.regmodel.specs.declared.statements.Expr.TheVariants.{One}
 use Rattle.regmodel.specs.declared.statements.Operand.TheVariants as operand
-use Rattle.regmodel.specs.declared.statements.Stmt.{Stmt}
 use Rattle.regmodel.specs.declared.statements.Stmt.TheVariants as stmt
 use Rattle.regmodel.specs.declared.statements.Target.TheVariants as target
 use Rattle.calling.specs.Lookers.{looking}

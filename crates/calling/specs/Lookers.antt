@@ -20,7 +20,8 @@ looking registers register = record {
 
 -- it is the program of no looker
 abbrev pub IsNoLooker : Program → Type 0
-IsNoLooker program = (registers register : ℕ) → register < registers → program ≢ looking registers register
+IsNoLooker program =
+    (registers register : ℕ) → register < registers → program ≢ looking registers register
 
 -- at its read what its program does from its start; then it is done
 abbrev pub looker_rest : Program → Stage → Replies → Pending

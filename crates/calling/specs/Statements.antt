@@ -8,7 +8,8 @@ use Rattle.regmodel.specs.declared.statements.Target.TheVariants as target
 
 -- the register that a statement reads into the first variable
 abbrev pub register_read : Stmt → Option ℕ
-register_read (stmt.Read (target.Var to) (operand.Number register)) = if to == 0 then Some register else None
+register_read (stmt.Read (target.Var to) (operand.Number register)) =
+    if to == 0 then Some register else None
 register_read _ = None
 
 -- whether it emits what is in the first variable

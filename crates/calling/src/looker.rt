@@ -1,7 +1,7 @@
 //! A machine made by hand: it reads one register, and emits what it read.
 
 ghost use Rattle.std.specs.Prelude.{◌≡◌, ◌<◌, ◌≤◌, IfNone, IfSome};
-ghost use Rattle.regmodel.specs.OfProg.{program_of};
+ghost use Rattle.regmodel.specs.Prelude.{program_of};
 ghost use Rattle.calling.specs.Statements as spec;
 
 use machine::{Machine, value_of};

@@ -1,7 +1,7 @@
 -- Files that are counted.
 use Rattle.std.proofs.Common.{ℕ, ◌+◌, ◌≤◌, ◌==◌, Bool, true, false, arith}
 use Rattle.cli.specs.FileCounts.{HasAtMost, one_if, with_one_more}
-use Rattle.cli.specs.declared.file_counts.FileCounts.{FileCounts}
+use Rattle.cli.specs.declared.program.FileCounts.{FileCounts}
 
 one_at_most : (so : Bool) (n most : ℕ) → n ≤ most → n + one_if so ≤ most + 1
 one_at_most true n most few = omega arith

@@ -1,8 +1,7 @@
 -- A machine of some kind, as the machine of a process.
 use Rattle.std.proofs.Common.{◌≡◌, ℕ, List, subst, sym}
-use Rattle.regmodel.specs.Program.{Program}
-use Rattle.regmodel.specs.Reply.{Replies}
 use Rattle.regmodel.specs.declared.accesses.Pending.{Pending}
+use Rattle.regmodel.specs.Prelude.{Program, Replies}
 use Rattle.machine.specs.Same.{IsSameMachine}
 
 -- a call keeps it where it keeps that of the kind

@@ -1,7 +1,7 @@
 -- What is drawn of a text.
 use Rattle.std.specs.Prelude.{ℕ, List}
 use Rattle.regmodel.specs.declared.limits.TheConstants.{MOST_CRASHES}
-use Rattle.regmodel.specs.declared.letters.Letter.{Letter}
+use Rattle.regmodel.specs.declared.schedules.Letter.{Letter}
 use Rattle.regmodel.specs.Schedules.{IsSchedule}
 use Rattle.reglang.specs.Contents.{Contents, programs_in}
 use Rattle.reglang.specs.Grammar.{Spells}

@@ -13,11 +13,13 @@ use Rattle.cli.specs.Progress.{is_round, length_line, progress_text}
 use Rattle.cli.specs.Understanding.{resumed_in}
 
 -- ---- the line that tells of several files
-pub three_files : counts_text (with_one_more (with_one_more (with_one_more no_counts 0) 1) 0) ≡ codes "3 files: 2 hold, 1 fails\n"
+pub three_files : counts_text (with_one_more (with_one_more (with_one_more no_counts 0) 1) 0)
+    ≡ codes "3 files: 2 hold, 1 fails\n"
 unfolding digits
 three_files = refl
 
-pub none_holds : counts_text (with_one_more (with_one_more (with_one_more no_counts 3) 2) 2) ≡ codes "3 files: 2 refused, 1 unanswered\n"
+pub none_holds : counts_text (with_one_more (with_one_more (with_one_more no_counts 3) 2) 2)
+    ≡ codes "3 files: 2 refused, 1 unanswered\n"
 unfolding digits
 none_holds = refl
 

@@ -1,6 +1,6 @@
 -- How many files of an order were answered in which way, and the line that tells it.
 use Rattle.std.specs.Prelude.{ℕ, ◌+◌, ◌≤◌, ◌==◌, ◌&&◌, Bool, true, if◌then◌else◌, List, [], ◌++◌, codes, decimal, max}
-use Rattle.cli.specs.declared.file_counts.FileCounts.{FileCounts}
+use Rattle.cli.specs.declared.program.FileCounts.{FileCounts}
 
 -- no file was answered
 abbrev pub no_counts : FileCounts
@@ -36,7 +36,8 @@ mark_text is_first = if is_first then codes ": " else codes ", "
 -- how many files were answered in one way, with what is said of one file or of
 -- several; nothing of none
 abbrev pub share_text : Bool → ℕ → List ℕ → List ℕ → List ℕ
-share_text is_first n one several = if n == 0 then [] else mark_text is_first ++ decimal n ++ (if n == 1 then one else several)
+share_text is_first n one several =
+    if n == 0 then [] else mark_text is_first ++ decimal n ++ (if n == 1 then one else several)
 
 -- the line that tells how several files were answered
 abbrev pub counts_text : FileCounts → List ℕ
@@ -44,6 +45,8 @@ counts_text counts =
     decimal counts.files ++ codes " files"
     ++ share_text true counts.holding (codes " holds") (codes " hold")
     ++ share_text (counts.holding == 0) counts.failing (codes " fails") (codes " fail")
-    ++ share_text (counts.holding == 0 && counts.failing == 0) counts.refused (codes " refused") (codes " refused")
-    ++ share_text ((counts.holding == 0 && counts.failing == 0) && counts.refused == 0) counts.unanswered (codes " unanswered") (codes " unanswered")
+    ++ share_text (counts.holding == 0 && counts.failing == 0) counts.refused
+    (codes " refused") (codes " refused")
+    ++ share_text ((counts.holding == 0 && counts.failing == 0) && counts.refused == 0)
+    counts.unanswered (codes " unanswered") (codes " unanswered")
     ++ codes "\n"

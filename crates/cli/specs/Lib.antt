@@ -3,6 +3,7 @@ pub mod CutOffs
 pub mod Drawings
 pub mod Examples
 pub mod FileCounts
+pub mod FindingText
 pub mod Findings
 pub mod Leasts
 pub mod Lengths

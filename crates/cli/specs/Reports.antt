@@ -15,12 +15,15 @@ use Rattle.orders.specs.Inputs.{IsTextOf}
 pub record IsReportOf (settings : Settings) (text : List ℕ) (report : Findings) : Type 0 where
   pub source : Contents
   pub spelled : Spells text source
-  pub report_is : IsPlainReport (programs_in source) settings.length settings.crashes (meets_all source.clauses) report
-  pub tried : report.tried ≡ length (reduced_schedules (programs_in source) settings.crashes settings.length)
+  pub report_is : IsPlainReport (programs_in source) settings.length settings.crashes
+      (meets_all source.clauses) report
+  pub tried : report.tried
+      ≡ length (reduced_schedules (programs_in source) settings.crashes settings.length)
 
 -- the report of the text of the file is written whole behind `old`, and the status is 1 where a
 -- schedule fails, else 0; where `file` or `old` is `None`, its bytes are not known and may be any
-pub record IsReportWritten (settings : Settings) (file old new : Option (List ℕ)) (status : ℕ) : Type 0 where
+pub record IsReportWritten (settings : Settings) (file old new : Option (List ℕ))
+    (status : ℕ) : Type 0 where
   pub text : List ℕ
   pub read : IsTextOf file text
   pub report : Findings

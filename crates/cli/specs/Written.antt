@@ -13,7 +13,8 @@ pub record HasBeginning (old new : Option (List ℕ)) (text : List ℕ) : Type 0
   pub appends : Appends old new taken
 
 -- the text is written whole, or the writer took a beginning of it
-pub record Tells (old new : Option (List ℕ)) (text : List ℕ) (result : Result (Unit {0}) AnswerFault) : Type 0 where
+pub record Tells (old new : Option (List ℕ)) (text : List ℕ)
+    (result : Result (Unit {0}) AnswerFault) : Type 0 where
   pub whole : OnOk result (Writes old new text None)
   pub begun : OnErr result (HasBeginning old new text)
   pub err : IfErr result (λ why. why ≡ fault.Write)

@@ -1,11 +1,11 @@
-//! Does what was asked, and gives the status.
+//! Does what is asked of one file, and gives the status.
 
 ghost use Rattle.std.specs.Prelude.{◌≡◌, ◌≤◌, ◌⊎◌, Bool, IfErr, IfOk, IsNone, List, None, Option, Some, false, if◌then◌else◌, option_and_then, true, ℕ};
 ghost use Rattle.std.specs.Result.{result_ok};
-ghost use Rattle.findings.specs.FindingText.{finding_text};
 ghost use Rattle.regmodel.specs.declared.effort.Effort.{Effort};
 ghost use Rattle.orders.specs.declared.tasks.Task.TheVariants as asked;
 ghost use Rattle.cli.specs.Answers.{IsAnswered, IsCutShort, IsRefusedWith, IsTold, IsUnanswered};
+ghost use Rattle.cli.specs.FindingText.{finding_text};
 ghost use Rattle.cli.specs.Refusals.{Finds};
 ghost use Rattle.cli.specs.Reports.{IsReportWritten};
 ghost use Rattle.cli.specs.Statuses.{is_of_source, status_of};
@@ -14,13 +14,16 @@ ghost use Rattle.orders.specs.Inputs.{IsTextOf};
 ghost use Rattle.orders.specs.Orders.{is_in_words};
 ghost use Rattle.orders.specs.Reasons.{IsStatusOf};
 
+use crate::conclusions::found_alone;
 use crate::faults::AnswerFault;
+use crate::findings::Finding;
+use crate::listings::listed;
+use crate::machines::Run;
 use crate::outputs::{Output, tell_unwritten};
-use crate::progress::Progress;
-use crate::tasks::found;
+use crate::progress::{Meter, Progress};
 use explanations::write_explanation;
-use findings::Finding;
-use orders::{FileFault, Question, Readable, Reason, Refusal, refuse};
+use orders::{FileFault, Question, Readable, Reason, Refusal, Task, refuse};
+use reglang::{Spelling, read_text};
 use std::alloc::Global;
 use std::io::Write;
 use std::sync::Wait;
@@ -151,6 +154,42 @@ fn found_in<H: Threads + Wait + Sync, E: Write + Send>(
     }
     let silent: Progress<'_, H, E> = Progress::silent(rt);
     found(rt, alloc, question.task, text, &silent)
+}
+
+/// What is found of a text. The gate is told of the pieces of a run, and of lengths that are tried.
+fn found<'a, H: Threads + Wait + Sync, G: Meter>(
+    rt: &'a H,
+    alloc: Global,
+    task: &Task,
+    text: &'a [u8],
+    gate: &'a G,
+) -> Result<Finding, AnswerFault>
+    ensures { Finds task.now text.now result }
+{
+    let source = match read_text(alloc, text) {
+        Ok(source) => source,
+        Err(rejection) => return Err(AnswerFault::Source(rejection)),
+    };
+    let run = Run {
+        rt,
+        alloc,
+        spelling: Spelling {
+            text,
+            source: &source,
+        },
+        native: task.is_native(),
+        gate,
+    };
+    match task {
+        Task::Check {
+            effort,
+            native,
+            allows_faults,
+            shortest,
+            lists,
+        } if *lists => listed(&run, effort, *native, *allows_faults, *shortest),
+        _ => found_alone(&run, task),
+    }
 }
 
 /// Why nothing is found of a text. Where refusals are told in words, it is written what is wrong

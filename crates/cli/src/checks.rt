@@ -8,9 +8,9 @@ ghost use Rattle.cli.specs.declared.aims.Quest.TheVariants as quest;
 ghost use Rattle.cli.specs.Understanding.{AreMade};
 
 use crate::faults::AnswerFault;
-use crate::runs::{Run, last_of};
+use crate::findings::Finding;
+use crate::machines::{Run, last_of};
 use explorer::{Effort, Gate, Job, least_failing, run_check};
-use findings::Finding;
 use machine::Machine;
 use std::sync::Wait;
 use std::thread::Threads;

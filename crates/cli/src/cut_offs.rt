@@ -9,11 +9,12 @@ ghost use Rattle.cli.specs.declared.aims.Quest.{Quest};
 ghost use Rattle.cli.specs.Understanding.{AreMade};
 
 use crate::faults::AnswerFault;
-use crate::runs::Run;
+use crate::findings::Finding;
+use crate::machines::Run;
 use explorer::{Effort, Gate, Job, least_failing};
-use findings::Finding;
 use machine::Machine;
 use regmodel::{End, Judge, Outcome};
+use report::Yield;
 use std::sync::Wait;
 use std::thread::Threads;
 
@@ -71,7 +72,7 @@ pub fn cut_off<H: Threads + Wait + Sync, G: Gate>(
         Err(fault) => return Err(AnswerFault::Run(fault)),
     };
     if least.least().is_some() {
-        return Ok(Some(Finding::Least(least)));
+        return Ok(Some(Finding::Explored(Yield::Least(least))));
     }
     Ok(None)
 }

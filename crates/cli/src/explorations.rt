@@ -7,13 +7,14 @@ ghost use Rattle.cli.specs.Refusals.{Finds};
 ghost use Rattle.cli.specs.Understanding.{AreMade};
 
 use crate::faults::AnswerFault;
-use crate::runs::Run;
+use crate::findings::Finding;
+use crate::machines::Run;
 use explorer::{Effort, Gate, Job, Part, exploration_of, least_failing};
-use findings::Finding;
 use machine::Machine;
 use part_texts::PartHead;
 use reglang::write_source;
 use regmodel::{OutOfMemory, Settings};
+use report::Yield;
 use std::sync::Wait;
 use std::thread::Threads;
 
@@ -73,8 +74,8 @@ pub fn explored<H: Threads + Wait + Sync, G: Gate>(
             Err(fault) => return Err(AnswerFault::Run(fault)),
         };
         return match head {
-            Some(head) => Ok(Finding::LeastPart(head, least)),
-            None => Ok(Finding::Least(least)),
+            Some(head) => Ok(Finding::Part(head, Yield::Least(least))),
+            None => Ok(Finding::Explored(Yield::Least(least))),
         };
     }
     let found = match exploration_of(rt, &job, lists) {
@@ -82,7 +83,7 @@ pub fn explored<H: Threads + Wait + Sync, G: Gate>(
         Err(fault) => return Err(AnswerFault::Run(fault)),
     };
     match head {
-        Some(head) => Ok(Finding::Part(head, found)),
-        None => Ok(Finding::Report(found)),
+        Some(head) => Ok(Finding::Part(head, Yield::Report(found))),
+        None => Ok(Finding::Explored(Yield::Report(found))),
     }
 }

@@ -3,25 +3,20 @@
 
 mod aims;
 mod answers;
-mod attempts;
 mod checks;
 mod conclusions;
 mod cut_offs;
 mod explorations;
 mod faults;
-mod file_counts;
-mod first_findings;
+mod findings;
 mod listings;
 mod machines;
 mod merges;
 mod outputs;
 mod program;
 mod progress;
-mod runs;
 mod searches;
-mod shortest;
 mod standings;
-mod tasks;
 
 pub use answers::answer;
 pub use orders::{

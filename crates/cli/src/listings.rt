@@ -7,15 +7,15 @@ ghost use Rattle.cli.specs.Refusals.{Finds};
 ghost use Rattle.cli.specs.Reports.{IsReportOf};
 ghost use Rattle.cli.specs.Runs.{IsCheckRefused};
 
-use crate::aims::Aim;
-use crate::attempts::reached;
+use crate::aims::{Aim, reached};
 use crate::conclusions::found_alone;
 use crate::faults::AnswerFault;
+use crate::findings::Finding;
+use crate::machines::Run;
 use crate::progress::Meter;
-use crate::runs::Run;
 use explorer::{Effort, Exploration, Gate};
-use findings::Finding;
 use orders::Task;
+use report::Yield;
 use std::sync::Wait;
 use std::thread::Threads;
 use verdict::Verdict;
@@ -81,7 +81,7 @@ fn explored_once_more<H: Threads + Wait + Sync, G: Gate>(
         least_alone: false,
     };
     match reached(run, &Aim::Asked(&explore))? {
-        Some(Finding::Report(explored)) => Ok(explored),
+        Some(Finding::Explored(Yield::Report(explored))) => Ok(explored),
         _ => unreachable!(),
     }
 }

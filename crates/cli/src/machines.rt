@@ -1,6 +1,7 @@
-//! The machine of one process, and how those of all are understood.
+//! The machine of one process, how those of all are understood, and what a run of a source is
+//! given besides them.
 
-ghost use Rattle.std.specs.Prelude.{◌≡◌, ◌<◌, ◌↔◌, IfErr, IfOk, IsOk, IsTrue, Some, length, slice_get};
+ghost use Rattle.std.specs.Prelude.{◌≡◌, ◌<◌, ◌↔◌, ◌++◌, ◌∷◌, [], IfErr, IfOk, IsOk, IsTrue, Some, length, slice_get};
 ghost use Rattle.uses.specs.Expansions.{expansion};
 ghost use Rattle.reglang.specs.Sources.{source_programs};
 ghost use Rattle.uses.specs.Uses.{use_fits};
@@ -11,7 +12,7 @@ ghost use Rattle.cli.specs.declared.machines.ProcessMachine.TheVariants as proce
 use explorer::Understanding;
 use machine::{Interp, Machine, Told};
 use natives::{Grid, MakeFault, NameSlots, Names, Split, Tree};
-use reglang::{Source, Use};
+use reglang::{Source, Spelling, Use};
 use regmodel::{OutOfMemory, Pending, Reply};
 use std::alloc::Global;
 
@@ -186,4 +187,39 @@ fn native_of(kind: &Use, registers: u32) -> Result<ProcessMachine, MakeFault>
             base, slots, slot, registers,
         )?)),
     }
+}
+
+/// What a run is given besides its machines: what starts threads, memory, the text with the
+/// source that it spells, whether use lines run as native machines, and the gate that is
+/// told of the pieces.
+#[derive(Drop)]
+pub struct Run<'a, H, G> {
+    pub rt: &'a H,
+    pub alloc: Global,
+    pub spelling: Spelling<'a>,
+    pub native: bool,
+    pub gate: &'a G,
+}
+
+impl<H, G> Run<'_, H, G> {
+    /// How its machines are understood.
+    pub(crate) fn made(&self) -> Made<'_>
+        ensures { result ≡ record { source = self.now.spelling.source; native = self.now.native } }
+    {
+        Made {
+            source: self.spelling.source,
+            native: self.native,
+        }
+    }
+}
+
+/// Takes the last list of machines, which there is.
+pub fn last_of(lists: &mut Vec<Vec<Box<dyn Machine + Send>>>) -> Vec<Box<dyn Machine + Send>>
+    requires some { 0 < length lists.old.items }
+    ensures { lists.old.items ≡ lists.new.items ++ result ∷ [] }
+{
+    let Some(last) = lists.pop() else {
+        unreachable!()
+    };
+    last
 }

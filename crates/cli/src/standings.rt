@@ -7,12 +7,20 @@ ghost use Rattle.cli.specs.Standings.{IsFollowed, IsHindranceAt, IsStandingAfter
 
 use arrayvec::ArrayVec;
 use drawing::{Drawing, draw};
-use findings::Standing;
 use machine::Machine;
 use reglang::Source;
 use regmodel::limits::MOST_CRASHES;
 use regmodel::{End, Outcome, Prefix};
 use world::{BadLetter, World};
+
+/// Where a schedule leads.
+#[derive(Drop)]
+pub struct Standing {
+    /// How each process stands.
+    pub outcome: Outcome,
+    /// What each register holds, registers from 0.
+    pub registers: ArrayVec<u32, 64>,
+}
 
 /// A letter that is not possible where it stands.
 #[derive(Debug, Drop)]

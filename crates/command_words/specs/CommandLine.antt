@@ -67,7 +67,8 @@ program = record (new_shape (codes "regtry")) {
   subcommand_required = true;
 }
 
--- the word of the command line that stands where a subcommand is named: the first behind the program's name
+-- the word of the command line that stands where a subcommand is named: the first behind the
+-- program's name
 abbrev pub word_at_name : List Text → Text
 word_at_name words = get_or words 1 []
 

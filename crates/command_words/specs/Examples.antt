@@ -3,7 +3,8 @@ use Rattle.std.specs.Prelude.{◌≡◌, ◌∷◌, [], codes, false, refl}
 use Rattle.clap.specs.Words.{is_simple}
 use Rattle.command_words.specs.CommandLine.{command_line, names_of_subcommands, word_at_name}
 
-pub explore_is_named : word_at_name (codes "regtry" ∷ codes "explore" ∷ codes "FILE" ∷ []) ≡ codes "explore"
+pub explore_is_named : word_at_name (codes "regtry" ∷ codes "explore" ∷ codes "FILE" ∷ [])
+    ≡ codes "explore"
 explore_is_named = refl
 
 pub explore_alone : names_of_subcommands (command_line (codes "explore")) ≡ codes "explore" ∷ []

@@ -19,7 +19,9 @@ needed name = record (new_rule name) { required = true }
 -- one word or more, of which one has to be there
 abbrev pub several : Text → Rule
 several name =
-    record (needed name) { range = Some (record { start_inclusive = 1; end_inclusive = usize_max }) }
+    record (needed name) {
+      range = Some (record { start_inclusive = 1; end_inclusive = usize_max });
+    }
 
 -- `--name`
 abbrev pub flag : Text → Rule

@@ -1,5 +1,5 @@
 -- What follows of one part more that is read, and where none is.
-use Rattle.std.proofs.Common.{◌≡◌, ℕ, ◌-◌, ◌<◌, ◌≤◌, ◌^◌, inr, List, [], ◌∷◌, ◌++◌, Option, Some, None, All, length, map, reverse, ap, sym, subst, ◌∙◌, arith, append-nil, append_assoc, length-append, Result, Ok, Err, OnOk, IfErr}
+use Rattle.std.proofs.Common.{◌≡◌, ℕ, ◌-◌, ◌<◌, ◌≤◌, inr, List, [], ◌∷◌, ◌++◌, Option, Some, None, All, length, map, reverse, ap, sym, subst, ◌∙◌, arith, append-nil, append_assoc, length-append, Result, Ok, Err, OnOk, IfErr}
 use Rattle.std.specs.Io.KnownBytes.{Consumes, IsAtEnd}
 use Rattle.std.specs.List.{flat_map}
 use Rattle.std.proofs.KnownBytes.{Consumes-nil}
@@ -7,13 +7,11 @@ use Rattle.std.proofs.lemmas.List.{length-reverse, reverse-append}
 use Rattle.std.proofs.lemmas.List.Elements.{All-nil, All-push}
 use Rattle.lists.specs.Balance.{AreInBalance}
 use Rattle.part_texts.specs.Causes.{IsOutward, IsOutwardAt, IsUnreadOnlyIf}
-use Rattle.part_texts.specs.FitsPart.{FitsFound, FitsPart}
+use Rattle.part_texts.specs.FitsPart.{FitsPart}
 use Rattle.part_texts.specs.PartText.{part_text}
 use Rattle.part_texts.specs.declared.faults.BadPart.{BadPart}
 use Rattle.part_texts.specs.declared.faults.Cause.{Cause}
 use Rattle.part_texts.specs.declared.faults.Cause.TheVariants.{Unreadable}
-use Rattle.part_texts.specs.declared.parts.Found.{Found}
-use Rattle.part_texts.specs.declared.parts.Found.TheVariants.{Explored, Least}
 use Rattle.part_texts.specs.declared.parts.PartReport.{PartReport}
 use Rattle.merging.specs.Joined.{GoesWith, Holds, numbers_marked}
 use Rattle.merging.specs.Merged.{AreAllParts, AreMergeable, IsNoFaultOfParts, all_tried, tried_of}
@@ -42,10 +40,6 @@ kept_more parts part old new h more = record {
   order = order_of_more parts h.first h.others part h.order;
   holds = more h.first h.others h.holds;
 }
-
--- the first part
-pub kept_first : (parts : List PartReport) (part : PartReport) (joined : Joined) → parts ≡ [] → Holds part [] joined → AreKept (parts ++ part ∷ []) joined
-kept_first parts part joined none h = record { first = part; others = []; order = ap (λ xs. xs ++ part ∷ []) none; holds = h }
 
 -- how many numbers are not marked
 abbrev pub unmarked_of : Option Joined → ℕ
@@ -78,18 +72,6 @@ fewer_unmarked parts part (Some old) (Some new) some h k =
     )
 
 -- ---- one part more is refused
-
--- by itself it tells not more schedules than can be counted
-few_tried : (processes : ℕ) (found : Found) → FitsFound processes found → tried_of found < 2 ^ 64
-few_tried processes (Explored s) fits = fits.0
-few_tried processes (Least least) fits = omega arith
-
--- the first part
-pub refused_memory : (parts : List PartReport) (part : PartReport) (fault : MergeFault) → parts ≡ [] → fault ≡ NoMemory → IsUnjoinedFrom parts part fault
-refused_memory parts part fault none e = record {
-  told = λ fits. rw (e, none) (omega (arith, few_tried part.head.processes part.found fits.found));
-  whole = λ first others tail m order. rw e tt;
-}
 
 behind_parts : (parts : List PartReport) (part : PartReport) (fault : MergeFault) → IsUnjoinedBehind parts part fault → IsUnjoinedTo parts part fault
 behind_parts parts part Sought h = h

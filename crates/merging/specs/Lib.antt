@@ -1,7 +1,6 @@
 pub mod Examples
 pub mod Joined
 pub mod Merged
-pub mod MergedText
 pub mod Mergers
 pub mod Texts
 pub mod Unjoined

@@ -19,7 +19,8 @@ pub record IsKnownTextOf (text : Option (List ℕ)) (parts : List PartReport) : 
   pub some : 1 ≤ length parts
 
 -- the parts that several texts tell, in their order: of each text its own
-abbrev pub AreOfTexts : (Option (List ℕ) → List PartReport → Type 0) → List (Option (List ℕ)) → List PartReport → Type 0
+abbrev pub AreOfTexts : (Option (List ℕ) → List PartReport → Type 0) → List (Option (List ℕ))
+    → List PartReport → Type 0
 AreOfTexts is_text [] parts = parts ≡ []
 AreOfTexts is_text (text ∷ texts) parts = (own : List PartReport) × (others : List PartReport)
     × (parts ≡ own ++ others) × is_text text own × AreOfTexts is_text texts others

@@ -21,7 +21,8 @@ DifferIn misfit.Cut head other = head.cut ≢ other.cut
 abbrev pub AreUnjoined : Found → Found → MergeFault → Type 0
 AreUnjoined first second fault.Sought = AreSoughtAlike first second → ⊥
 AreUnjoined first second fault.TooMany = 2 ^ 64 ≤ tried_of first + tried_of second
-AreUnjoined first second fault.NoMemory = AreSoughtAlike first second × (tried_of first + tried_of second < 2 ^ 64)
+AreUnjoined first second fault.NoMemory =
+    AreSoughtAlike first second × (tried_of first + tried_of second < 2 ^ 64)
 AreUnjoined first second _ = ⊥
 
 -- why one part more is not joined to a first part and others: it differs from the first one, the
@@ -39,7 +40,8 @@ IsUnjoined first others part _ = ⊥
 
 -- so it is where these parts, in the order in which they were read, are that first part and the
 -- others
-pub record IsUnjoinedBehind (parts : List PartReport) (part : PartReport) (fault : MergeFault) : Type 0 where
+pub record IsUnjoinedBehind (parts : List PartReport) (part : PartReport)
+    (fault : MergeFault) : Type 0 where
   pub first : PartReport
   pub others : List PartReport
   pub order : parts ≡ first ∷ reverse others

@@ -18,7 +18,8 @@ use Rattle.merging.specs.declared.missing.Missing.{Missing}
 
 -- the last text goes on, behind some parts of its own, with one that is not joined to those before
 -- it, of this text and of the texts before
-pub record AreUnjoinedIn (before : List (Option (List ℕ))) (last : Option (List ℕ)) (fault : MergeFault) : Type 0 where
+pub record AreUnjoinedIn (before : List (Option (List ℕ))) (last : Option (List ℕ))
+    (fault : MergeFault) : Type 0 where
   pub part : PartReport
   pub earlier : List PartReport
   pub own : List PartReport
@@ -32,7 +33,8 @@ pub record AreUnjoinedIn (before : List (Option (List ℕ))) (last : Option (Lis
 -- the text is that of parts, one behind another, each of which can be read, it is not at fault
 pub record IsLineRefused (may_fail : Type 0) (text : Option (List ℕ)) (cause : Cause) : Type 0 where
   pub reader : IsUnreadOnlyIf may_fail cause
-  pub whole : (parts : List PartReport) → All FitsPart parts → text ≡ Some (flat_map part_text parts) → IsOutward cause
+  pub whole : (parts : List PartReport) → All FitsPart parts
+      → text ≡ Some (flat_map part_text parts) → IsOutward cause
 
 -- why the parts of the last text, whose reader may fail or not, are not joined to each other and to
 -- those of the texts before: a line is no part's, there is none, or one of them is not joined
@@ -42,9 +44,10 @@ IsUnreadBy may_fail before last fault.Nothing = IsAtEnd last
 IsUnreadBy may_fail before last (fault.Missing missing) = ⊥
 IsUnreadBy may_fail before last why = AreUnjoinedIn before last why
 
--- these texts are known, and tell the first of all parts of one exploration, each of which can be read,
--- and of all of which the same was sought
-pub record BeginWith (texts : List (Option (List ℕ))) (first : PartReport) (others : List PartReport) : Type 0 where
+-- these texts are known, and tell the first of all parts of one exploration, each of which can be
+-- read, and of all of which the same was sought
+pub record BeginWith (texts : List (Option (List ℕ))) (first : PartReport)
+    (others : List PartReport) : Type 0 where
   pub all : AreMergeable first others
   pub told : List PartReport
   pub rest : List PartReport
@@ -52,19 +55,24 @@ pub record BeginWith (texts : List (Option (List ℕ))) (first : PartReport) (ot
   pub of_texts : AreOfTexts IsKnownTextOf texts told
 
 -- why the parts of the last text are refused: they are at odds with each other or with those of the
--- texts before, as it is told; and where all of these are parts of one exploration, they are not at fault
-pub record IsUnread (may_fail : Type 0) (before : List (Option (List ℕ))) (last : Option (List ℕ)) (fault : MergeFault) : Type 0 where
+-- texts before, as it is told; and where all of these are parts of one exploration, they are not at
+-- fault
+pub record IsUnread (may_fail : Type 0) (before : List (Option (List ℕ))) (last : Option (List ℕ))
+    (fault : MergeFault) : Type 0 where
   pub told : IsUnreadBy may_fail before last fault
-  pub whole : (first : PartReport) (others : List PartReport) → BeginWith (before ++ last ∷ []) first others
+  pub whole : (first : PartReport) (others : List PartReport)
+      → BeginWith (before ++ last ∷ []) first others
       → IsNoFaultOfParts (all_tried (first ∷ others)) fault
 
--- the texts tell parts of one exploration; of all its numbers just theirs are marked, and there are others
+-- the texts tell parts of one exploration; of all its numbers just theirs are marked, and there are
+-- others
 pub record AreIncompleteIn (texts : List (Option (List ℕ))) (missing : Missing) : Type 0 where
   pub first : PartReport
   pub others : List PartReport
   pub of_texts : AreOfTexts IsTextOf texts (first ∷ reverse others)
   pub count : length missing.there.items ≡ first.head.count
-  pub numbers : AreInBalance (map (λ part. part.head.number) (first ∷ others)) (numbers_marked 1 missing.there.items)
+  pub numbers : AreInBalance (map (λ part. part.head.number) (first ∷ others))
+      (numbers_marked 1 missing.there.items)
   pub incomplete : AreAllParts first.head (first ∷ others) → ⊥
 
 -- why there is no whole, where nothing is at odds: there are no texts, or parts are missing

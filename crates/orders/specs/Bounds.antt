@@ -44,12 +44,15 @@ most_of Width = MOST_WIDTH
 -- there is no such option
 abbrev pub IsBoundTold : Option (List ℕ) → ℕ → ℕ → Type 0
 IsBoundTold None other n = n ≡ other
-IsBoundTold (Some text) other n = IsNumberText text × (n ≡ digits_value 10 (without_leading_plus text))
+IsBoundTold (Some text) other n =
+    IsNumberText text × (n ≡ digits_value 10 (without_leading_plus text))
 
 -- no number that the text tells, or the other one where there is no such option, is one
 -- that the bound takes
 abbrev pub IsNoBound : Option (List ℕ) → Bound → ℕ → Type 0
-IsNoBound told bound other = (number : ℕ) → IsBoundTold told other number → least_of bound ≤ number → number ≤ most_of bound → ⊥
+IsNoBound told bound other =
+    (number : ℕ) → IsBoundTold told other number → least_of bound ≤ number → number ≤ most_of bound
+    → ⊥
 
 -- the number of a bound of which the words tell nothing, where there are so many workers then
 abbrev pub default_of : ℕ → Bound → ℕ
@@ -60,7 +63,8 @@ default_of workers Cache = CACHE
 default_of workers Width = MOST_WIDTH
 
 -- the refusal of a bound, of which the words tell no number that it takes
-pub record IsBoundRefused (told : List ℕ → Option (List ℕ)) (workers : ℕ) (r : Refusal) : Type 0 where
+pub record IsBoundRefused (told : List ℕ → Option (List ℕ)) (workers : ℕ)
+    (r : Refusal) : Type 0 where
   pub bound : Bound
   pub told_is : r ≡ refusal.Bound bound
   pub none : IsNoBound (told (name_of bound)) bound (default_of workers bound)
@@ -69,7 +73,8 @@ pub record IsBoundRefused (told : List ℕ → Option (List ℕ)) (workers : ℕ
 abbrev pub width : Bound
 width = Width
 
--- how broad a text for the width allows a drawing to be: as usual where there is none, or so many places
+-- how broad a text for the width allows a drawing to be: as usual where there is none, or so many
+-- places
 abbrev pub IsWidthTold : Option (List ℕ) → Room → Type 0
 IsWidthTold text Whole = ⊥
 IsWidthTold text (Chosen registers) = ⊥
@@ -80,13 +85,16 @@ IsWidthTold text (Places places) = IsBoundTold text 0 places × (1 ≤ places)
 abbrev pub registers_told : Found → Option (List ℕ)
 registers_told found = first_value found (codes "registers")
 
--- how broad the words allow a drawing to be: whole, or with the registers that they tell, or as their width tells
+-- how broad the words allow a drawing to be: whole, or with the registers that they tell, or as
+-- their width tells
 abbrev pub IsRoomTold : Found → Room → Type 0
 IsRoomTold found Whole = IsFlagTold (one_text found (codes "all")) true
 IsRoomTold found (Chosen text) =
-    IsFlagTold (one_text found (codes "all")) false × (registers_told found ≡ Some text.now) × (tells_registers text.now ≡ true)
+    IsFlagTold (one_text found (codes "all")) false × (registers_told found ≡ Some text.now)
+    × (tells_registers text.now ≡ true)
 IsRoomTold found room =
-    IsFlagTold (one_text found (codes "all")) false × (registers_told found ≡ None) × IsWidthTold (one_text found (codes "width")) room
+    IsFlagTold (one_text found (codes "all")) false × (registers_told found ≡ None)
+    × IsWidthTold (one_text found (codes "width")) room
 
 -- how broad they allow it to be, and whether they ask for a column of lines
 pub record IsBreadthTold (found : Found) (breadth : Breadth) : Type 0 where

@@ -15,7 +15,8 @@ pub record IsTextOf (file : Option (List ℕ)) (text : List ℕ) : Type 0 where
   pub short : length text ≤ MOST_SOURCE_BYTES
 
 -- what is read of standard input, by what its path opens, and by what remains to be read of that
-pub record IsStandardText {R : Type 0} (opens : List ℕ → Option R → Type 0) (remaining : R → Option (List ℕ)) (text : List ℕ) : Type 0 where
+pub record IsStandardText {R : Type 0} (opens : List ℕ → Option R → Type 0)
+    (remaining : R → Option (List ℕ)) (text : List ℕ) : Type 0 where
   pub file : Option R
   pub opened : opens (codes "-") file
   pub read : IsTextOf (option_and_then remaining file) text

@@ -17,9 +17,8 @@ use Rattle.orders.specs.Flags.{IsFlagTold}
 use Rattle.orders.specs.NumberTexts.{IsNumberText}
 use Rattle.orders.specs.PatternTexts.{AreNoTexts, AreTextsOf, are_standard}
 use Rattle.orders.specs.declared.tasks.Task.{Task}
-use Rattle.orders.specs.declared.bounds.TheConstants.{CACHE, ROOM, SHARED_CUT}
+use Rattle.orders.specs.declared.bounds.TheConstants.{CACHE, PART_SETTING, ROOM, SHARED_CUT}
 use Rattle.orders.specs.declared.orders.TheConstants.{CACHE_SETTING}
-use Rattle.orders.specs.declared.parts_told.TheConstants.{PART_SETTING}
 use Rattle.orders.specs.declared.ranges.TheConstants.{MOST_CACHE}
 use Rattle.orders.specs.declared.refusals.Refusal.{Refusal}
 use Rattle.orders.specs.declared.refusals.Refusal.TheVariants as refusal
@@ -59,7 +58,8 @@ cut_for workers = if nat_lt 1 workers then SHARED_CUT else 0
 
 -- the bounds of a check or a search are those of its words: without them the greatest length, no
 -- crash, and so many workers
-pub record AreBoundsTold (told : List ℕ → Option (List ℕ)) (otherwise : ℕ) (settings : Bounds) : Type 0 where
+pub record AreBoundsTold (told : List ℕ → Option (List ℕ)) (otherwise : ℕ)
+    (settings : Bounds) : Type 0 where
   pub length : IsBoundTold (told (codes "length")) MOST_LETTERS settings.length
   pub crashes : IsBoundTold (told (codes "crashes")) 0 settings.crashes
   pub workers : IsBoundTold (told (codes "workers")) otherwise settings.workers
@@ -70,16 +70,19 @@ pub record AreBoundsTold (told : List ℕ → Option (List ℕ)) (otherwise : �
 -- words, or else CACHE
 abbrev pub IsEffortTold : (List ℕ → Option (List ℕ)) → ℕ → Effort → Type 0
 IsEffortTold told processors effort =
-    AreBoundsTold told processors effort.settings × IsBoundTold (told (codes "cache")) CACHE effort.cache
+    AreBoundsTold told processors effort.settings
+    × IsBoundTold (told (codes "cache")) CACHE effort.cache
 
 -- the megabytes in which states are remembered are those of the words, or else so
 -- many; there is a limit
 abbrev pub IsCacheTold : (List ℕ → Option (List ℕ)) → ℕ → ℕ → Type 0
-IsCacheTold told other cache = IsNumberTold (told (codes "cache")) other cache × (cache ≤ MOST_CACHE)
+IsCacheTold told other cache =
+    IsNumberTold (told (codes "cache")) other cache × (cache ≤ MOST_CACHE)
 
 -- use lines run as native machines, unless the words ask for interpreters
 abbrev pub IsNativeTold : (List ℕ → Option (List ℕ)) → Bool → Type 0
-IsNativeTold told native = (text : Bool) × IsFlagTold (told (codes "text")) text × (native ≡ not text)
+IsNativeTold told native =
+    (text : Bool) × IsFlagTold (told (codes "text")) text × (native ≡ not text)
 
 -- the word for a part: its number, and how many there are
 abbrev pub part_word : Part → List ℕ
@@ -102,14 +105,18 @@ pub record IsSettingPast (told : List ℕ → Option (List ℕ)) (number : ℕ) 
 
 -- the text of an option is that of no part, by the number of that setting
 abbrev pub IsPartRefused : Option (List ℕ) → ℕ → Type 0
-IsPartRefused text number = (number ≡ PART_SETTING) × ((part : Option Part) → IsPartTold text part → ⊥)
+IsPartRefused text number =
+    (number ≡ PART_SETTING) × ((part : Option Part) → IsPartTold text part → ⊥)
 
 -- the words tell more megabytes than may be, by the number of that setting
 abbrev pub IsCacheRefused : (List ℕ → Option (List ℕ)) → ℕ → Type 0
-IsCacheRefused told number = (number ≡ CACHE_SETTING) × (cache : ℕ) × IsNumberTold (told (codes "cache")) 0 cache × (MOST_CACHE < cache)
+IsCacheRefused told number =
+    (number ≡ CACHE_SETTING) × (cache : ℕ) × IsNumberTold (told (codes "cache")) 0 cache
+    × (MOST_CACHE < cache)
 
 -- the refusal of a setting that the words tell past its limit, by its number
-pub record IsSettingRefused (told : List ℕ → Option (List ℕ)) (text : Option (List ℕ)) (refused : Refusal) : Type 0 where
+pub record IsSettingRefused (told : List ℕ → Option (List ℕ)) (text : Option (List ℕ))
+    (refused : Refusal) : Type 0 where
   pub number : ℕ
   pub told_is : refused ≡ refusal.Setting number
   pub why : IsSettingPast told number ⊎ IsPartRefused text number ⊎ IsCacheRefused told number
@@ -119,7 +126,8 @@ pub record IsSettingRefused (told : List ℕ → Option (List ℕ)) (text : Opti
 abbrev pub IsExploration : (List ℕ → Option (List ℕ)) → Option (List ℕ) → Task → Type 0
 IsExploration told text (Check effort native allows_faults shortest lists) = ⊥
 IsExploration told text (Explore effort native part least_alone) =
-    AreSettingsTold told effort.settings × IsCacheTold told 0 effort.cache × IsNativeTold told native × IsFlagTold (told (codes "least")) least_alone
+    AreSettingsTold told effort.settings × IsCacheTold told 0 effort.cache
+    × IsNativeTold told native × IsFlagTold (told (codes "least")) least_alone
     × IsPartTold text part
 IsExploration told text (Find effort native patterns shortest) = ⊥
 IsExploration told text (Replay schedule) = ⊥
@@ -157,7 +165,8 @@ IsCheck told processors (Show schedule) = ⊥
 
 -- the texts that stand where this name does, by what clap found
 abbrev pub texts_at : List ℕ → Found → List (List ℕ)
-texts_at name found = elim (option_map raw_values (matched_of found name)) [ Some texts ↦ texts | None ↦ [] ]
+texts_at name found =
+    elim (option_map raw_values (matched_of found name)) [ Some texts ↦ texts | None ↦ [] ]
 
 -- the first of them; none is an empty one
 abbrev pub word_at : List ℕ → Found → List ℕ
@@ -173,14 +182,16 @@ abbrev pub IsFind : (List ℕ → Option (List ℕ)) → ℕ → List (List ℕ)
 IsFind told processors texts (Check effort native allows_faults shortest lists) = ⊥
 IsFind told processors texts (Explore effort native part least_alone) = ⊥
 IsFind told processors texts (Find effort native patterns shortest) =
-    IsEffortTold told processors effort × IsNativeTold told native × (map pattern_text patterns.items ≡ texts)
+    IsEffortTold told processors effort × IsNativeTold told native
+    × (map pattern_text patterns.items ≡ texts)
     × IsFlagTold (told (codes "shortest")) shortest
 IsFind told processors texts (Replay schedule) = ⊥
 IsFind told processors texts (Show schedule) = ⊥
 
 -- so it is with the patterns that the words tell, by what is read of standard input
 -- and what clap found
-pub record IsFindTold (reads : List ℕ → Type 0) (found : Found) (processors : ℕ) (task : Task) : Type 0 where
+pub record IsFindTold (reads : List ℕ → Type 0) (found : Found) (processors : ℕ)
+    (task : Task) : Type 0 where
   pub texts : List (List ℕ)
   pub read : AreTextsOf reads (texts_told found) texts
   pub find : IsFind (one_text found) processors texts task
@@ -194,7 +205,8 @@ pub record IsTwiceStandard (found : Found) (r : Refusal) : Type 0 where
 -- why a search is refused: a bound, standard input that is named twice, or the patterns
 abbrev pub IsFindRefused : (List ℕ → Type 0) → (Refusal → Type 0) → Found → ℕ → Refusal → Type 0
 IsFindRefused reads unread found processors r =
-    IsBoundRefused (one_text found) processors r ⊎ IsTwiceStandard found r ⊎ AreNoTexts reads unread (texts_told found) r
+    IsBoundRefused (one_text found) processors r ⊎ IsTwiceStandard found r
+    ⊎ AreNoTexts reads unread (texts_told found) r
 
 -- how many lists of machines it takes: one for each worker, and one more where a schedule that is
 -- found is to be drawn

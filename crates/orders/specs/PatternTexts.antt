@@ -34,7 +34,8 @@ IsUnread remaining None r = IsNoFile r
 IsUnread remaining (Some file) r = IsUnreadable (remaining file) r
 
 -- so it is with standard input, by what its path opens
-pub record IsStandardUnread {R : Type 0} (opens : List ℕ → Option R → Type 0) (remaining : R → Option (List ℕ)) (r : Refusal) : Type 0 where
+pub record IsStandardUnread {R : Type 0} (opens : List ℕ → Option R → Type 0)
+    (remaining : R → Option (List ℕ)) (r : Refusal) : Type 0 where
   pub file : Option R
   pub opened : opens (codes "-") file
   pub why : IsUnread remaining file r
@@ -64,6 +65,8 @@ HasNoPatterns text _ = ⊥
 
 -- why the words that stand where patterns do tell none; where these name standard input, why it
 -- gives no text, or what is wrong with that
-pub record AreNoTexts (reads : List ℕ → Type 0) (unread : Refusal → Type 0) (words : List (List ℕ)) (r : Refusal) : Type 0 where
+pub record AreNoTexts (reads : List ℕ → Type 0) (unread : Refusal → Type 0) (words : List (List ℕ))
+    (r : Refusal) : Type 0 where
   pub told : are_standard words ≡ false → AreNoPatterns words r
-  pub lined : are_standard words ≡ true → unread r ⊎ ((text : List ℕ) × reads text × HasNoPatterns text r)
+  pub lined : are_standard words ≡ true
+      → unread r ⊎ ((text : List ℕ) × reads text × HasNoPatterns text r)

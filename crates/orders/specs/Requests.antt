@@ -16,20 +16,23 @@ use Rattle.orders.specs.declared.tasks.Task.{Task}
 
 -- what the words behind the name of a subcommand ask to do; `reads` tells what is
 -- read of standard input
-pub record IsTaskTold (reads : List ℕ → Type 0) (processors : ℕ) (name : Text) (found : Found) (task : Task) : Type 0 where
+pub record IsTaskTold (reads : List ℕ → Type 0) (processors : ℕ) (name : Text) (found : Found)
+    (task : Task) : Type 0 where
   pub check : name ≡ codes "check" → IsCheck (one_text found) processors task
   pub explore : name ≡ codes "explore" → IsExploration (one_text found) (word_told found) task
   pub find : name ≡ codes "find" → IsFindTold reads found processors task
   pub replay : name ≡ codes "replay" → IsReplay (word_at (codes "SCHEDULE") found) task
   pub show : name ≡ codes "show" → IsShow (word_at (codes "SCHEDULE") found) task
 
--- the words by which the program was called: the first of the command line, or its name where there is none
+-- the words by which the program was called: the first of the command line, or its name where there
+-- is none
 abbrev pub program_told : List Text → Text
 program_told words = get_or words 0 (codes "regtry")
 
--- so it is, by a program that was called so, with these files in their order, how broad a drawing may be, and whether it
--- is to be told meanwhile how far it has come
-pub record IsOrderTold (reads : List ℕ → Type 0) (program : Text) (processors : ℕ) (name : Text) (found : Found) (order : orders.Order) : Type 0 where
+-- so it is, by a program that was called so, with these files in their order, how broad a drawing
+-- may be, and whether it is to be told meanwhile how far it has come
+pub record IsOrderTold (reads : List ℕ → Type 0) (program : Text) (processors : ℕ) (name : Text)
+    (found : Found) (order : orders.Order) : Type 0 where
   pub program_is : order.program.now ≡ program
   pub task : IsTaskTold reads processors name found order.task
   pub paths : map (λ path. path.now) order.paths.items ≡ texts_at (codes "FILE") found
@@ -45,12 +48,15 @@ pub record IsNamedBy (m : ArgMatches) (name : Text) (found : Found) : Type 0 whe
 abbrev pub IsRequestBy : (List ℕ → Type 0) → Text → ℕ → ArgMatches → Request → Type 0
 IsRequestBy reads program processors m Version = ⊥
 IsRequestBy reads program processors m (Order order) =
-    (name : Text) × (found : Found) × IsNamedBy m name found × IsOrderTold reads program processors name found order
+    (name : Text) × (found : Found) × IsNamedBy m name found
+    × IsOrderTold reads program processors name found order
 IsRequestBy reads program processors m (Merge paths) =
-    (found : Found) × IsNamedBy m (codes "merge") found × (map (λ path. path.now) paths.items ≡ texts_at (codes "FILE") found)
+    (found : Found) × IsNamedBy m (codes "merge") found
+    × (map (λ path. path.now) paths.items ≡ texts_at (codes "FILE") found)
 
 -- so asks a parse of these words, where there are taken to be so many processors
-pub record IsParsedTo (reads : List ℕ → Type 0) (words : List Text) (request : Request) : Type 0 where
+pub record IsParsedTo (reads : List ℕ → Type 0) (words : List Text)
+    (request : Request) : Type 0 where
   pub processors : ℕ
   pub few : processors ≤ MOST_WORKERS
   pub m : ArgMatches

@@ -1,7 +1,7 @@
 -- The statuses with which the program tells that the words of the command line, or what
 -- they name, are refused.
 use Rattle.std.specs.Prelude.{◌≡◌, ◌≢◌, ℕ, List}
-use Rattle.regmodel.specs.declared.letters.Letter.{Letter}
+use Rattle.regmodel.specs.declared.schedules.Letter.{Letter}
 use Rattle.regmodel.specs.Prefixes.{FitsPrefix}
 use Rattle.regmodel.specs.ScheduleText.{schedule_text}
 use Rattle.orders.specs.declared.refusals.Refusal.{Refusal}

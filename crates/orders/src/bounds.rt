@@ -1,21 +1,24 @@
-//! How far the words of a check or a search ask to go.
+//! How far the words ask to go: the bounds of a check or a search, and the part of an exploration.
 
-ghost use Rattle.std.specs.Prelude.{◌≡◌, ◌<◌, ◌≤◌, IfErr, IfOk, codes};
+ghost use Rattle.std.specs.Prelude.{◌≡◌, ◌≢◌, ◌<◌, ◌≤◌, ◌++◌, ℕ, IfErr, IfNone, IfOk, IfSome, Option, Some, codes, decimal};
 ghost use Rattle.clap.specs.Words.{found_of, one_text};
-ghost use Rattle.regmodel.specs.declared.limits.TheConstants.{MOST_WORKERS};
+ghost use Rattle.regmodel.specs.declared.limits.TheConstants.{GREATEST_VALUE, MOST_WORKERS};
+ghost use Rattle.regmodel.specs.declared.parts.Part.{Part};
 ghost use Rattle.orders.specs.Bounds as spec;
 ghost use Rattle.orders.specs.Bounds.{IsBoundTold, IsNoBound};
-ghost use Rattle.orders.specs.Orders.{AreBoundsTold};
+ghost use Rattle.orders.specs.Orders.{AreBoundsTold, IsPartTold, part_word, word_told};
+ghost use Rattle.orders.specs.declared.bounds.TheConstants.{PART_SETTING};
 
-use crate::options::has_flag;
 use crate::ranges::{Bound, MOST_WIDTH};
 use crate::refusals::Refusal;
+use crate::words::has_flag;
 use clap::ArgMatches;
 use drawing::{Breadth, Room, tells_registers};
-use regmodel::Settings;
 use regmodel::limits::{MOST_LETTERS, MOST_WORKERS};
+use regmodel::{Part, Settings};
 use std::thread;
 use std::thread::Threads;
+use texts::{cut_at, number_of};
 
 /// Up to which length a check or a search splits beginnings of schedules into pieces where several
 /// workers share them. The deeper, the later two of them walk alike, before either remembers it.
@@ -26,6 +29,9 @@ const ROOM: u32 = 64;
 
 /// In how many megabytes a check or a search remembers states, unless its words say.
 pub const CACHE: u32 = 256;
+
+/// The number of the setting that says which part is explored.
+const PART_SETTING: u8 = 6;
 
 /// How many processors there are taken to be where the system does not tell.
 const PROCESSORS: u32 = 4;
@@ -126,4 +132,44 @@ pub(crate) fn bound_of(words: &ArgMatches<'_>, bound: Bound, other: u32) -> Resu
         Ok(None) => Ok(other),
         _ => Err(Refusal::Bound(bound)),
     }
+}
+
+/// The part that the words ask for, where they ask for one.
+pub(crate) fn part_told(words: &ArgMatches<'_>) -> Result<Option<Part>, Refusal>
+    ensures ok { IfOk result (IsPartTold (word_told (found_of words.now))) }
+    ensures none { IfErr result
+        (λ refusal. (part : Option Part) → IsPartTold (word_told (found_of words.now)) part → ⊥) }
+    ensures err { IfErr result (λ refusal. refusal ≡ Refusal.Setting PART_SETTING) }
+{
+    let Some(word) = words.get_str("part") else {
+        return Ok(None);
+    };
+    match part_of(word) {
+        Some(part) => Ok(Some(part)),
+        None => Err(Refusal::Setting(PART_SETTING)),
+    }
+}
+
+/// The part that a word writes as `3/16`: its number, from 1 on, and how many there are, at most
+/// 65536. None for any other word.
+fn part_of(word: &str) -> Option<Part>
+    ensures some { IfSome result (λ part. part_word part ≡ word.now) }
+    ensures none { IfNone result ((part : Part) → part_word part ≢ word.now) }
+{
+    let (number, count) = numbers_of(word.as_bytes())?;
+    Part::new(number, count)
+}
+
+/// The two numbers, 0 to 1000000000, that a word writes with a slash between them. None
+/// for any other word.
+fn numbers_of(word: &[u8]) -> Option<(u32, u32)>
+    ensures some { IfSome result (λ (n, m). decimal n ++ codes "/" ++ decimal m ≡ word.now) }
+    ensures is { (n m : ℕ) → n ≤ GREATEST_VALUE → m ≤ GREATEST_VALUE
+        → decimal n ++ codes "/" ++ decimal m ≡ word.now → result ≡ Some (n, m) }
+{
+    let (front, rest) = cut_at(word, b'/');
+    let number = number_of(front)?;
+    let (_slash, digits) = rest.split_first()?;
+    let count = number_of(digits)?;
+    Some((number, count))
 }

@@ -6,8 +6,7 @@ ghost use Rattle.std.specs.Result.{result_map_both};
 ghost use Rattle.orders.specs.Inputs.{IsTextOf, IsUnreadable, is_standard};
 ghost use Rattle.orders.specs.declared.inputs.Input.TheVariants as input;
 
-use crate::file_faults::FileFault;
-use crate::refusals::Refusal;
+use crate::refusals::{FileFault, Refusal};
 use regmodel::OutOfMemory;
 use regmodel::limits::MOST_SOURCE_BYTES;
 use std::alloc::Global;

@@ -10,10 +10,10 @@ ghost use Rattle.orders.specs.Inputs.{IsStandardText};
 ghost use Rattle.orders.specs.PatternTexts.{IsStandardUnread};
 ghost use Rattle.orders.specs.Statuses.{IsNoSchedule, status_of};
 
-use crate::bounds::{CACHE, ProcessorCount, bound_of, bounds_of, breadth_of, processors};
+use crate::bounds::{
+    CACHE, ProcessorCount, bound_of, bounds_of, breadth_of, part_told, processors,
+};
 use crate::inputs::{Opener, STANDARD_INPUT, is_standard};
-use crate::options::{has_flag, is_native, number_of, word_at};
-use crate::parts_told::part_told;
 use crate::patterns_told::{are_standard, patterns_told};
 use crate::ranges::{Bound, MOST_CACHE};
 use crate::reasons::refuse;
@@ -21,6 +21,7 @@ use crate::refusals::Refusal;
 use crate::standing_forms::standing_at;
 use crate::tasks::Task;
 use crate::tips::write_unknown;
+use crate::words::{has_flag, is_native, number_of, word_at};
 use clap::ArgMatches;
 use clap::error::ErrorKind;
 use command_words::matches_of;

@@ -1,6 +1,6 @@
-//! Why there is no answer: the status that tells it, and the words.
+//! Why there is no answer, in a status and in words; and the status of several answers.
 
-ghost use Rattle.std.specs.Prelude.{ℕ};
+ghost use Rattle.std.specs.Prelude.{◌≡◌, max, ℕ};
 ghost use Rattle.orders.specs.Reasons.{IsStatusOf};
 
 use std::fmt::Display;
@@ -31,4 +31,11 @@ pub fn refuse<R: Reason, E: Write>(reason: &R, subject: Option<&str>, err: &mut 
         None => writeln!(err, "regtry: {reason}"),
     };
     reason.status()
+}
+
+/// The status of two answers together, which is that of the worse one: the higher of both.
+pub fn worse(status: u8, other: u8) -> u8
+    ensures { result ≡ max status other }
+{
+    status.max(other)
 }

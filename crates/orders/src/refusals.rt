@@ -3,13 +3,12 @@
 ghost use Rattle.std.specs.Prelude.{◌≡◌};
 ghost use Rattle.orders.specs.declared.refusals.Refusal.TheVariants.{Memory};
 
-use crate::file_faults::FileFault;
 use crate::ranges::Bound;
 use crate::reasons::Reason;
 use crate::standing_forms::form_for;
 use std::alloc::AllocFailed;
 use std::io;
-use std::io::Write;
+use std::io::{ErrorKind, Write};
 use thiserror::Error;
 
 /// How registers are written.
@@ -22,6 +21,41 @@ const LETTERS: &str =
 /// How a standing of a pattern is written.
 const STANDINGS: &str =
     "write 1 to 8 of them, parted by '; ', each * or done * or a standing of a report, as done 1 20, fault 1, crashed or running, with idle behind it where the process took no step";
+
+/// Why a file gives no text.
+#[derive(Clone, Copy, PartialEq, Eq, Debug)]
+pub enum FileFault {
+    /// It is not there.
+    Missing,
+    /// It is a folder.
+    Folder,
+    /// It may not be read.
+    Forbidden,
+    /// It cannot be read for another reason.
+    Unreadable,
+}
+
+impl FileFault {
+    /// Why there is an error of this kind.
+    pub fn of(kind: ErrorKind) -> FileFault {
+        match kind {
+            ErrorKind::NotFound | ErrorKind::NotADirectory => FileFault::Missing,
+            ErrorKind::IsADirectory => FileFault::Folder,
+            ErrorKind::PermissionDenied => FileFault::Forbidden,
+            _ => FileFault::Unreadable,
+        }
+    }
+
+    /// The same in words, behind the name of the file.
+    pub(crate) fn words(self) -> &'static str {
+        match self {
+            FileFault::Missing => ": there is no such file",
+            FileFault::Folder => ": this is a folder, and no file",
+            FileFault::Forbidden => ": this file may not be read",
+            FileFault::Unreadable => ": the file cannot be read",
+        }
+    }
+}
 
 /// What is refused, in one line.
 #[derive(Debug, Drop, Error)]

@@ -5,16 +5,13 @@ use Rattle.std.proofs.lemmas.List.Elements.{All-cons, All-nil}
 use Rattle.std.specs.Cmp.{IsTotalOrder}
 use Rattle.std.specs.declared.cmp.Ordering.TheVariants.{Equal}
 use Rattle.regmodel.proofs.FullSchedules.{is_possible-there}
-use Rattle.regmodel.proofs.Members.{Mem-from_Contains, Mem-from_filter, Mem-from_flat_map, Mem-from_map}
-use Rattle.regmodel.specs.Letters.{process_of}
-use Rattle.regmodel.specs.Outcomes.{outcome_cmp, outcome_of}
-use Rattle.regmodel.specs.Prefixes.{FitsPrefix}
-use Rattle.regmodel.specs.Program.{Program}
-use Rattle.regmodel.specs.Schedules.{IsFull, IsSchedule}
-use Rattle.regmodel.specs.Summary.{AreInOrder}
-use Rattle.regmodel.specs.declared.letters.Letter.{Letter}
-use Rattle.regmodel.specs.declared.limits.TheConstants.{LAST_PROCESS, MOST_LETTERS, MOST_PROCESSES}
+use Rattle.lists.proofs.Members.{Mem-from_Contains, Mem-from_filter, Mem-from_flat_map, Mem-from_map}
+use Rattle.regmodel.specs.declared.schedules.Letter.{Letter}
 use Rattle.regmodel.specs.declared.outcomes.ProcEnd.{ProcEnd}
+use Rattle.regmodel.specs.Prelude.{process_of, outcome_cmp, outcome_of, Program, IsFull, IsSchedule}
+use Rattle.regmodel.specs.Prefixes.{FitsPrefix}
+use Rattle.regmodel.specs.Summary.{AreInOrder}
+use Rattle.regmodel.specs.declared.limits.TheConstants.{LAST_PROCESS, MOST_LETTERS, MOST_PROCESSES}
 use Rattle.world.proofs.ValueLimits.{WantsWithin}
 use Rattle.world.specs.Fit.{AreFit}
 use Rattle.classes.proofs.ReducedList.{reduced-from_Mem}

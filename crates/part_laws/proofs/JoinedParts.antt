@@ -5,19 +5,19 @@ use Rattle.std.proofs.lemmas.List.Elements.{All-head, All-tail}
 use Rattle.std.proofs.lemmas.List.Sums.{sum_by-append, sum_by-cons}
 use Rattle.lists.specs.Balance.{AreInBalance}
 use Rattle.regmodel.specs.Settings.{Bounds}
-use Rattle.regmodel.specs.Summary.{Summary}
+use Rattle.regmodel.specs.declared.schedules.Letter.{Letter}
+use Rattle.regmodel.specs.declared.outcomes.ProcEnd.{ProcEnd}
+use Rattle.regmodel.specs.Prelude.{Summary}
 use Rattle.reglang.specs.declared.source.Source.{Source}
 use Rattle.report.specs.PlainReport.{Findings, IsPlainLeast, LeastFinding}
 use Rattle.part_texts.specs.PlainHead.{AreOfOne}
-use Rattle.regmodel.specs.declared.letters.Letter.{Letter}
-use Rattle.regmodel.specs.declared.outcomes.ProcEnd.{ProcEnd}
 use Rattle.tallies.specs.Merging.{Merges, lower_of}
 use Rattle.part_texts.specs.declared.parts.Found.{Found}
 use Rattle.part_texts.specs.declared.parts.Found.TheVariants.{Explored, Least}
 use Rattle.part_texts.specs.declared.parts.PartReport.{PartReport}
 use Rattle.merging.specs.Merged.{AreJoined, IsJoined, IsToldBy}
-use Rattle.merging.specs.declared.merged.Merged.{Merged}
-use Rattle.merging.specs.declared.merged.Merged.TheVariants as merged
+use Rattle.report.specs.declared.yields.Yield.{Yield}
+use Rattle.report.specs.declared.yields.Yield.TheVariants as merged
 use Rattle.explorer.specs.Searches.{Search, reduced_of, search_of}
 use Rattle.explorer.specs.Shares.{IsLowestRefused, Tells}
 use Rattle.explorer.specs.Parts.{IsFoundAmong, IsLeastAmong, members_of_part, summary_of}
@@ -70,7 +70,7 @@ module _ (source : Source) (settings : Bounds) (accepts : List ProcEnd → Bool)
       subst (λ count. IsFoundIn (search_of source settings accepts) (members_of_part (search_of source settings accepts) settings.cut count part.head.number) part.found) (sym (of_one k d lt).count) (parts k d lt).found
 
   module _ (explored : (search : Search) (schedules : List (List Letter)) (findings : Findings) → AreInBalance schedules (reduced_of search) → IsFoundAmong search schedules findings → IsFoundOf search findings) (lowest : (search : Search) (schedules : List (List Letter)) (finding : LeastFinding) → AreInBalance schedules (reduced_of search) → IsLeastAmong search schedules finding → IsPlainLeast search.programs search.limit search.crashes search.accepts finding) where
-    pub whole_found : (part : PartReport) (whole : Found) (merged : Merged) (schedules : List (List Letter)) → IsPartOfSource source settings accepts part → AreInBalance schedules (reduced_of (search_of source settings accepts)) → IsFoundIn (search_of source settings accepts) schedules whole → IsToldBy part.head whole merged → IsWholeOf source settings accepts merged
+    pub whole_found : (part : PartReport) (whole : Found) (merged : Yield Summary) (schedules : List (List Letter)) → IsPartOfSource source settings accepts part → AreInBalance schedules (reduced_of (search_of source settings accepts)) → IsFoundIn (search_of source settings accepts) schedules whole → IsToldBy part.head whole merged → IsWholeOf source settings accepts merged
     whole_found part (Explored s) (merged.Report f) schedules own balance told e =
         explored (search_of source settings accepts) schedules f balance (record {
           processes = ap (λ (f : Findings). f.processes) e ∙ own.processes;

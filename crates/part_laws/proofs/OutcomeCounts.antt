@@ -7,9 +7,9 @@ use Rattle.std.specs.Bool.{Decides}
 use Rattle.std.specs.Cmp.{Equal-is, IsEquivalence, IsTotalOrder}
 use Rattle.std.specs.Ordering.{eq_by_cmp, is_eq}
 use Rattle.std.specs.declared.cmp.Ordering.TheVariants.{Equal}
-use Rattle.regmodel.specs.Outcomes.{outcome_cmp}
-use Rattle.regmodel.specs.Summary.{AreInOrder}
 use Rattle.regmodel.specs.declared.outcomes.ProcEnd.{ProcEnd}
+use Rattle.regmodel.specs.Prelude.{outcome_cmp}
+use Rattle.regmodel.specs.Summary.{AreInOrder}
 
 module _ (order : IsTotalOrder outcome_cmp) (same : (a b : List ProcEnd) → outcome_cmp a b ≡ Equal → a ≡ b) where
   outcomes_alike : IsEquivalence (eq_by_cmp outcome_cmp)

@@ -7,17 +7,13 @@ use Rattle.std.proofs.lemmas.List.FromFn.{get_or-range_with_len, length-map-rang
 use Rattle.std.proofs.lemmas.List.Sums.{list_all-from_AllPass}
 use Rattle.std.specs.List.{list_all, list_any, range_with_len}
 use Rattle.std.specs.Prelude.{nat_le}
-use Rattle.regmodel.specs.Letters.{is_crash_of}
-use Rattle.regmodel.specs.Limits.{IsWithin}
-use Rattle.regmodel.specs.Outcomes.{end_of, outcome_of, proc_end}
-use Rattle.regmodel.specs.Program.{Program}
-use Rattle.regmodel.specs.Replies.{pending_after, pending_at, replies}
-use Rattle.regmodel.specs.Reply.{Replies}
 use Rattle.regmodel.specs.declared.accesses.Pending.{Pending}
+use Rattle.regmodel.specs.declared.schedules.Letter.{Letter}
+use Rattle.regmodel.specs.Prelude.{is_crash_of, IsWithin, outcome_of, proc_end, Program, pending_after, pending_at, replies, Replies}
+use Rattle.regmodel.specs.Outcomes.{end_of}
 use Rattle.regmodel.specs.declared.accesses.Pending.TheVariants as pending
 use Rattle.regmodel.specs.declared.faults.TheConstants.{NO_VALUE, TOO_MANY_NUMBERS}
-use Rattle.regmodel.specs.declared.letters.Letter.{Letter}
-use Rattle.regmodel.specs.declared.limits.TheConstants.{GREATEST_VALUE, MOST_NUMBERS}
+use Rattle.regmodel.specs.declared.limits.TheConstants.{MOST_NUMBERS, GREATEST_VALUE}
 use Rattle.regmodel.specs.declared.outcomes.End.TheVariants.{Crashed}
 use Rattle.world.proofs.ValueLimits.{AllWithin, WantsWithin, replies-within}
 use Rattle.world.specs.Fit.{AreFit}

@@ -1,7 +1,7 @@
 -- What is told of a part of a source, and of the whole.
 use Rattle.std.specs.Prelude.{◌≡◌, Bool, List, length}
 use Rattle.regmodel.specs.Settings.{Bounds}
-use Rattle.regmodel.specs.declared.letters.Letter.{Letter}
+use Rattle.regmodel.specs.declared.schedules.Letter.{Letter}
 use Rattle.regmodel.specs.declared.outcomes.ProcEnd.{ProcEnd}
 use Rattle.reglang.specs.Sources.{source_programs}
 use Rattle.reglang.specs.declared.source.Source.{Source}
@@ -9,8 +9,9 @@ use Rattle.report.specs.PlainReport.{IsPlainLeast}
 use Rattle.part_texts.specs.declared.parts.Found.{Found}
 use Rattle.part_texts.specs.declared.parts.Found.TheVariants as found
 use Rattle.part_texts.specs.declared.parts.PartReport.{PartReport}
-use Rattle.merging.specs.declared.merged.Merged.{Merged}
-use Rattle.merging.specs.declared.merged.Merged.TheVariants.{Report, Least}
+use Rattle.regmodel.specs.Summary.{Summary}
+use Rattle.report.specs.declared.yields.Yield.{Yield}
+use Rattle.report.specs.declared.yields.Yield.TheVariants.{Report, Least}
 use Rattle.explorer.specs.Parts.{members_of_part}
 use Rattle.explorer.specs.Running.{IsExplored}
 use Rattle.explorer.specs.Searches.{Search, search_of}
@@ -22,15 +23,18 @@ IsFoundIn search schedules (found.Explored s) = Tells search schedules s
 IsFoundIn search schedules (found.Least least) = IsLowestRefused search schedules least
 
 -- what was found of a part of a source by these settings, for a judge that accepts these outcomes
-pub record IsPartOfSource (source : Source) (settings : Bounds) (accepts : List ProcEnd → Bool) (part : PartReport) : Type 0 where
+pub record IsPartOfSource (source : Source) (settings : Bounds) (accepts : List ProcEnd → Bool)
+    (part : PartReport) : Type 0 where
   pub processes : part.head.processes ≡ length (source_programs source)
   pub length_is : part.head.length ≡ settings.length
   pub crashes_is : part.head.crashes ≡ settings.crashes
   pub cut_is : part.head.cut ≡ settings.cut
   pub found : IsFoundIn (search_of source settings accepts)
-      (members_of_part (search_of source settings accepts) settings.cut part.head.count part.head.number) part.found
+      (members_of_part (search_of source settings accepts) settings.cut part.head.count
+      part.head.number) part.found
 
 -- what is found of the whole source: the report of its exploration, or its least failing schedule
-abbrev pub IsWholeOf : Source → Bounds → (List ProcEnd → Bool) → Merged → Type 0
+abbrev pub IsWholeOf : Source → Bounds → (List ProcEnd → Bool) → Yield Summary → Type 0
 IsWholeOf source settings accepts (Report findings) = IsExplored source settings accepts findings
-IsWholeOf source settings accepts (Least finding) = IsPlainLeast (source_programs source) settings.length settings.crashes accepts finding
+IsWholeOf source settings accepts (Least finding) =
+    IsPlainLeast (source_programs source) settings.length settings.crashes accepts finding

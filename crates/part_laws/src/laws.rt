@@ -4,16 +4,17 @@
 ghost use Rattle.std.specs.Prelude.{◌≡◌, ◌^◌, ◌<◌, ◌∷◌, All, Bool, List, length};
 ghost use Rattle.regmodel.specs.Settings.{Bounds};
 ghost use Rattle.regmodel.specs.declared.outcomes.ProcEnd.{ProcEnd};
+ghost use Rattle.regmodel.specs.Prelude.{Summary};
 ghost use Rattle.regmodel.specs.declared.parts.Part.{Part};
 ghost use Rattle.reglang.specs.Sources.{source_programs};
 ghost use Rattle.reglang.specs.declared.source.Source.{Source};
 ghost use Rattle.report.specs.PlainReport.{Findings, LeastFinding};
+ghost use Rattle.report.specs.declared.yields.Yield.{Yield};
 ghost use Rattle.part_texts.specs.FitsPart.{FitsPart};
 ghost use Rattle.part_texts.specs.PartText.{explored_part, least_part};
 ghost use Rattle.part_texts.specs.PlainHead.{FitsHead, PlainHead};
 ghost use Rattle.part_texts.specs.declared.parts.PartReport.{PartReport};
 ghost use Rattle.merging.specs.Merged.{IsMerged};
-ghost use Rattle.merging.specs.declared.merged.Merged.{Merged};
 ghost use Rattle.explorer.specs.Parts.{IsLeastOfPart, IsPartExplored};
 ghost use Rattle.part_laws.specs.Wholes.{IsPartOfSource, IsWholeOf};
 
@@ -46,7 +47,7 @@ pub fn parts_can_be_read(source: &Source)
 /// same settings, they tell what is found of the whole source by these settings.
 pub fn merged_parts_are_the_whole()
     ensures { (source : Source) (settings : Bounds) (accepts : List ProcEnd → Bool)
-        (first : PartReport) (others : List PartReport) (merged : Merged)
+        (first : PartReport) (others : List PartReport) (merged : Yield Summary)
         → IsMerged first others merged
         → All (IsPartOfSource source settings accepts) (first ∷ others)
         → IsWholeOf source settings accepts merged }

@@ -1,7 +1,7 @@
 use Rattle.std.proofs.Common.{ℕ, ◌∷◌, List, map, refl, ◌∙◌}
 use Rattle.std.proofs.lemmas.List.Elements.{All-head, All-tail}
 use Rattle.lists.specs.Balance.{AreInBalance}
-use Rattle.regmodel.specs.declared.letters.Letter.{Letter}
+use Rattle.regmodel.specs.declared.schedules.Letter.{Letter}
 use Rattle.part_texts.specs.PlainHead.{AreOfOne}
 use Rattle.part_texts.specs.declared.parts.PartReport.{PartReport}
 use Rattle.tallies.specs.Merging.{lower_of}

@@ -1,5 +1,5 @@
 use Rattle.std.proofs.Common.{ℕ, ◌-◌, List, arith}
-use Rattle.regmodel.specs.declared.letters.Letter.{Letter}
+use Rattle.regmodel.specs.declared.schedules.Letter.{Letter}
 use Rattle.regmodel.specs.declared.parts.Part.{Part}
 use Rattle.world.specs.Fit.{AreFit}
 use Rattle.reglang.specs.Sources.{source_programs}
