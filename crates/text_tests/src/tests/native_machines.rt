@@ -1,7 +1,7 @@
 //! Native machines beside interpreters of the same programs.
 
 ghost use Rattle.std.specs.Prelude.{◌≡◌, ◌≤◌, ◌↔◌, All, IsTrue, length};
-ghost use Rattle.regmodel.specs.declared.limits.TheConstants.{GREATEST_VALUE, MOST_SCANNED};
+ghost use Rattle.regmodel.specs.declared.limits.TheConstants.{MOST_SCANNED, GREATEST_VALUE};
 
 use machine::{Interp, Machine};
 use natives::{Grid, MakeFault, NameSlots, Names, Split, Tree};
