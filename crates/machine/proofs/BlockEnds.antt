@@ -7,6 +7,7 @@ use Rattle.regmodel.specs.Act as flow
 use Rattle.regmodel.specs.Program as program
 use Rattle.regmodel.specs.Reply.{Reply}
 use Rattle.regmodel.specs.declared.statements.Stmt.{If, Stmt}
+use Rattle.regmodel.proofs.Blocks.{if_block}
 use Rattle.machine.specs.Exits.{BlockAsks, StmtAsks, block_flow, exit_through, stmt_flow}
 use Rattle.machine.specs.Paths.{of_arm, part_flow, resume}
 use Rattle.machine.specs.Runs.{StmtRunsTo}
@@ -19,7 +20,6 @@ use Rattle.machine.specs.declared.run.Part.TheVariants.{At, Turn, Within}
 use Rattle.machine.specs.declared.run.StmtExit.{StmtExit}
 use Rattle.machine.specs.declared.values.Destination.{Destination}
 use Rattle.machine.specs.declared.run.StmtExit.TheVariants as stmt
-use Rattle.machine.proofs.Blocks.{if_block}
 use Rattle.machine.proofs.ProgramSteps.{access_flow-with_stmt, arm_part, exit_asks, known_exit, resume-at, then_exit, turn_part}
 
 -- a block goes on behind the statement that was resumed, by how that one ended

@@ -6,21 +6,13 @@ use Rattle.regmodel.specs.declared.statements.Stmt.{If, Repeat, Stmt}
 use Rattle.regmodel.specs.Program as program
 use Rattle.regmodel.specs.Program.{Stop}
 use Rattle.regmodel.specs.Limits.{open_blocks}
-use Rattle.regmodel.proofs.Rows.{with_stmt-If, with_stmt-Repeat}
-use Rattle.regmodel.proofs.Blocks.{nesting-step, nesting-drop}
-
-pub if_block : (x : Stmt) (e : Expr) (a b : Vec Stmt Global) (rest : Block) → x ≡ If e a b → with_stmt x rest ≡ program.If e (block_of a.items) (block_of b.items) rest
-if_block x e a b rest h = ap (λ y. with_stmt y rest) h ∙ with_stmt-If e a b rest
+use Rattle.regmodel.proofs.Blocks.{if_block, nesting-drop, nesting-step, repeat_block}
 
 pub if_rows : (x : Stmt) (e : Expr) (a b : Vec Stmt Global) (first second : List Stmt) (rest : Block) → x ≡ If e a b → first ≡ a.items → second ≡ b.items → with_stmt x rest ≡ program.If e (block_of first) (block_of second) rest
 if_rows x e a b first second rest h k l =
     if_block x e a b rest h
     ∙ ap (λ y. program.If e (block_of y) (block_of b.items) rest) (sym k)
     ∙ ap (λ y. program.If e (block_of first) (block_of y) rest) (sym l)
-
-pub repeat_block : (x : Stmt) (e : Expr) (a : Vec Stmt Global) (row : List Stmt) (rest : Block) → x ≡ Repeat e a → row ≡ a.items → with_stmt x rest ≡ program.Repeat e (block_of row) rest
-repeat_block x e a row rest h k =
-    ap (λ y. with_stmt y rest) h ∙ with_stmt-Repeat e a rest ∙ ap (λ y. program.Repeat e (block_of y) rest) (sym k)
 
 pub open_blocks_at : (xs : List Stmt) (i : ℕ) (x : Stmt) → i < length xs → x ≡ get_or xs i x → open_blocks (with_stmt x Stop) ≤ open_blocks (block_of xs)
 open_blocks_at xs i x h e = omega (arith, nesting-drop suc i xs, nesting-step suc xs i x h e)

@@ -11,8 +11,8 @@ use Rattle.machine.specs.declared.run.Arm.TheVariants as arm
 use Rattle.machine.specs.declared.run.Frame.{Frame}
 use Rattle.machine.specs.Paths.{of_arm}
 use Rattle.machine.specs.Runs.{CanRun}
-use Rattle.regmodel.proofs.Blocks.{operands_fit-drop, operands_fit-step}
-use Rattle.machine.proofs.Blocks.{if_block, repeat_block, open_blocks_at, open_blocks_if, open_blocks_repeat}
+use Rattle.regmodel.proofs.Blocks.{if_block, operands_fit-drop, operands_fit-step, repeat_block}
+use Rattle.machine.proofs.Blocks.{open_blocks_at, open_blocks_if, open_blocks_repeat}
 use Rattle.machine.proofs.ProgramSteps.{open_blocks-arm}
 
 operands_fit_at : (n : ℕ) (xs : List Stmt) (i : ℕ) (x : Stmt) → i < length xs → x ≡ get_or xs i x → IsTrue (operands_fit n (block_of xs)) → IsTrue (operands_fit n (with_stmt x Stop))

@@ -1,5 +1,5 @@
 -- What comes past the statements of a block, one after another.
-use Rattle.std.proofs.Common.{◌≡◌, ℕ, zero, suc, ◌+◌, ◌-◌, ◌<◌, List, [], ◌∷◌, Option, Some, None, Result, Ok, Err, length, get_or, drop, refl, ap, sym, ◌∙◌, arith}
+use Rattle.std.proofs.Common.{◌≡◌, ℕ, zero, suc, ◌+◌, ◌-◌, ◌<◌, List, [], ◌∷◌, Option, Some, None, Result, Ok, Err, length, get_or, drop, refl, ap, sym, subst, ◌∙◌, arith}
 use Rattle.regmodel.specs.declared.statements.Expr.{Expr}
 use Rattle.regmodel.specs.declared.statements.Stmt.{Stmt}
 use Rattle.regmodel.specs.Prelude.{Replies, Env, Flow, exec, then_do, times, Block, block_of, with_stmt}
@@ -15,7 +15,7 @@ use Rattle.machine.specs.Stops.{in_either, in_repeat, in_turns, past, stopped_at
 use Rattle.machine.specs.Exits.{stmt_flow}
 use Rattle.machine.specs.Runs.{StmtRunsTo}
 use Rattle.machine.specs.Stores.{env_of}
-use Rattle.machine.specs.Walks.{BlockWalks, WalksPast, replies_of}
+use Rattle.machine.specs.Walks.{BlockWalks, CanWalk, WalksPast, replies_of}
 use Rattle.machine.specs.declared.run.StmtExit.{StmtExit}
 use Rattle.machine.specs.declared.stops.Stopped.{Stopped}
 use Rattle.machine.specs.declared.stops.Walk.{Walk}
@@ -124,6 +124,12 @@ simple_walks c n number old {new} {b} {exit} {env} {so} {result} is runs stops w
           ∙ ap (λ so. past (stmt_flow exit n [] (Do c Stop) Stop env s) (Some so) go) (sym (stops ∙ ap (λ b. stopped_at b n number from) is))
           ∙ walks.same go;
     })
+
+-- a statement that was left may be walked into by the blocks of its parts
+pub walk_into : {n number : ℕ} {x b : Block} {so : Stopped} (env : Env) → x ≡ b → CanWalk n number x → so ≡ stopped_at x n number env → CanWalk n so.at b × (so ≡ stopped_at b n so.at env)
+walk_into {n} {number} {x} {b} {so} env told can stops =
+    let at : so.at ≡ number = ap (λ (s : Stopped). s.at) stops in
+    (subst (λ k. CanWalk n k b) (sym at) (subst (CanWalk n number) told can), stops ∙ ap (λ y. stopped_at y n number env) told ∙ ap (λ k. stopped_at b n k env) (sym at))
 
 -- one of the turns that are left
 pub past-turn : (left : ℕ) (turn : Env → Replies → Flow) (stops : Env → Replies → Option Stopped) (env : Env) (s : Replies) (go : Env → Replies → Option Stopped) → 0 < left → past (times left turn env s) (in_turns left turn stops env s) go ≡ past (turn env s) (stops env s) (λ env s. past (times (left - 1) turn env s) (in_turns (left - 1) turn stops env s) go)

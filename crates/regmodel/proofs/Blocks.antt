@@ -1,5 +1,5 @@
 -- Blocks, and the lists of statements that they are made of.
-use Rattle.std.proofs.Common.{◌≡◌, ℕ, zero, suc, ◌+◌, ◌<◌, ◌≤◌, Bool, true, false, ◌&&◌, max, List, [], ◌∷◌, Vec, Global, IsTrue, length, get_or, drop, refl, ap, ◌∙◌, subst, arith, drop-cons, add-one}
+use Rattle.std.proofs.Common.{◌≡◌, ℕ, zero, suc, ◌+◌, ◌<◌, ◌≤◌, Bool, true, false, ◌&&◌, max, List, [], ◌∷◌, Vec, Global, IsTrue, length, get_or, drop, refl, ap, sym, ◌∙◌, subst, arith, drop-cons, add-one}
 use Rattle.std.proofs.lemmas.Bool.{and_parts}
 use Rattle.regmodel.specs.declared.statements.Expr.{Expr}
 use Rattle.regmodel.specs.Prelude.{Block, with_stmt, block_of}
@@ -55,13 +55,21 @@ nesting-drop around_if zero xs = omega arith
 nesting-drop around_if (suc k) [] = omega arith
 nesting-drop around_if (suc k) (s ∷ xs) = omega (arith, nesting-drop around_if k xs, nesting-with_stmt around_if s (block_of xs))
 
--- ---- a statement with parts
+-- ---- a statement with parts, before the rest of its block
 
-pub with_stmt_if : (s : Stmt) (e : Expr) (a b : Vec Stmt Global) → s ≡ If e a b → with_stmt s Stop ≡ program.If e (block_of a.items) (block_of b.items) Stop
-with_stmt_if s e a b h = ap (λ s. with_stmt s Stop) h ∙ with_stmt-If e a b Stop
+pub if_block : (x : Stmt) (e : Expr) (a b : Vec Stmt Global) (rest : Block) → x ≡ If e a b → with_stmt x rest ≡ program.If e (block_of a.items) (block_of b.items) rest
+if_block x e a b rest h = ap (λ y. with_stmt y rest) h ∙ with_stmt-If e a b rest
 
-pub with_stmt_repeat : (s : Stmt) (e : Expr) (a : Vec Stmt Global) → s ≡ Repeat e a → with_stmt s Stop ≡ program.Repeat e (block_of a.items) Stop
-with_stmt_repeat s e a h = ap (λ s. with_stmt s Stop) h ∙ with_stmt-Repeat e a Stop
+pub repeat_block : (x : Stmt) (e : Expr) (a : Vec Stmt Global) (row : List Stmt) (rest : Block) → x ≡ Repeat e a → row ≡ a.items → with_stmt x rest ≡ program.Repeat e (block_of row) rest
+repeat_block x e a row rest h k =
+    ap (λ y. with_stmt y rest) h ∙ with_stmt-Repeat e a rest ∙ ap (λ y. program.Repeat e (block_of y) rest) (sym k)
+
+-- how many statements it counts, by the list of a part
+pub statements_if : (x : Stmt) (e : Expr) (a b : Vec Stmt Global) (first : List Stmt) → x ≡ If e a b → first ≡ a.items → statements (with_stmt x Stop) ≡ 1 + statements (block_of first) + statements (block_of b.items)
+statements_if x e a b first h k = let whole = ap statements (if_block x e a b Stop h) in let part = ap (λ xs. statements (block_of xs)) k in omega (arith, whole, part)
+
+pub statements_repeat : (x : Stmt) (e : Expr) (a : Vec Stmt Global) (row : List Stmt) → x ≡ Repeat e a → row ≡ a.items → statements (with_stmt x Stop) ≡ 1 + statements (block_of row)
+statements_repeat x e a row h k = let whole = ap statements (repeat_block x e a row Stop h k) in omega (arith, whole)
 
 -- a statement counts
 pub statements_some : (s : Stmt) → 0 < statements (with_stmt s Stop)

@@ -1,7 +1,7 @@
 use Rattle.std.proofs.Common.{ap, arith}
 use Rattle.regmodel.specs.Prelude.{block_of}
 use Rattle.regmodel.specs.Limits.{statements}
-use Rattle.regmodel.proofs.Blocks.{statements-step, with_stmt_if, with_stmt_repeat}
+use Rattle.regmodel.proofs.Blocks.{statements-step, statements_if, statements_repeat}
 use Rattle.machine.proofs.NumberedBlocks.{statements_left}
 use Rattle.machine.proofs.numbering.+numbers.Goals as goal
 
@@ -19,36 +19,31 @@ behind-loop-stmt-preserved t c =
 pub behind_stmt-behind-second_at-requires : goal.behind_stmt-behind-second_at-requires
 behind_stmt-behind-second_at-requires t c =
     let w = c.in-If in
-    let e = ap statements (with_stmt_if c.args.stmt.now w.field-0 w.first w.second w.is) in
-    let a = ap (λ xs. statements (block_of xs)) c.as_slice.ensures.value in
-    (omega (arith, e, a), omega (arith, e, a, c.requires))
+    let e = statements_if c.args.stmt.now w.field-0 w.first w.second _ w.is c.as_slice.ensures.value in
+    (omega (arith, e), omega (arith, e, c.requires))
 
 pub behind_stmt-behind-requires : goal.behind_stmt-behind-requires
 behind_stmt-behind-requires t c =
     let w = c.in-If in
-    let e = ap statements (with_stmt_if c.args.stmt.now w.field-0 w.first w.second w.is) in
-    let a = ap (λ xs. statements (block_of xs)) c.as_slice.ensures.value in
+    let e = statements_if c.args.stmt.now w.field-0 w.first w.second _ w.is c.as_slice.ensures.value in
     let b = ap (λ xs. statements (block_of xs)) c.as_slice-in-If.ensures.value in
-    (omega (arith, e, b), omega (arith, e, a, b, c.behind-second_at.ensures, c.requires))
+    (omega (arith, e, b), omega (arith, e, b, c.behind-second_at.ensures, c.requires))
 
 pub behind_stmt-returns-in-If : goal.behind_stmt-returns-in-If
 behind_stmt-returns-in-If t c =
     let w = c.in-If in
-    let e = ap statements (with_stmt_if c.args.stmt.now w.field-0 w.first w.second w.is) in
-    let a = ap (λ xs. statements (block_of xs)) c.as_slice.ensures.value in
+    let e = statements_if c.args.stmt.now w.field-0 w.first w.second _ w.is c.as_slice.ensures.value in
     let b = ap (λ xs. statements (block_of xs)) c.as_slice-in-If.ensures.value in
-    omega (arith, e, a, b, c.behind-second_at.ensures, c.behind.ensures)
+    omega (arith, e, b, c.behind-second_at.ensures, c.behind.ensures)
 
 pub behind_stmt-behind-requires-in-Repeat : goal.behind_stmt-behind-requires-in-Repeat
 behind_stmt-behind-requires-in-Repeat t c =
     let w = c.in-Repeat in
-    let e = ap statements (with_stmt_repeat c.args.stmt.now w.field-0 w.body w.is) in
-    let a = ap (λ xs. statements (block_of xs)) c.as_slice-in-Repeat.ensures.value in
-    (omega (arith, e, a), omega (arith, e, a, c.requires))
+    let e = statements_repeat c.args.stmt.now w.field-0 w.body _ w.is c.as_slice-in-Repeat.ensures.value in
+    (omega (arith, e), omega (arith, e, c.requires))
 
 pub behind_stmt-returns-in-Repeat : goal.behind_stmt-returns-in-Repeat
 behind_stmt-returns-in-Repeat t c =
     let w = c.in-Repeat in
-    let e = ap statements (with_stmt_repeat c.args.stmt.now w.field-0 w.body w.is) in
-    let a = ap (λ xs. statements (block_of xs)) c.as_slice-in-Repeat.ensures.value in
-    omega (arith, e, a, c.behind-in-Repeat.ensures)
+    let e = statements_repeat c.args.stmt.now w.field-0 w.body _ w.is c.as_slice-in-Repeat.ensures.value in
+    omega (arith, e, c.behind-in-Repeat.ensures)

@@ -2,13 +2,13 @@ use Rattle.std.proofs.Common.{◌+◌, [], ◌∷◌, drop, get_or, Ok, refl, ap
 use Rattle.std.proofs.lemmas.Result.{err_from_is_err_and}
 use Rattle.regmodel.specs.Prelude.{exec, times, with_stmt, block_of}
 use Rattle.regmodel.specs.declared.accesses.Access.TheVariants.{Read}
+use Rattle.regmodel.proofs.Blocks.{if_block, repeat_block}
 use Rattle.machine.specs.declared.run.Frame.{Frame}
 use Rattle.machine.specs.declared.run.Part.TheVariants.{At, Turn}
 use Rattle.machine.specs.declared.values.Destination.TheVariants.{Nowhere}
 use Rattle.machine.specs.Stores.{env_of}
 use Rattle.machine.specs.Paths.{resume}
 use Rattle.machine.specs.Exits.{stmt_flow, StmtAsks, BlockAsks, IsWanting}
-use Rattle.machine.proofs.Blocks.{if_block, repeat_block}
 use Rattle.machine.proofs.RunnableBlocks.{can_run_arm, can_run_at, can_run_repeat}
 use Rattle.machine.proofs.BlockEnds.{access_ended, arm_asks, arm_flow, resume-ended, turn_ended}
 use Rattle.machine.proofs.ProgramSteps.{resume-set, resume-at, resume-past, arm_part, turn_part, arm_block}

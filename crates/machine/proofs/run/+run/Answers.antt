@@ -6,8 +6,7 @@ use Rattle.machine.specs.declared.run.Part.TheVariants.{Turn}
 use Rattle.machine.specs.Paths.{resume}
 use Rattle.machine.specs.Stores.{env_of}
 use Rattle.machine.specs.Exits.{stmt_flow, StmtAsks, block_flow, BlockAsks}
-use Rattle.regmodel.proofs.Blocks.{block_of-drop}
-use Rattle.machine.proofs.Blocks.{if_block, repeat_block}
+use Rattle.regmodel.proofs.Blocks.{block_of-drop, if_block, repeat_block}
 use Rattle.machine.proofs.RunnableBlocks.{can_run_arm, can_run_at, can_run_repeat}
 use Rattle.machine.proofs.BlockEnds.{arm_asks, arm_flow}
 use Rattle.machine.proofs.ProgramSteps.{resume-set, arm_block, exec-if, exec-repeat, turn_flow-left, times-more, known_exit, turn_part}

@@ -4,14 +4,14 @@ use Rattle.regmodel.specs.Prelude.{exec, times, block_of, with_stmt}
 use Rattle.regmodel.specs.Limits.{statements}
 use Rattle.regmodel.specs.Program as program
 use Rattle.regmodel.specs.Program.{Stop}
-use Rattle.regmodel.proofs.Blocks.{statements-step}
-use Rattle.machine.specs.Stops.{in_turns, past, stopped_at, stops_in}
+use Rattle.regmodel.proofs.Blocks.{repeat_block, statements-step}
+use Rattle.machine.specs.Stops.{in_turns, past, stops_in}
 use Rattle.machine.specs.declared.stops.Stopped.{Stopped}
 use Rattle.machine.specs.Stores.{env_of}
 use Rattle.machine.specs.Walks.{BlockWalks, CanWalk, replies_of}
-use Rattle.machine.proofs.Blocks.{if_rows, repeat_block}
+use Rattle.machine.proofs.Blocks.{if_rows}
 use Rattle.machine.proofs.NumberedBlocks.{can_walk_next, statements_left}
-use Rattle.machine.proofs.WalkedBlocks.{past-next, past-turn, simple_walks}
+use Rattle.machine.proofs.WalkedBlocks.{past-next, past-turn, simple_walks, walk_into}
 use Rattle.machine.proofs.stops.+walk.Goals as goal
 
 -- the number of a place is the one that it was made of
@@ -102,34 +102,16 @@ past_repeat-loop-preserved t c = λ go.
 pub past_stmt-past_if-requires : goal.past_stmt-past_if-requires
 past_stmt-past_if-requires t c =
     let w = c.in-If in
-    let n = c.args.registers in
-    let env = env_of c.args.walk.now.store in
-    let b = program.If w.test (block_of c.as_slice-first.result.now) (block_of c.as_slice-second.result.now) Stop in
     let told = if_rows c.args.stmt.now w.test w.first w.second c.as_slice-first.result.now c.as_slice-second.result.now Stop w.is c.as_slice-first.ensures.value c.as_slice-second.ensures.value in
     let count = ap statements told in
-    let at = number-of_stopped c.stopped_at-stopped.ensures in (
-      omega (arith, count),
-      (
-        subst (λ k. CanWalk n k b) (sym at) (subst (CanWalk n c.args.number) told c.requires),
-        c.stopped_at-stopped.ensures ∙ ap (λ b. stopped_at b n c.args.number env) told ∙ ap (λ k. stopped_at b n k env) (sym at),
-      ),
-    )
+    (omega (arith, count), walk_into (env_of c.args.walk.now.store) told c.requires c.stopped_at-stopped.ensures)
 
 pub past_stmt-past_repeat-requires : goal.past_stmt-past_repeat-requires
 past_stmt-past_repeat-requires t c =
     let w = c.in-Repeat in
-    let n = c.args.registers in
-    let env = env_of c.args.walk.now.store in
-    let b = program.Repeat w.count (block_of c.as_slice.result.now) Stop in
     let told = repeat_block c.args.stmt.now w.count w.body c.as_slice.result.now Stop w.is c.as_slice.ensures.value in
     let count = ap statements told in
-    let at = number-of_stopped c.stopped_at-stopped.ensures in (
-      omega (arith, count),
-      (
-        subst (λ k. CanWalk n k b) (sym at) (subst (CanWalk n c.args.number) told c.requires),
-        c.stopped_at-stopped.ensures ∙ ap (λ b. stopped_at b n c.args.number env) told ∙ ap (λ k. stopped_at b n k env) (sym at),
-      ),
-    )
+    (omega (arith, count), walk_into (env_of c.args.walk.now.store) told c.requires c.stopped_at-stopped.ensures)
 
 pub past_stmt-returns-in-If : goal.past_stmt-returns-in-If
 past_stmt-returns-in-If t c =

@@ -1,7 +1,7 @@
 use Rattle.std.proofs.Common.{◌≡◌, ℕ, ◌+◌, ◌<◌, Option, Some, None, MatchOption, ap, arith}
 use Rattle.regmodel.specs.Limits.{statements}
 use Rattle.regmodel.specs.Prelude.{block_of}
-use Rattle.regmodel.proofs.Blocks.{statements-step, statements_some, with_stmt_if, with_stmt_repeat}
+use Rattle.regmodel.proofs.Blocks.{statements-step, statements_if, statements_repeat, statements_some}
 use Rattle.regmodel.proofs.fitting.+counts.Goals as goal
 
 -- what was left of a smaller number by fewer statements
@@ -25,21 +25,17 @@ room_after_stmt-returns-then-room-eq0 t c = omega (arith, statements_some c.args
 pub room_after_stmt-returns-in-Some : goal.room_after_stmt-returns-in-Some
 room_after_stmt-returns-in-Some t c =
     let w = c.in-If in
-    let e = ap statements (with_stmt_if c.args.stmt.now w.field-0 w.first w.second w.is) in
-    let a = ap (λ xs. statements (block_of xs)) c.as_slice.ensures.value in
+    let e = statements_if c.args.stmt.now w.field-0 w.first w.second _ w.is c.as_slice.ensures.value in
     let b = ap (λ xs. statements (block_of xs)) c.as_slice-in-Some.ensures.value in
-    wider _ _ _ _ _ (1 + statements (block_of w.first.items)) c.room_after-in-Some.ensures (omega (arith, c.in-Some.ensures, a)) (omega (arith, e, b))
+    wider _ _ _ _ _ (1 + statements (block_of c.as_slice.result.now)) c.room_after-in-Some.ensures (omega (arith, c.in-Some.ensures)) (omega (arith, e, b))
 
 pub room_after_stmt-returns-in-None : goal.room_after_stmt-returns-in-None
 room_after_stmt-returns-in-None t c =
     let w = c.in-If in
-    let e = ap statements (with_stmt_if c.args.stmt.now w.field-0 w.first w.second w.is) in
-    let a = ap (λ xs. statements (block_of xs)) c.as_slice.ensures.value in
-    omega (arith, c.in-None.ensures, e, a)
+    let e = statements_if c.args.stmt.now w.field-0 w.first w.second _ w.is c.as_slice.ensures.value in
+    omega (arith, c.in-None.ensures, e)
 
 pub room_after_stmt-returns-in-Repeat : goal.room_after_stmt-returns-in-Repeat
 room_after_stmt-returns-in-Repeat t c =
     let w = c.in-Repeat in
-    let e = ap statements (with_stmt_repeat c.args.stmt.now w.field-0 w.body w.is) in
-    let a = ap (λ xs. statements (block_of xs)) c.as_slice-in-Repeat.ensures.value in
-    wider _ _ _ _ _ 1 c.room_after-in-Repeat.ensures (omega arith) (omega (arith, e, a))
+    wider _ _ _ _ _ 1 c.room_after-in-Repeat.ensures (omega arith) (omega (arith, statements_repeat c.args.stmt.now w.field-0 w.body _ w.is c.as_slice-in-Repeat.ensures.value))

@@ -1,8 +1,9 @@
 use Rattle.std.proofs.Common.{◌≡◌, ◌&&◌, Bool, true, false, ap, refl, sym, ◌∙◌, arith}
 use Rattle.std.proofs.Math.Bool.{and-true}
+use Rattle.regmodel.specs.Program.{Stop}
 use Rattle.regmodel.specs.Limits.{operands_fit}
 use Rattle.regmodel.specs.Prelude.{block_of}
-use Rattle.regmodel.proofs.Blocks.{operands_fit-step, with_stmt_if, with_stmt_repeat}
+use Rattle.regmodel.proofs.Blocks.{operands_fit-step, if_block, repeat_block}
 use Rattle.regmodel.proofs.fitting.+fits.Goals as goal
 
 -- tests one after another, as `operands_fit` writes them
@@ -35,12 +36,12 @@ operands_fit-loop-stmt-preserved t c =
 pub stmt_fits-returns-then-not-operands_fit : goal.stmt_fits-returns-then-not-operands_fit
 stmt_fits-returns-then-not-operands_fit t c =
     let w = c.in-If in
-    rw (with_stmt_if c.args.stmt.now w.expr w.first w.second w.is) (and_first _ _ (operands_fit c.args.registers (block_of w.second.items)) (c.if-not-operands_fit.ensures ∙ ap (λ xs. operands_fit c.args.registers (block_of xs)) c.as_slice.ensures.value) (sym c.if-not-fits.ensures))
+    rw (if_block c.args.stmt.now w.expr w.first w.second Stop w.is) (and_first _ _ (operands_fit c.args.registers (block_of w.second.items)) (c.if-not-operands_fit.ensures ∙ ap (λ xs. operands_fit c.args.registers (block_of xs)) c.as_slice.ensures.value) (sym c.if-not-fits.ensures))
 
 pub stmt_fits-returns-else-not-operands_fit : goal.stmt_fits-returns-else-not-operands_fit
 stmt_fits-returns-else-not-operands_fit t c =
     let w = c.in-If in
-    rw (with_stmt_if c.args.stmt.now w.expr w.first w.second w.is)
+    rw (if_block c.args.stmt.now w.expr w.first w.second Stop w.is)
     (c.operands_fit-in-If.ensures
     ∙ (ap (λ xs. operands_fit c.args.registers (block_of xs)) c.as_slice-in-If.ensures.value
     ∙ and_last _ _ _ (sym c.if-not-fits.ensures) (sym (c.if-not-operands_fit.ensures ∙ ap (λ xs. operands_fit c.args.registers (block_of xs)) c.as_slice.ensures.value))))
@@ -48,6 +49,4 @@ stmt_fits-returns-else-not-operands_fit t c =
 pub stmt_fits-returns-else-not-fits-2 : goal.stmt_fits-returns-else-not-fits-2
 stmt_fits-returns-else-not-fits-2 t c =
     let w = c.in-Repeat in
-    rw (with_stmt_repeat c.args.stmt.now w.expr w.body w.is)
-    (c.operands_fit-in-Repeat.ensures
-    ∙ (ap (λ xs. operands_fit c.args.registers (block_of xs)) c.as_slice-in-Repeat.ensures.value ∙ and_only _ _ (sym c.if-not-fits-2.ensures)))
+    rw (repeat_block c.args.stmt.now w.expr w.body _ Stop w.is c.as_slice-in-Repeat.ensures.value) (c.operands_fit-in-Repeat.ensures ∙ and_only _ _ (sym c.if-not-fits-2.ensures))

@@ -1,7 +1,8 @@
 use Rattle.std.proofs.Common.{suc, ap, refl, arith}
+use Rattle.regmodel.specs.Program.{Stop}
 use Rattle.regmodel.specs.Limits.{open_blocks, open_repeats}
 use Rattle.regmodel.specs.Prelude.{block_of}
-use Rattle.regmodel.proofs.Blocks.{nesting-step, nesting-drop, with_stmt_if, with_stmt_repeat}
+use Rattle.regmodel.proofs.Blocks.{nesting-step, nesting-drop, if_block, repeat_block}
 use Rattle.regmodel.proofs.fitting.+nests.Goals as goal
 
 pub nests_within-returns-then-not-stmt_nests_within : goal.nests_within-returns-then-not-stmt_nests_within
@@ -29,7 +30,7 @@ nests_within-loop-stmt-preserved t c =
 pub stmt_nests_within-returns-then-not-nests_within : goal.stmt_nests_within-returns-then-not-nests_within
 stmt_nests_within-returns-then-not-nests_within t c =
     let w = c.in-If in
-    let e = with_stmt_if c.args.stmt.now w.field-0 w.first w.second w.is in
+    let e = if_block c.args.stmt.now w.field-0 w.first w.second Stop w.is in
     let here = c.as_slice.ensures.value in
     let a = ap open_blocks e in
     let b = ap open_repeats e in
@@ -40,7 +41,7 @@ stmt_nests_within-returns-then-not-nests_within t c =
 pub stmt_nests_within-returns-else-not-nests_within : goal.stmt_nests_within-returns-else-not-nests_within
 stmt_nests_within-returns-else-not-nests_within t c =
     let w = c.in-If in
-    let e = with_stmt_if c.args.stmt.now w.field-0 w.first w.second w.is in
+    let e = if_block c.args.stmt.now w.field-0 w.first w.second Stop w.is in
     let a = ap open_blocks e in
     let b = ap open_repeats e in
     let a1 = ap (λ xs. open_blocks (block_of xs)) c.as_slice.ensures.value in
@@ -55,11 +56,9 @@ stmt_nests_within-returns-else-not-nests_within t c =
 pub stmt_nests_within-returns-else-repeats-eq0 : goal.stmt_nests_within-returns-else-repeats-eq0
 stmt_nests_within-returns-else-repeats-eq0 t c =
     let w = c.in-Repeat in
-    let e = with_stmt_repeat c.args.stmt.now w.field-0 w.body w.is in
+    let e = repeat_block c.args.stmt.now w.field-0 w.body _ Stop w.is c.as_slice-in-Repeat.ensures.value in
     let a = ap open_blocks e in
-    let b = ap open_repeats e in
-    let a1 = ap (λ xs. open_blocks (block_of xs)) c.as_slice-in-Repeat.ensures.value in
-    let b1 = ap (λ xs. open_repeats (block_of xs)) c.as_slice-in-Repeat.ensures.value in (
-      λ h. let inner = c.nests_within-in-Repeat.ensures.0 h in (omega (arith, a, a1, inner.0), omega (arith, b, b1, inner.1)),
-      λ h. c.nests_within-in-Repeat.ensures.1 (omega (arith, a, a1, h.0), omega (arith, b, b1, h.1)),
+    let b = ap open_repeats e in (
+      λ h. let inner = c.nests_within-in-Repeat.ensures.0 h in (omega (arith, a, inner.0), omega (arith, b, inner.1)),
+      λ h. c.nests_within-in-Repeat.ensures.1 (omega (arith, a, h.0), omega (arith, b, h.1)),
     )
