@@ -1,0 +1,2 @@
+pub mod AllSeats
+pub mod PartMoves

@@ -1,0 +1,3 @@
+pub mod Parts
+pub mod Places
+pub mod Seats

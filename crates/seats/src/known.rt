@@ -1,0 +1,41 @@
+//! What a seat knows, and how its parts of the right to know all move.
+
+ghost use Rattle.std.specs.Prelude.{ℕ};
+
+use atomic_table::{Join, Split, TableRule};
+use std::collections::LinkedList;
+
+/// What a seat gave to the table and what it saw there, its parts of the right to know all, and
+/// how many parts there are. No value of it is made.
+pub struct Known<G, L> {
+    pub parts: u64,
+    pub whole: u64,
+    pub gave: LinkedList<G>,
+    pub saw: LinkedList<L>,
+}
+
+/// A rule of a table at which workers have seats, and how many words and slots such a table has.
+pub trait SeatRule<S, G, L>: TableRule<S, Known<G, L>, u64> {
+    ghost words: { ℕ };
+
+    ghost slots: { ℕ };
+}
+
+/// One part is cut off for another seat, or all that another seat has comes back.
+pub struct Parts;
+
+impl<G, L> Split<Known<G, L>> for Parts {
+    ghost use Rattle.seats.specs.Parts.{less, newcomer};
+
+    ghost left = { less };
+
+    ghost right = { newcomer };
+}
+
+impl<G, L> Join<Known<G, L>> for Parts {
+    ghost use Rattle.seats.specs.Parts.{joined, spent};
+
+    ghost both = { joined };
+
+    ghost spent = { spent };
+}
