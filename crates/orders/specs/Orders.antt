@@ -138,16 +138,13 @@ abbrev pub is_native : Task → Bool
 is_native (Check effort native allows_faults shortest lists) = native
 is_native (Explore effort native part least_alone) = native
 is_native (Find effort native patterns shortest) = native
-is_native (Replay schedule) = false
-is_native (Show schedule) = false
+is_native _ = false
 
 -- whether its refusals are told in words
 abbrev pub is_in_words : Task → Bool
-is_in_words (Check effort native allows_faults shortest lists) = true
 is_in_words (Explore effort native part least_alone) = false
-is_in_words (Find effort native patterns shortest) = true
 is_in_words (Replay schedule) = false
-is_in_words (Show schedule) = true
+is_in_words _ = true
 
 -- to check as the words tell, and say in words what fails first, or what fails with the fewest
 -- letters; and to list the outcomes

@@ -24,7 +24,7 @@ use texts::{cut_at, number_of};
 /// workers share them. The deeper, the later two of them walk alike, before either remembers it.
 const SHARED_CUT: u32 = 6;
 
-/// How many pieces each worker of a check may put up for the others.
+/// How many pieces each worker of a check or a search may put up for the others.
 const ROOM: u32 = 64;
 
 /// In how many megabytes a check or a search remembers states, unless its words say.

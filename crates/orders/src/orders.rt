@@ -3,8 +3,9 @@
 ghost use Rattle.std.specs.Prelude.{◌≡◌, ◌≤◌, ◌⊎◌, Err, IfErr, IfOk, codes, map, ℕ};
 ghost use Rattle.clap.specs.Words.{found_of, one_text};
 ghost use Rattle.orders.specs.Bounds.{IsBoundRefused};
-ghost use Rattle.orders.specs.Orders.{IsCheck, IsEffortTold, IsExploration, IsFindRefused, IsFindTold, IsReplay, IsSettingRefused, IsShow, texts_at, texts_told, word_told};
+ghost use Rattle.orders.specs.Orders.{IsCheck, IsEffortTold, IsExploration, IsFindRefused, IsFindTold, IsSettingRefused, texts_at, texts_told, word_told};
 ghost use Rattle.orders.specs.Requests.{IsOrderTold, IsRequestBy, IsRequestOf, IsTaskTold, program_told};
+ghost use Rattle.regmodel.specs.ScheduleText.{schedule_text};
 ghost use Rattle.regmodel.specs.declared.limits.TheConstants.{MOST_WORKERS};
 ghost use Rattle.orders.specs.Inputs.{IsStandardText};
 ghost use Rattle.orders.specs.PatternTexts.{IsStandardUnread};
@@ -26,7 +27,7 @@ use clap::ArgMatches;
 use clap::error::ErrorKind;
 use command_words::matches_of;
 use drawing::Breadth;
-use regmodel::{Effort, Settings, read_schedule};
+use regmodel::{Effort, Prefix, Settings, read_schedule};
 use std::alloc::Global;
 use std::convert::AsStr;
 use std::io::Write;
@@ -195,8 +196,12 @@ fn task_of<O: Opener>(
     match name {
         "check" => check_of(words, processors),
         "find" => find_of(alloc, words, processors, opener),
-        "replay" => replay_of(word_at(words, "SCHEDULE")),
-        "show" => show_of(word_at(words, "SCHEDULE")),
+        "replay" => Ok(Task::Replay {
+            schedule: schedule_of(word_at(words, "SCHEDULE"))?,
+        }),
+        "show" => Ok(Task::Show {
+            schedule: schedule_of(word_at(words, "SCHEDULE"))?,
+        }),
         _ => exploration_of(words),
     }
 }
@@ -324,24 +329,13 @@ fn exploration_of(words: &ArgMatches<'_>) -> Result<Task, Refusal>
     })
 }
 
-/// To replay the schedule of this text.
-fn replay_of(text: &str) -> Result<Task, Refusal>
-    ensures ok { IfOk result (IsReplay text.now) }
+/// The schedule of this text.
+fn schedule_of(text: &str) -> Result<Prefix, Refusal>
+    ensures ok { IfOk result (λ schedule. schedule_text schedule ≡ text.now) }
     ensures refused { IfErr result (IsNoSchedule text.now) }
 {
     match read_schedule(text.as_bytes()) {
-        Some(schedule) => Ok(Task::Replay { schedule }),
-        None => Err(Refusal::Schedule),
-    }
-}
-
-/// To draw the schedule of this text.
-fn show_of(text: &str) -> Result<Task, Refusal>
-    ensures ok { IfOk result (IsShow text.now) }
-    ensures refused { IfErr result (IsNoSchedule text.now) }
-{
-    match read_schedule(text.as_bytes()) {
-        Some(schedule) => Ok(Task::Show { schedule }),
+        Some(schedule) => Ok(schedule),
         None => Err(Refusal::Schedule),
     }
 }

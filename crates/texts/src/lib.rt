@@ -17,4 +17,4 @@ pub use faults::{ANSWERED_ERROR, ReadFault, TOOK_NO_BYTE, WriteFault};
 pub use number_words::{long_number_of, number_of};
 pub use outcomes::OutcomeLine;
 pub use readers::ByteReader;
-pub use texts::{Joined, Led, NumberLine, Text, write};
+pub use texts::{Either, Joined, Led, NumberLine, Text, When, write};

@@ -1,7 +1,7 @@
 //! What can be written as a text, its parts, and texts one after another. No call takes memory.
 
 ghost use Rattle.texts.specs.Appending.{Adds, Wrote};
-ghost use Rattle.std.specs.Prelude.{◌++◌, [], Some, None, decimal};
+ghost use Rattle.std.specs.Prelude.{◌++◌, [], Some, None, decimal, if◌then◌else◌};
 ghost use Rattle.std.specs.List.{flat_map, join_by};
 ghost use Rattle.texts.specs.NumberText.{number_line};
 
@@ -135,6 +135,38 @@ impl<T: Text> Text for Option<T> {
         match self {
             Some(text) => text.put(out, block),
             None => Ok(()),
+        }
+    }
+}
+
+/// A text where something is so, else none.
+#[derive(Clone, Copy)]
+pub struct When<T>(pub bool, pub T);
+
+impl<T: Text> Text for When<T> {
+    ghost text = { λ t. if t.0 then T.text t.1 else [] };
+
+    fn put<W: Write>(&self, out: &mut W, block: &mut Block) -> Result<(), WriteFault> {
+        if self.0 {
+            self.1.put(out, block)
+        } else {
+            Ok(())
+        }
+    }
+}
+
+/// One text where something is so, else another.
+#[derive(Clone, Copy)]
+pub struct Either<A, B>(pub bool, pub A, pub B);
+
+impl<A: Text, B: Text> Text for Either<A, B> {
+    ghost text = { λ t. if t.0 then A.text t.1 else B.text t.2 };
+
+    fn put<W: Write>(&self, out: &mut W, block: &mut Block) -> Result<(), WriteFault> {
+        if self.0 {
+            self.1.put(out, block)
+        } else {
+            self.2.put(out, block)
         }
     }
 }

@@ -3,7 +3,7 @@
 ghost use Rattle.verdict.specs.VerdictText as spec;
 
 use std::io::Write;
-use texts::{Block, Text, WriteFault};
+use texts::{Block, Either, Text, WriteFault};
 
 /// A number of things: so many of what the noun says, with its ending, which is left out for one
 /// thing.
@@ -32,21 +32,6 @@ impl Text for Letters {
     }
 }
 
-/// How many processes may crash.
-#[derive(Clone, Copy)]
-pub struct Crashes(pub u64);
-
-impl Text for Crashes {
-    ghost text = { λ c. spec.crashes_text c.0 };
-
-    fn put<W: Write>(&self, out: &mut W, block: &mut Block) -> Result<(), WriteFault> {
-        if self.0 == 0 {
-            return "no crashes".put(out, block);
-        }
-        Counted(self.0, "crash", "es").put(out, block)
-    }
-}
-
 /// How many letters a schedule had at most, and how many processes could crash, behind what is said
 /// of them.
 #[derive(Clone, Copy)]
@@ -62,7 +47,8 @@ impl Text for Bounds {
 
     fn put<W: Write>(&self, out: &mut W, block: &mut Block) -> Result<(), WriteFault> {
         let length = Letters(self.length);
-        let crashes = Crashes(self.crashes);
+        let some = Counted(self.crashes, "crash", "es");
+        let crashes = Either(self.crashes == 0, "no crashes", some);
         (", up to ", length, " and ", crashes, "\n").put(out, block)
     }
 }

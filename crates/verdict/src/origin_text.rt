@@ -39,19 +39,15 @@ impl Text for OfFile<'_> {
     }
 }
 
-/// A line of a text, by its number, counted from 1, without its indent, and where it comes from.
+/// A line of a text without its indent, and where it comes from.
 #[derive(Clone, Copy)]
-pub(crate) struct LineTold<'a> {
-    pub(crate) text: &'a [u8],
-    pub(crate) line: u64,
-}
+pub(crate) struct LineTold<'a>(pub(crate) LineOrigin<'a>);
 
 impl Text for LineTold<'_> {
-    ghost text = { λ l. spec.line_text l.text.now l.line };
+    ghost text = { λ l. spec.line_text l.0.text.now l.0.line };
 
     fn put<W: Write>(&self, out: &mut W, block: &mut Block) -> Result<(), WriteFault> {
-        let (text, line) = (self.text, self.line);
-        let shown = without_indent(shown_line(text, line));
-        (shown, " (", LineOrigin { text, line }, ")").put(out, block)
+        let shown = without_indent(shown_line(self.0.text, self.0.line));
+        (shown, " (", self.0, ")").put(out, block)
     }
 }

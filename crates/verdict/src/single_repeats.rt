@@ -4,7 +4,7 @@ ghost use Rattle.std.specs.Prelude.{◌≡◌};
 ghost use Rattle.reglang.specs.Forms as forms;
 ghost use Rattle.verdict.specs.SingleRepeats as spec;
 
-use crate::origin_text::LineTold;
+use crate::origin_text::{LineOrigin, LineTold};
 use reglang::{Line, read_line, split_line};
 use regmodel::{Expr, Op};
 use std::io::Write;
@@ -22,7 +22,8 @@ impl Text for SingleRepeat<'_> {
         let text = self.0;
         match first_single_repeat(text) {
             Some(line) => {
-                (LineTold { text, line }, " repeats once or not at all.\n").put(out, block)
+                let line = LineTold(LineOrigin { text, line });
+                (line, " repeats once or not at all.\n").put(out, block)
             }
             None => Ok(()),
         }

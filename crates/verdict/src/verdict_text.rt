@@ -1,5 +1,6 @@
 //! Whether a source holds, in words. No call takes memory.
 
+ghost use Rattle.std.specs.Prelude.{◌≡◌};
 ghost use Rattle.texts.specs.Appending.{Wrote};
 ghost use Rattle.verdict.specs.VerdictText as spec;
 ghost use Rattle.verdict.specs.VerdictText.{verdict_text};
@@ -7,10 +8,9 @@ ghost use Rattle.verdict.specs.VerdictText.{verdict_text};
 use crate::breaches::{Breach, Cause, Cut, Verdict};
 use crate::counts::{Bounds, Counted, Letters};
 use crate::demands::Asked;
-use crate::empty_ranges::EmptyRange;
 use crate::faults::{FaultLine, FaultTold};
 use crate::gaps::Gap;
-use crate::origin_text::LineTold;
+use crate::origin_text::{LineOrigin, LineTold};
 use crate::reach::{Reach, reach_of};
 use crate::show_commands::ShowCommand;
 use crate::single_repeats::SingleRepeat;
@@ -19,7 +19,7 @@ use drawing::Drawn;
 use regmodel::Subject;
 use regmodel::limits::MOST_LETTERS;
 use std::io::Write;
-use texts::{Block, Text, WriteFault, write};
+use texts::{Block, Either, Text, When, WriteFault, write};
 
 /// Writes whether the source holds that the text of this topic spells: the schedule that
 /// fails, the check that it breaks and the process at fault, its drawing and the command that draws
@@ -80,7 +80,8 @@ impl Text for Told<'_> {
                 };
                 let holding = Holding { path, reach };
                 let repeat = SingleRepeat(text);
-                (holding, held.asked, gaps, repeat, Caution(reach)).put(out, block)
+                let caution = When(reach.cut_off, CutOff(reach.length));
+                (holding, held.asked, gaps, repeat, caution).put(out, block)
             }
         }
     }
@@ -116,7 +117,7 @@ impl Text for Failing<'_> {
             text,
             breadth,
         };
-        let fails = Fails(self.is_shortest);
+        let fails = Either(self.is_shortest, " fails, and no shorter one: ", " fails: ");
         let failing = (path, ": a schedule of ", letters, fails);
         let show = ShowCommand {
             program,
@@ -127,21 +128,6 @@ impl Text for Failing<'_> {
         let onset = Onset(breach.onset);
         let told = (failing, cause, onset, SingleRepeat(text), "\n");
         (told, drawing, show).put(out, block)
-    }
-}
-
-/// That a schedule fails; and that no shorter one does, where the shortest one was asked for.
-#[derive(Clone, Copy)]
-struct Fails(bool);
-
-impl Text for Fails {
-    ghost text = { λ f. spec.fails_text f.0 };
-
-    fn put<W: Write>(&self, out: &mut W, block: &mut Block) -> Result<(), WriteFault> {
-        if self.0 {
-            return " fails, and no shorter one: ".put(out, block);
-        }
-        " fails: ".put(out, block)
     }
 }
 
@@ -163,9 +149,10 @@ impl Text for Caused<'_> {
                 is_empty,
                 fault,
             } => {
-                let check = LineTold { text, line };
+                let check = LineTold(LineOrigin { text, line });
+                let empty = "No number is in that range: each name breaks it.\n";
                 let beside = FaultLine { text, fault };
-                (check, "\n", EmptyRange(is_empty), beside).put(out, block)
+                (check, "\n", When(is_empty, empty), beside).put(out, block)
             }
             Cause::Fault(fault) => (FaultTold { text, fault }, "\n").put(out, block),
         }
@@ -249,28 +236,23 @@ impl Text for GapLines<'_> {
 
     fn put<W: Write>(&self, out: &mut W, block: &mut Block) -> Result<(), WriteFault> {
         for gap in self.gaps {
-            let check = LineTold {
+            let check = LineTold(LineOrigin {
                 text: self.text,
                 line: gap.line,
-            };
-            (check, Wanting(gap.want)).put(out, block)?;
+            });
+            (check, wanting(gap.want)).put(out, block)?;
         }
         Ok(())
     }
 }
 
 /// What no outcome has of which a check speaks.
-#[derive(Clone, Copy)]
-struct Wanting(Subject);
-
-impl Text for Wanting {
-    ghost text = { λ w. spec.want_text w.0 };
-
-    fn put<W: Write>(&self, out: &mut W, block: &mut Block) -> Result<(), WriteFault> {
-        match self.0 {
-            Subject::Named => ": no process ever had a name.\n".put(out, block),
-            Subject::Done => ": no process was ever done.\n".put(out, block),
-        }
+fn wanting(want: Subject) -> &'static str
+    ensures { result.now ≡ spec.want_text want }
+{
+    match want {
+        Subject::Named => ": no process ever had a name.\n",
+        Subject::Done => ": no process was ever done.\n",
     }
 }
 
@@ -297,21 +279,6 @@ impl Text for Holding<'_> {
     }
 }
 
-/// That schedules were cut off, where they were.
-#[derive(Clone, Copy)]
-struct Caution(Reach);
-
-impl Text for Caution {
-    ghost text = { λ c. spec.caution_text c.0.cut_off c.0.length };
-
-    fn put<W: Write>(&self, out: &mut W, block: &mut Block) -> Result<(), WriteFault> {
-        if !self.0.cut_off {
-            return Ok(());
-        }
-        CutOff(self.0.length).put(out, block)
-    }
-}
-
 /// That schedules of this length were cut off, and what can be done about it.
 #[derive(Clone, Copy)]
 struct CutOff(u64);
@@ -320,18 +287,13 @@ impl Text for CutOff {
     ghost text = { λ c. spec.cut_off_text c.0 };
 
     fn put<W: Write>(&self, out: &mut W, block: &mut Block) -> Result<(), WriteFault> {
-        let advice = if self.0 == MOST_LETTERS as u64 {
-            ", and 64 letters are the most.\n"
-        } else {
-            ": give a greater --length, up to 64.\n"
-        };
+        let cut_off = ("Some schedules were cut off at ", Letters(self.0));
         let running = ", with a process still running; longer ones were not tried";
-        (
-            "Some schedules were cut off at ",
-            Letters(self.0),
-            running,
-            advice,
-        )
-            .put(out, block)
+        let advice = Either(
+            self.0 == MOST_LETTERS as u64,
+            ", and 64 letters are the most.\n",
+            ": give a greater --length, up to 64.\n",
+        );
+        (cut_off, running, advice).put(out, block)
     }
 }

@@ -13,7 +13,7 @@ use crate::ways::{Discovery, Way};
 use drawing::Drawn;
 use patterns::Match;
 use std::io::Write;
-use texts::{Block, Text, WriteFault, write};
+use texts::{Block, Either, Text, When, WriteFault, write};
 
 /// That the schedule of a way leads to its outcome.
 #[derive(Clone, Copy)]
@@ -66,25 +66,7 @@ impl Text for Nowhere {
     ghost text = { λ n. spec.nowhere n.0 };
 
     fn put<W: Write>(&self, out: &mut W, block: &mut Block) -> Result<(), WriteFault> {
-        if self.0 == 1 {
-            return "there".put(out, block);
-        }
-        ("to any of ", self.0, " patterns").put(out, block)
-    }
-}
-
-/// That no shorter schedule leads to any of so many patterns, where the shortest one was asked for.
-#[derive(Clone, Copy)]
-struct NoShorter(bool, u64);
-
-impl Text for NoShorter {
-    ghost text = { λ n. spec.no_shorter_text n.0 n.1 };
-
-    fn put<W: Write>(&self, out: &mut W, block: &mut Block) -> Result<(), WriteFault> {
-        if self.0 {
-            return ("No shorter one leads ", Nowhere(self.1), ".\n").put(out, block);
-        }
-        Ok(())
+        Either(self.0 == 1, "there", ("to any of ", self.0, " patterns")).put(out, block)
     }
 }
 
@@ -96,10 +78,7 @@ impl Text for Numbered {
     ghost text = { λ n. spec.pattern_told n.0 n.1 };
 
     fn put<W: Write>(&self, out: &mut W, block: &mut Block) -> Result<(), WriteFault> {
-        if self.0 == 1 {
-            return "The pattern".put(out, block);
-        }
-        ("Pattern ", self.1).put(out, block)
+        Either(self.0 == 1, "The pattern", ("Pattern ", self.1)).put(out, block)
     }
 }
 
@@ -117,21 +96,6 @@ impl Text for Excess {
         };
         let asks = " asks for more crashes than there may be: give a greater --crashes.\n";
         (Numbered(self.0, number), asks).put(out, block)
-    }
-}
-
-/// How many numbers a process emits at most.
-#[derive(Clone, Copy)]
-struct Most(u64);
-
-impl Text for Most {
-    ghost text = { λ m. spec.most_text m.0 };
-
-    fn put<W: Write>(&self, out: &mut W, block: &mut Block) -> Result<(), WriteFault> {
-        if self.0 == 0 {
-            return "none".put(out, block);
-        }
-        ("at most ", self.0).put(out, block)
     }
 }
 
@@ -154,7 +118,7 @@ impl Text for InVain {
             asked,
             " of process ",
         );
-        let most = Most(shortfall.most);
+        let most = Either(shortfall.most == 0, "none", ("at most ", shortfall.most));
         (asks, shortfall.process, ", which emits ", most, ".\n").put(out, block)
     }
 }
@@ -189,7 +153,8 @@ pub fn write_discovery<W: Write>(
                 sought,
                 found: &way.matched,
             };
-            let matched = (matched, NoShorter(is_shortest, sought));
+            let no_shorter = ("No shorter one leads ", Nowhere(sought), ".\n");
+            let matched = (matched, When(is_shortest, no_shorter));
             let drawing = Drawn {
                 drawing: &way.drawing,
                 text,
