@@ -8,25 +8,15 @@ use reglang::{PROPERTIES, Property, Spelled};
 use std::io::Write;
 use texts::{Block, Text, WriteFault};
 
-/// The names of the numbers that follow a property.
-fn number_names(property: Property) -> &'static str
-    ensures { result.now ≡ spec.number_names property }
+/// The names of the numbers that follow a property, and what these may be; or that nothing follows.
+fn numbers_after(property: Property) -> (&'static str, &'static str)
+    ensures names { result.0.now ≡ spec.number_names property }
+    ensures ranges { result.1.now ≡ spec.number_ranges property }
 {
     match property {
-        Property::AtMost => " V C",
-        Property::Within => " LO HI",
-        _ => "",
-    }
-}
-
-/// What these numbers may be, or that nothing follows.
-fn number_ranges(property: Property) -> &'static str
-    ensures { result.now ≡ spec.number_ranges property }
-{
-    match property {
-        Property::AtMost => "; V is 0 to 1000000000, and C is 0 to 8",
-        Property::Within => "; LO and HI are 0 to 1000000000",
-        _ => ", and nothing behind it",
+        Property::AtMost => (" V C", "; V is 0 to 1000000000, and C is 0 to 8"),
+        Property::Within => (" LO HI", "; LO and HI are 0 to 1000000000"),
+        _ => ("", ", and nothing behind it"),
     }
 }
 
@@ -49,7 +39,8 @@ impl Text for ClauseWords {
     ghost text = { λ clause. spec.clause_words clause.0 };
 
     fn put<W: Write>(&self, out: &mut W, block: &mut Block) -> Result<(), WriteFault> {
-        (self.0.text(), number_names(self.0)).put(out, block)
+        let (names, _) = numbers_after(self.0);
+        (self.0.text(), names).put(out, block)
     }
 }
 
@@ -92,7 +83,8 @@ impl Text for CheckForm {
         match self.0 {
             Some(property) => {
                 let clause = ClauseWords(property);
-                ("check ", clause, number_ranges(property)).put(out, block)
+                let (_, ranges) = numbers_after(property);
+                ("check ", clause, ranges).put(out, block)
             }
             None => ("check CLAUSE; the clauses are ", Clauses(&PROPERTIES)).put(out, block),
         }

@@ -2,10 +2,9 @@
 
 ghost use Rattle.std.specs.Prelude.{◌≡◌};
 ghost use Rattle.explanations.specs.Misplaced as spec;
-ghost use Rattle.reglang.specs.Spelling.{keyword_text};
 
 use crate::open_blocks::{Block as Inside, Opened};
-use reglang::{Keyword, Word};
+use reglang::{Keyword, Spelled, Word};
 use std::io::Write;
 use texts::{Block, Text, WriteFault};
 
@@ -22,25 +21,14 @@ pub(crate) enum Place {
     SecondElse(u64),
 }
 
-/// The word that opens a block.
-fn opener(block: Inside) -> &'static str
-    ensures { result.now ≡ keyword_text (spec.opener block) }
+/// The first words of the lines that open a block and close it.
+fn ends_of(block: Inside) -> (Keyword, Keyword)
+    ensures { result ≡ (spec.opener block, spec.closer block) }
 {
     match block {
-        Inside::Process => "process",
-        Inside::If => "if",
-        Inside::Repeat => "repeat",
-    }
-}
-
-/// The word that closes a block.
-fn closer(block: Inside) -> &'static str
-    ensures { result.now ≡ keyword_text (spec.closer block) }
-{
-    match block {
-        Inside::Process => "end",
-        Inside::If => "fi",
-        Inside::Repeat => "done",
+        Inside::Process => (Keyword::Process, Keyword::End),
+        Inside::If => (Keyword::If, Keyword::Fi),
+        Inside::Repeat => (Keyword::Repeat, Keyword::Done),
     }
 }
 
@@ -49,14 +37,10 @@ impl Text for Opened {
     ghost text = { spec.open_text };
 
     fn put<W: Write>(&self, out: &mut W, block: &mut Block) -> Result<(), WriteFault> {
-        let which = ("the ", opener(self.block), " of line ", self.line);
-        (
-            which,
-            " is open here, and ",
-            closer(self.block),
-            " closes it",
-        )
-            .put(out, block)
+        let (opener, closer) = ends_of(self.block);
+        let which = ("the ", opener.text(), " of line ", self.line);
+        let closes = (closer.text(), " closes it");
+        (which, " is open here, and ", closes).put(out, block)
     }
 }
 
@@ -67,7 +51,10 @@ impl Text for Place {
         match *self {
             Place::Words(words) => words.put(out, block),
             Place::Close(opened) => opened.put(out, block),
-            Place::NoBlock(inside) => ("no ", opener(inside), " is open here").put(out, block),
+            Place::NoBlock(inside) => {
+                let (opener, _) = ends_of(inside);
+                ("no ", opener.text(), " is open here").put(out, block)
+            }
             Place::SecondElse(line) => ("this if has its else at line ", line).put(out, block),
         }
     }
