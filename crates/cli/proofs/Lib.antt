@@ -8,5 +8,6 @@ mod FilesRead
 mod InterpretedProcesses
 mod LengthsTried
 mod MachinesOfKinds
+mod MadeMachines
 mod ShortestFound
 mod SearchesFound

@@ -24,21 +24,10 @@ unfolding digits
 none_holds = refl
 
 -- ---- how far a run has come
-pub five_quarters : is_round 20 ≡ true
+-- five quarters and three halves of a power of 2, but not 9, nor no piece
+pub rounds : map is_round (20 ∷ 96 ∷ 9 ∷ 0 ∷ []) ≡ true ∷ true ∷ false ∷ false ∷ []
 unfolding ones
-five_quarters = refl
-
-pub three_halves : is_round 96 ≡ true
-unfolding ones
-three_halves = refl
-
-pub nine : is_round 9 ≡ false
-unfolding ones
-nine = refl
-
-pub no_piece : is_round 0 ≡ false
-unfolding ones
-no_piece = refl
+rounds = refl
 
 pub six_taken : progress_text 6 5 ≡ codes "regtry: 6 pieces taken of 6 known so far\n"
 unfolding digits ones

@@ -1,4 +1,4 @@
-//! The command line: what an order asks for, and the answer.
+//! What an order of the command line asks for, done, and the answer.
 #![tactic(auto)]
 
 mod aims;

@@ -3,19 +3,14 @@
 ghost use Rattle.std.specs.Prelude.{IfErr, List, OnOk, Option, map, ℕ};
 ghost use Rattle.std.specs.Result.{result_ok};
 ghost use Rattle.merging.specs.Mergers.{HoldsSome, HoldsTexts};
-ghost use Rattle.report.specs.YieldText.{yield_text};
 ghost use Rattle.cli.specs.Merges.{AreAllRead, IsFileRead, IsMergePerformed, IsUnreadFor};
-ghost use Rattle.cli.specs.Written.{Tells};
 
 use crate::faults::AnswerFault;
-use crate::outputs::{Output, tell_unwritten};
+use crate::outputs::{Output, tell, tell_unwritten};
 use merging::{MergeFault, Merger};
 use orders::{FileFault, Opener, Readable, Refusal, refuse};
-use report::Yield;
 use std::alloc::Global;
 use std::io::Write;
-use tallies::Partial;
-use texts::write;
 
 /// Of what is told where several files are merged and none of them is at fault.
 const TOGETHER: &str = "all files together";
@@ -102,17 +97,4 @@ fn write_all<W: Output, E: Write>(merger: Merger, whole: &str, out: &mut W, err:
         Ok(()) => u8::from(merged.fails()),
         Err(fault) => tell_unwritten(&fault, whole, out, err),
     }
-}
-
-/// Writes what parts tell together, and has the writer pass it on.
-fn tell<W: Write>(merged: &Yield<Partial>, out: &mut W) -> Result<(), AnswerFault>
-    ensures { Tells (W.contents out.old) (W.contents out.new) (yield_text merged.now) result }
-{
-    if write(merged, out).is_err() {
-        return Err(AnswerFault::Write);
-    }
-    if out.flush().is_err() {
-        return Err(AnswerFault::Write);
-    }
-    Ok(())
 }

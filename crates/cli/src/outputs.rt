@@ -3,11 +3,13 @@
 ghost use Rattle.std.specs.Prelude.{◌≡◌, false};
 ghost use Rattle.orders.specs.Reasons.{IsStatusOf};
 ghost use Rattle.cli.specs.Statuses.{status_of};
+ghost use Rattle.cli.specs.Written.{Tells};
 
 use crate::faults::AnswerFault;
 use orders::{Reason, refuse};
 use std::io;
 use std::io::{ErrorKind, Write};
+use texts::{Text, write};
 
 /// What takes answers.
 pub trait Output: Write {
@@ -88,6 +90,19 @@ impl Output for Vec<u8> {
     fn has_gone(&self) -> bool {
         false
     }
+}
+
+/// Writes a text, and has the writer pass it on.
+pub(crate) fn tell<T: Text, W: Write>(text: &T, out: &mut W) -> Result<(), AnswerFault>
+    ensures { Tells (W.contents out.old) (W.contents out.new) (T.text text.now) result }
+{
+    if write(text, out).is_err() {
+        return Err(AnswerFault::Write);
+    }
+    if out.flush().is_err() {
+        return Err(AnswerFault::Write);
+    }
+    Ok(())
 }
 
 /// Tells why an answer was not written whole, in words of the subject, unless who read it has gone,

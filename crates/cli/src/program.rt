@@ -5,19 +5,18 @@ ghost use Rattle.std.specs.Prelude.{◌≡◌, ◌-◌, ◌^◌, map};
 ghost use Rattle.std.specs.List.{FoldsTo};
 ghost use Rattle.cli.specs.FileCounts as spec;
 ghost use Rattle.cli.specs.FileCounts.{no_counts};
-ghost use Rattle.cli.specs.Performing.{AreAnswered, AreSummed, IsNext, IsPerformed, IsVersionTold};
+ghost use Rattle.cli.specs.Performing.{AreSummed, IsNext, IsPerformed, IsVersionTold};
 
 use crate::answers::answer;
-use crate::faults::AnswerFault;
 use crate::merges::merge_files;
-use crate::outputs::{Output, tell_unwritten};
+use crate::outputs::{Output, tell, tell_unwritten};
 use command_words::VERSION;
 use orders::{Opener, Order, Question, Request, refuse, worse};
 use std::alloc::Global;
 use std::io::Write;
 use std::sync::Wait;
 use std::thread::Threads;
-use texts::{Block, Text, WriteFault, write};
+use texts::{Block, Text, WriteFault};
 
 /// Does what was asked for, and gives the status: that of the words where they were refused, and
 /// nothing is done then; 0 where the version was written, else the highest of those with which
@@ -38,7 +37,10 @@ pub fn perform<H: Threads + Wait + Sync, O: Opener, W: Output, E: Write + Send>(
         (O.opens opener.now) request.entry out.old out.new result }
 {
     match request {
-        Ok(Request::Order(order)) => answer_each(rt, alloc, &order, opener, out, err),
+        Ok(Request::Order(order)) => {
+            let counts = answers_of(rt, alloc, &order, opener, out, err);
+            tell_counts(&counts, out, err)
+        }
         Ok(Request::Version) => tell_version(out, err),
         Ok(Request::Merge(paths)) => merge_files(alloc, paths.as_slice(), opener, out, err),
         Err(status) => status,
@@ -49,30 +51,10 @@ pub fn perform<H: Threads + Wait + Sync, O: Opener, W: Output, E: Write + Send>(
 fn tell_version<W: Output, E: Write>(out: &mut W, err: &mut E) -> u8
     ensures { IsVersionTold W.contents out.old out.new result }
 {
-    if write(&("regtry ", VERSION, "\n"), out).is_err() {
-        return refuse(&AnswerFault::Write, None, err);
+    match tell(&("regtry ", VERSION, "\n"), out) {
+        Ok(()) => 0,
+        Err(fault) => refuse(&fault, None, err),
     }
-    if out.flush().is_err() {
-        return refuse(&AnswerFault::Write, None, err);
-    }
-    0
-}
-
-/// Answers each file of an order in turn, tells of several how many were answered in which way, and
-/// gives the highest status.
-fn answer_each<H: Threads + Wait + Sync, O: Opener, W: Output, E: Write + Send>(
-    rt: &H,
-    alloc: Global,
-    order: &Order<'_>,
-    opener: &O,
-    out: &mut W,
-    err: &mut E,
-) -> u8
-    ensures { AreAnswered W.contents O.Reader.remaining O.Reader.fails (O.opens opener.now)
-        order.now out.old out.new result }
-{
-    let counts = answers_of(rt, alloc, order, opener, out, err);
-    tell_counts(&counts, out, err)
 }
 
 /// Answers each file of an order in turn, and counts them.
@@ -112,13 +94,10 @@ fn tell_counts<W: Output, E: Write>(counts: &FileCounts, out: &mut W, err: &mut 
     if counts.files <= 1 {
         return counts.worst;
     }
-    if write(counts, out).is_err() {
-        return tell_unwritten(&AnswerFault::Write, "", out, err);
+    match tell(counts, out) {
+        Ok(()) => counts.worst,
+        Err(fault) => tell_unwritten(&fault, "", out, err),
     }
-    if out.flush().is_err() {
-        return tell_unwritten(&AnswerFault::Write, "", out, err);
-    }
-    counts.worst
 }
 
 /// How many files were answered in which way, by their statuses.

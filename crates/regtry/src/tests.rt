@@ -24,9 +24,12 @@ const SPLITTER: &[u8] =
 const PART: &[u8] =
     b"part 1 of 1\nprocesses 1\nlength 0\ncrashes 0\ncut 0\nsource 0\ntried 1\noutcomes 1\noutcome done idle\nleast none\nend\n";
 
+/// What is told where an answer is not written whole.
+const FAULT: &[u8] = b"regtry: write\n";
+
 /// Words that print no answer on a source, and what is told where it is not passed on.
 const BESIDES: [(&str, &[u8]); 2] = [
-    ("regtry --version", b"regtry: write\n"),
+    ("regtry --version", FAULT),
     ("regtry merge FILE", b"the answer could not be written\n"),
 ];
 
@@ -63,7 +66,7 @@ const LEAVING: [(&str, &[u8]); 2] = [
     ("regtry check FILE --length 2 --workers 1", b""),
     (
         "regtry explore FILE --length 2 --crashes 0 --workers 1 --cut 0 --room 0",
-        b"regtry: write\n",
+        FAULT,
     ),
 ];
 
@@ -149,22 +152,25 @@ fn asked<H: Threads + Wait + Sync + AllocGlobal, W: Output, E: Write + Send>(
     perform(rt, rt.alloc(), request, &opener, out, err)
 }
 
-/// Asserts that a fault of this writer is told.
-fn assert_fault_told<H: Abort + Threads + Wait + Sync + AllocGlobal, W: Output>(
+/// Asserts that the answer to words on a file is not written by this writer, and that this line is
+/// told.
+fn assert_unwritten<H: Abort + Threads + Wait + Sync + AllocGlobal, W: Output>(
     rt: &H,
     words: Words,
+    file: &'static [u8],
     out: &mut W,
+    line: &[u8],
 ) {
     let mut err = Vec::new(rt.alloc());
-    let status = asked(rt, words, WRITER_AND_READER, out, &mut err);
-    let line = b"regtry: write\n".as_slice();
+    let status = asked(rt, words, file, out, &mut err);
     assert!(rt; (status, err.as_slice()) == (3, line));
 }
 
 #[test]
 fn output_that_is_not_taken_is_a_write_fault(rt: HostRuntime) {
     for words in PRINTING {
-        assert_fault_told(&rt, words, &mut Watched::new(Closed));
+        let out = &mut Watched::new(Closed);
+        assert_unwritten(&rt, words, WRITER_AND_READER, out, FAULT);
         let out = &mut Watched::new(Closed);
         let status = asked(&rt, words, WRITER_AND_READER, out, &mut Closed);
         assert!(rt; status == 3);
@@ -174,27 +180,24 @@ fn output_that_is_not_taken_is_a_write_fault(rt: HostRuntime) {
 #[test]
 fn output_that_is_not_passed_on_is_a_write_fault(rt: HostRuntime) {
     for words in PRINTING {
-        assert_fault_told(&rt, words, &mut Watched::new(Stuck));
+        let out = &mut Watched::new(Stuck);
+        assert_unwritten(&rt, words, WRITER_AND_READER, out, FAULT);
     }
 }
 
 #[test]
 fn a_reader_that_has_gone_is_told_by_the_status_alone(rt: HostRuntime) {
     for (first, line) in LEAVING {
-        let mut err = Vec::new(rt.alloc());
         let words = Words { first, last: None };
-        let status = asked(&rt, words, SPLITTER, &mut Watched::new(Left), &mut err);
-        assert!(rt; (status, err.as_slice()) == (3, line));
+        assert_unwritten(&rt, words, SPLITTER, &mut Watched::new(Left), line);
     }
 }
 
 #[test]
 fn a_version_and_merged_parts_that_are_not_passed_on_are_write_faults(rt: HostRuntime) {
     for (first, line) in BESIDES {
-        let mut err = Vec::new(rt.alloc());
         let words = Words { first, last: None };
-        let status = asked(&rt, words, PART, &mut Watched::new(Stuck), &mut err);
-        assert!(rt; (status, err.as_slice()) == (3, line));
+        assert_unwritten(&rt, words, PART, &mut Watched::new(Stuck), line);
     }
 }
 

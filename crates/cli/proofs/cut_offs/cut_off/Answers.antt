@@ -2,8 +2,8 @@ use Rattle.std.proofs.Common.{◌≡◌, true, false, is_some, sym, ap, ◌∙�
 use Rattle.cli.proofs.CutOffsFound.{least_cut_off, none_cut_off, same_some}
 use Rattle.cli.proofs.cut_offs.cut_off.Goals as goal
 
-pub least_failing-requires-clause-understood : goal.least_failing-requires-clause-understood
-least_failing-requires-clause-understood g c κs within = rw (c.whole-job.ensures, c.made-made.ensures) (λ some. c.requires.understood)
+pub least_failing-requires-clause-machines : goal.least_failing-requires-clause-machines
+least_failing-requires-clause-machines g c κs within = rw (c.whole-job.ensures, c.made-made.ensures) (record { lists_are = c.requires.machines; understood_so = λ some. c.requires.understood })
 
 pub returns-then-is_some-clause-found : goal.returns-then-is_some-clause-found
 returns-then-is_some-clause-found g c =

@@ -3,11 +3,11 @@ use Rattle.std.proofs.lemmas.Result.{err_from_is_err_and}
 use Rattle.cli.proofs.PartsFound.{least_found, least_part_found, part_found, report_found}
 use Rattle.cli.proofs.explorations.explored.Goals as goal
 
-pub least_failing-requires-clause-understood : goal.least_failing-requires-clause-understood
-least_failing-requires-clause-understood g c κs within = rw c.made-made.ensures (λ some. c.requires.understood)
+pub least_failing-requires-clause-machines : goal.least_failing-requires-clause-machines
+least_failing-requires-clause-machines g c κs within = rw c.made-made.ensures (record { lists_are = c.requires.machines; understood_so = λ some. c.requires.understood })
 
-pub exploration_of-requires-clause-understood : goal.exploration_of-requires-clause-understood
-exploration_of-requires-clause-understood g c κs within = rw c.made-made.ensures (λ some. c.requires.understood)
+pub exploration_of-requires-clause-machines : goal.exploration_of-requires-clause-machines
+exploration_of-requires-clause-machines g c κs within = rw c.made-made.ensures (record { lists_are = c.requires.machines; understood_so = λ some. c.requires.understood })
 
 pub returns-in_err-head : goal.returns-in_err-head
 returns-in_err-head g c =
