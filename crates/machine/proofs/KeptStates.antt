@@ -4,10 +4,9 @@ use Rattle.std.specs.Prelude.{replicate, slice_index_or, slice_set}
 use Rattle.std.specs.Vec.{with_items}
 use Rattle.std.proofs.lemmas.List.{get_or-set_same, get_or-set_other, get_or-replicate, get_or_past, get_or_default, length-replicate, length-set, map_more, with_items_is}
 use Rattle.std.proofs.lemmas.Bool.{cases_eq, cases_lt}
-use Rattle.regmodel.specs.Kept.{values_in}
+use Rattle.regmodel.specs.Kept.{KeptReply, values_in}
 use Rattle.regmodel.specs.declared.accesses.Pending.{Pending}
 use Rattle.regmodel.specs.Prelude.{Program, Replies}
-use Rattle.regmodel.specs.declared.accesses.Reply.{Reply}
 use Rattle.machine.specs.declared.states.Kept.{Kept}
 use Rattle.machine.specs.Rest.{Asks, rest_in}
 use Rattle.machine.specs.Keeping.{IsKept, IsStart, LeadsTo, RanPast, blank, kept_at, state_at}
@@ -79,7 +78,7 @@ ran_in p reply at kept lent after same long past =
     }
 
 -- past one reply more, which leads from each place to the next
-pub led_on : (p : Program) (kept : List Kept) (act : Replies → Pending) (at known : ℕ) (replies : List Reply) (i : ℕ) (none : Reply) → IsKept p kept known → at + 1 < known → i < length replies → values_in (kept_at kept (at + 1)).reply ≡ values_in (get_or replies i none)
+pub led_on : (p : Program) (kept : List Kept) (act : Replies → Pending) (at known : ℕ) (replies : List KeptReply) (i : ℕ) (none : KeptReply) → IsKept p kept known → at + 1 < known → i < length replies → values_in (kept_at kept (at + 1)).reply ≡ values_in (get_or replies i none)
     → ((s : Replies) → rest_in p (state_at kept at) s ≡ act (map values_in (take i replies) ++ s))
     → (s : Replies) → rest_in p (state_at kept (at + 1)) s ≡ act (map values_in (take (i + 1) replies) ++ s)
 led_on p kept act at known replies i none h next there same led s =

@@ -112,11 +112,12 @@ past-simple (GoesOn env s) at n next go = refl
 past-simple _ at n next go = refl
 
 -- so one is walked over as it was left
-pub simple_walks : (c : Simple) (n number : ℕ) (old : Walk) {new : Walk} {b : Block} {exit : Result StmtExit ℕ} {env : Env} {so : Stopped} {result : Result (Unit {0}) Stopped} → b ≡ Do c Stop → StmtRunsTo (exec (Do c Stop) n (env_of old.store)) exit n [] (Do c Stop) Stop env → so ≡ stopped_at b n number (env_of old.store) → WalksPast (stmt_flow exit n [] (Do c Stop) Stop env (replies_of old)) (Some so) result new → BlockWalks result n number b old new
-simple_walks c n number old {new} {b} {exit} {env} {so} {result} is runs stops walks =
+pub simple_walks : (old : Walk) {c : Simple} {n number : ℕ} {x y : Stmt} {new : Walk} {exit : Result StmtExit ℕ} {env : Env} {so : Stopped} {result : Result (Unit {0}) Stopped} → x ≡ y → with_stmt y Stop ≡ Do c Stop → StmtRunsTo (exec (Do c Stop) n (env_of old.store)) exit n [] (Do c Stop) Stop env → so ≡ stopped_at (with_stmt x Stop) n number (env_of old.store) → WalksPast (stmt_flow exit n [] (Do c Stop) Stop env (replies_of old)) (Some so) result new → BlockWalks result n number (with_stmt x Stop) old new
+simple_walks old {c} {n} {number} {x} {y} {new} {exit} {env} {so} same simple runs stops walks =
     let from = env_of old.store in
     let s = replies_of old in
     let at = Some (stopped_at (Do c Stop) n number from) in
+    let is = ap (λ x. with_stmt x Stop) same ∙ simple in
     rw is (record {
       same = λ go.
           past-simple (exec_simple c n from s) at n (number + 1) go

@@ -1,18 +1,14 @@
 -- Inside the crate: what a store holds.
-use Rattle.std.specs.Prelude.{ℕ, zero, suc, List, [], ◌∷◌, take, Result, Ok, Err}
+use Rattle.std.specs.Prelude.{ℕ, zero, suc, List, [], ◌∷◌, Result, Ok, Err}
+use Rattle.regmodel.specs.Kept.{values_in}
 use Rattle.regmodel.specs.Reply.{Reply, value_of}
 use Rattle.regmodel.specs.Values.{Env, Place, InVar, InCell, store, store_from}
-use Rattle.machine.specs.declared.values.Emitted.{Emitted}
 use Rattle.machine.specs.declared.values.Row.{Row}
 use Rattle.machine.specs.declared.values.Destination.{Destination}
 use Rattle.machine.specs.declared.values.Destination.TheVariants.{Nowhere, InPlace, InCells}
 use Rattle.machine.specs.declared.values.Store.{Store}
 use Rattle.machine.specs.declared.values.Place as values
 use Rattle.machine.specs.declared.values.Place.TheVariants as place
-
--- the numbers emitted: those in the places below their count
-abbrev pub items_of : Emitted → List ℕ
-items_of e = take e.count e.places
 
 -- the first of the values, and 0 in place of each further one
 abbrev pub padded : ℕ → List ℕ → List ℕ
@@ -27,7 +23,7 @@ values_of row = padded row.count row.places
 -- the environment that a store holds
 abbrev pub env_of : Store → Env
 env_of s =
-    record { vars = values_of s.vars; cells = values_of s.cells; emitted = items_of s.emitted }
+    record { vars = values_of s.vars; cells = values_of s.cells; emitted = values_in s.emitted }
 
 -- the place that is meant
 abbrev pub as_place : values.Place → Place

@@ -8,7 +8,9 @@ ghost use Rattle.machine.specs.Paths.{resume, part_flow};
 ghost use Rattle.machine.specs.Exits.{IsWanting};
 ghost use Rattle.machine.specs.Runs.{CanRun, StmtRunsTo, BlockRunsTo};
 
-use crate::run::{BlockExit, Frame, Part, StmtExit, block_of_arm, run_block, run_turns, stmt_exit};
+use crate::run::{
+    BlockExit, Frame, Level, Part, StmtExit, block_of_arm, run_block, run_turns, stmt_exit,
+};
 use crate::values::Store;
 use regmodel::Stmt;
 
@@ -26,24 +28,28 @@ fn resume_stmt(
     stmt: &Stmt,
     part: Part,
     answer: &Answer,
-    registers: u32,
-    depth: usize,
+    level: Level,
     store: &mut Store,
     frames: &mut [Frame],
 ) -> Result<StmtExit, u8>
-    requires runs { CanRun registers depth (with_stmt stmt.now Stop) frames.old }
+    requires runs { CanRun level.registers level.depth (with_stmt stmt.now Stop) frames.old }
     requires room { length answer.now.frames.now ≡ length frames.old }
     requires wanting { (rest : Block)
         × IsWanting
-        (part_flow part registers (with_stmt stmt.now rest)
-        (resume registers (drop (depth + 1) answer.now.frames.now)) (env_of store.old) []) }
+        (part_flow part level.registers (with_stmt stmt.now rest)
+        (resume level.registers (drop (level.depth + 1) answer.now.frames.now))
+        (env_of store.old) []) }
     ensures { (rest : Block)
         → StmtRunsTo
-        (λ s. part_flow part registers (with_stmt stmt.now rest)
-        (resume registers (drop (depth + 1) answer.now.frames.now)) (env_of store.old)
-        (answer.now.reply.now ∷ s)) result registers (drop (depth + 1) frames.new)
+        (λ s. part_flow part level.registers (with_stmt stmt.now rest)
+        (resume level.registers (drop (level.depth + 1) answer.now.frames.now)) (env_of store.old)
+        (answer.now.reply.now ∷ s)) result level.registers (drop (level.depth + 1) frames.new)
         (with_stmt stmt.now rest) rest (env_of store.new) }
 {
+    let inner = Level {
+        depth: level.depth + 1,
+        ..level
+    };
     match part {
         Part::At(_, destination) => {
             store.put_reply(destination, answer.reply);
@@ -54,7 +60,7 @@ fn resume_stmt(
                 unreachable!()
             };
             let block = block_of_arm(arm, first.as_slice(), second.as_slice());
-            let exit = resume_block(block, answer, registers, depth + 1, store, frames);
+            let exit = resume_block(block, answer, inner, store, frames);
             stmt_exit(exit, part)
         }
         Part::Turn(turns) => {
@@ -62,8 +68,8 @@ fn resume_stmt(
                 unreachable!()
             };
             let block = body.as_slice();
-            match resume_block(block, answer, registers, depth + 1, store, frames)? {
-                BlockExit::GoesOn => run_turns(block, turns, registers, depth, store, frames),
+            match resume_block(block, answer, inner, store, frames)? {
+                BlockExit::GoesOn => run_turns(block, turns, level, store, frames),
                 BlockExit::Wants(access) => Ok(StmtExit::Wants(access, part)),
                 BlockExit::Halts => Ok(StmtExit::Halts),
             }
@@ -77,29 +83,28 @@ fn resume_stmt(
 pub fn resume_block(
     block: &[Stmt],
     answer: &Answer,
-    registers: u32,
-    depth: usize,
+    level: Level,
     store: &mut Store,
     frames: &mut [Frame],
 ) -> Result<BlockExit, u8>
-    requires runs { CanRun registers depth (block_of block.now) frames.old }
+    requires runs { CanRun level.registers level.depth (block_of block.now) frames.old }
     requires room { length answer.now.frames.now ≡ length frames.old }
     requires wanting { IsWanting
-        (resume registers (drop depth answer.now.frames.now) (block_of block.now)
+        (resume level.registers (drop level.depth answer.now.frames.now) (block_of block.now)
         (env_of store.old) []) }
     ensures { BlockRunsTo
-        (λ s. resume registers (drop depth answer.now.frames.now) (block_of block.now)
-        (env_of store.old) (answer.now.reply.now ∷ s)) result registers (drop depth frames.new)
-        (block_of block.now) (env_of store.new) }
+        (λ s. resume level.registers (drop level.depth answer.now.frames.now) (block_of block.now)
+        (env_of store.old) (answer.now.reply.now ∷ s)) result level.registers
+        (drop level.depth frames.new) (block_of block.now) (env_of store.new) }
 {
-    let Frame { at, part } = answer.frames[depth];
+    let Frame { at, part } = answer.frames[level.depth];
     if at >= block.len() {
         unreachable!();
     }
-    match resume_stmt(&block[at], part, answer, registers, depth, store, frames)? {
-        StmtExit::GoesOn => run_block(block, at + 1, registers, depth, store, frames),
+    match resume_stmt(&block[at], part, answer, level, store, frames)? {
+        StmtExit::GoesOn => run_block(block, at + 1, level, store, frames),
         StmtExit::Wants(access, part) => {
-            frames[depth] = Frame { at, part };
+            frames[level.depth] = Frame { at, part };
             Ok(BlockExit::Wants(access))
         }
         StmtExit::Halts => Ok(BlockExit::Halts),

@@ -46,6 +46,13 @@ pub struct Frame {
     pub part: Part,
 }
 
+/// How many registers there are, and how deep in the program a block or a statement lies.
+#[derive(Clone, Copy)]
+pub struct Level {
+    pub registers: u32,
+    pub depth: usize,
+}
+
 /// How a statement was left without a fault: past it, at an access within its part, or at the end
 /// of the program.
 #[derive(Clone, Copy)]
@@ -172,24 +179,27 @@ pub fn stmt_exit(exit: Result<BlockExit, u8>, part: Part) -> Result<StmtExit, u8
 #[cycle(run)]
 fn run_stmt(
     stmt: &Stmt,
-    registers: u32,
-    depth: usize,
+    level: Level,
     store: &mut Store,
     frames: &mut [Frame],
 ) -> Result<StmtExit, u8>
-    requires { CanRun registers depth (with_stmt stmt.now Stop) frames.old }
-    ensures { StmtRuns result registers (drop (depth + 1) frames.new) (with_stmt stmt.now)
-        (env_of store.old) (env_of store.new) }
+    requires { CanRun level.registers level.depth (with_stmt stmt.now Stop) frames.old }
+    ensures { StmtRuns result level.registers (drop (level.depth + 1) frames.new)
+        (with_stmt stmt.now) (env_of store.old) (env_of store.new) }
 {
+    let inner = Level {
+        depth: level.depth + 1,
+        ..level
+    };
     match stmt {
         Stmt::Assign(target, value) => assign(*target, value, store),
-        Stmt::Read(to, from) => read(*to, *from, registers, store),
-        Stmt::Write(to, value) => write(*to, value, registers, store),
-        Stmt::Scan(cell, first, count) => Ok(scan(*cell, *first, *count, registers)),
+        Stmt::Read(to, from) => read(*to, *from, level.registers, store),
+        Stmt::Write(to, value) => write(*to, value, level.registers, store),
+        Stmt::Scan(cell, first, count) => Ok(scan(*cell, *first, *count, level.registers)),
         Stmt::If(test, first, second) => {
             let arm = arm_at(store.expr(test)?);
             let block = block_of_arm(arm, first.as_slice(), second.as_slice());
-            let exit = run_block(block, 0, registers, depth + 1, store, frames);
+            let exit = run_block(block, 0, inner, store, frames);
             stmt_exit(exit, Part::Within(arm))
         }
         Stmt::Repeat(count, body) => {
@@ -197,7 +207,7 @@ fn run_stmt(
             if turns > MOST_TURNS {
                 return Err(TOO_MANY_TURNS);
             }
-            run_turns(body.as_slice(), turns, registers, depth, store, frames)
+            run_turns(body.as_slice(), turns, level, store, frames)
         }
         Stmt::Emit(value) => emit(value, store),
         Stmt::Halt => Ok(StmtExit::Halts),
@@ -209,21 +219,25 @@ fn run_stmt(
 pub fn run_turns(
     body: &[Stmt],
     turns: u32,
-    registers: u32,
-    depth: usize,
+    level: Level,
     store: &mut Store,
     frames: &mut [Frame],
 ) -> Result<StmtExit, u8>
-    requires { CanRun registers (depth + 1) (block_of body.now) frames.old }
+    requires { CanRun level.registers (level.depth + 1) (block_of body.now) frames.old }
     ensures { (e : Expr) (rest : Block)
-        → StmtRunsTo (times_then turns registers (block_of body.now) rest (env_of store.old)) result
-        registers (drop (depth + 1) frames.new) (Repeat e (block_of body.now) rest) rest
+        → StmtRunsTo
+        (times_then turns level.registers (block_of body.now) rest (env_of store.old)) result
+        level.registers (drop (level.depth + 1) frames.new) (Repeat e (block_of body.now) rest) rest
         (env_of store.new) }
 {
+    let inner = Level {
+        depth: level.depth + 1,
+        ..level
+    };
     let mut left = turns;
     while left > 0 {
         left -= 1;
-        match run_block(body, 0, registers, depth + 1, store, frames)? {
+        match run_block(body, 0, inner, store, frames)? {
             BlockExit::GoesOn => {}
             BlockExit::Wants(access) => return Ok(StmtExit::Wants(access, Part::Turn(left))),
             BlockExit::Halts => return Ok(StmtExit::Halts),
@@ -238,20 +252,20 @@ pub fn run_turns(
 pub fn run_block(
     block: &[Stmt],
     start: usize,
-    registers: u32,
-    depth: usize,
+    level: Level,
     store: &mut Store,
     frames: &mut [Frame],
 ) -> Result<BlockExit, u8>
-    requires { CanRun registers depth (block_of block.now) frames.old }
-    ensures { BlockRunsTo (exec (block_of (drop start block.now)) registers (env_of store.old))
-        result registers (drop depth frames.new) (block_of block.now) (env_of store.new) }
+    requires { CanRun level.registers level.depth (block_of block.now) frames.old }
+    ensures { BlockRunsTo
+        (exec (block_of (drop start block.now)) level.registers (env_of store.old)) result
+        level.registers (drop level.depth frames.new) (block_of block.now) (env_of store.new) }
 {
     for at in start..block.len() {
-        match run_stmt(&block[at], registers, depth, store, frames)? {
+        match run_stmt(&block[at], level, store, frames)? {
             StmtExit::GoesOn => {}
             StmtExit::Wants(access, part) => {
-                frames[depth] = Frame { at, part };
+                frames[level.depth] = Frame { at, part };
                 return Ok(BlockExit::Wants(access));
             }
             StmtExit::Halts => return Ok(BlockExit::Halts),

@@ -1,16 +1,17 @@
 //! What a program holds, its variables, its cells and the numbers that it has emitted, and what its
 //! expressions are worth.
 
-ghost use Rattle.std.specs.Prelude.{◌≡◌, ◌<◌, ◌≤◌, [], ◌∷◌, ◌++◌, length, nat_lt, not, replicate, slice_index, slice_set};
+ghost use Rattle.std.specs.Prelude.{◌≡◌, ◌≤◌, length, replicate, slice_index, slice_set};
+ghost use Rattle.regmodel.specs.Kept.{values_in};
 ghost use Rattle.regmodel.specs.Values.{within, below_or_fault, operand_value, expr_value, apply_op, target_place, store, store_from, InCell};
 ghost use Rattle.regmodel.specs.declared.limits.TheConstants.{CELLS, MOST_NUMBERS};
 ghost use Rattle.machine.specs.Sparse.{sparse};
-ghost use Rattle.machine.specs.Stores.{env_of, as_place, as_place_or_fault, items_of, reply_stored, values_of};
+ghost use Rattle.machine.specs.Stores.{env_of, as_place, as_place_or_fault, reply_stored, values_of};
 
 use crate::value_of;
 use regmodel::faults::{NO_PLACE, NO_VALUE};
 use regmodel::limits::{CELLS, GREATEST_VALUE, MOST_NUMBERS};
-use regmodel::{Expr, Numbers, Op, Operand, Target};
+use regmodel::{Expr, Few, Numbers, Op, Operand, Target};
 
 /// N values, as a plain value. Places from the count on are not looked at: the values there are 0.
 #[derive(Clone, Copy)]
@@ -63,55 +64,16 @@ impl<const N: usize> Row<N> {
     }
 }
 
-/// At most 8 numbers, as a plain value. Places from the count on hold what they held.
-#[derive(Clone, Copy)]
-pub struct Emitted {
-    places: [u32; MOST_NUMBERS],
-    count: usize,
-}
+/// The numbers that a program emitted, as a plain value: at most 8.
+pub type Emitted = Few<MOST_NUMBERS>;
 
-impl Emitted {
-    /// No numbers.
-    pub fn none() -> Emitted
-        ensures { items_of result ≡ [] }
-    {
-        Emitted {
-            places: [0; MOST_NUMBERS],
-            count: 0,
-        }
-    }
-
-    /// Whether there are as many as may be.
-    pub fn is_full(&self) -> bool
-        ensures { result ≡ not (nat_lt (length (items_of self.now)) MOST_NUMBERS) }
-    {
-        self.count >= MOST_NUMBERS
-    }
-
-    /// Adds a number behind the others.
-    pub fn push(&mut self, number: u32)
-        requires { length (items_of self.old) < MOST_NUMBERS }
-        ensures { items_of self.new ≡ items_of self.old ++ number ∷ [] }
-    {
-        self.places[self.count] = number;
-        self.count += 1;
-    }
-
-    /// The numbers.
-    pub fn values(&self) -> &[u32]
-        ensures { result.now ≡ items_of self.now }
-    {
-        &self.places[..self.count.min(MOST_NUMBERS)]
-    }
-
-    /// The same numbers, as they are told.
-    pub fn numbers(&self) -> Numbers
-        ensures { result.items ≡ items_of self.now }
-    {
-        let mut numbers = Numbers::new();
-        let _ = numbers.try_extend_from_slice(self.values());
-        numbers
-    }
+/// The numbers emitted, as they are told.
+pub fn numbers_emitted(emitted: &Emitted) -> Numbers
+    ensures { result.items ≡ values_in emitted.now }
+{
+    let mut numbers = Numbers::new();
+    let _ = numbers.try_extend_from_slice(emitted.values());
+    numbers
 }
 
 /// The variables, the cells and the numbers emitted so far.

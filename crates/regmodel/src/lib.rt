@@ -17,7 +17,7 @@ mod schedules;
 mod settings;
 mod statements;
 
-pub use accesses::{Access, Footprint, Numbers, Pending, Reads, Reply, Writes};
+pub use accesses::{Access, Few, Footprint, Numbers, Pending, Reads, Reply, Writes};
 pub use clauses::{Clause, Clauses, Subject};
 pub use effort::Effort;
 pub use fitting::scan_fits;

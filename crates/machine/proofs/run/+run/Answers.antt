@@ -14,12 +14,12 @@ use Rattle.machine.proofs.run.+run.Goals as goal
 
 pub run_block-run_stmt-requires : goal.run_block-run_stmt-requires
 run_block-run_stmt-requires t c =
-    (omega arith, can_run_at c.args.registers c.args.depth c.args.block.now c.loop-at.at c.index-block-at.result _ _ (omega arith) c.index-block-at.is (omega arith) c.requires)
+    (omega arith, can_run_at c.args.level.registers c.args.level.depth c.args.block.now c.loop-at.at c.index-block-at.result _ _ (omega arith) c.index-block-at.is (omega arith) c.requires)
 
 pub run_block-returns-in-Wants : goal.run_block-returns-in-Wants
 run_block-returns-in-Wants t c =
     let block = c.args.block.now in
-    let n = c.args.registers in
+    let n = c.args.level.registers in
     let i = c.loop-at.at in
     let x = c.index-block-at.result in
     let rest = block_of (drop (i + 1) block) in
@@ -29,11 +29,11 @@ run_block-returns-in-Wants t c =
           c.loop-at.invariant s
           ∙ ap (λ b. exec b n (env_of c.loop-at.store) s) (block_of-drop block i x (omega arith) c.index-block-at.is)
           ∙ (c.in_ok-run_stmt.ensures rest).flow s
-          ∙ ap (λ r. stmt_flow (Ok r) n (drop (c.args.depth + 1) c.run_stmt.new.frames) (with_stmt x rest) rest env s) c.in-Wants.is
-          ∙ sym (resume-set n c.args.depth block i x c.run_stmt.new.frames c.in-Wants.part env s (omega arith) c.index-block-at.is (omega arith));
+          ∙ ap (λ r. stmt_flow (Ok r) n (drop (c.args.level.depth + 1) c.run_stmt.new.frames) (with_stmt x rest) rest env s) c.in-Wants.is
+          ∙ sym (resume-set n c.args.level.depth block i x c.run_stmt.new.frames c.in-Wants.part env s (omega arith) c.index-block-at.is (omega arith));
       asks =
-          resume-set n c.args.depth block i x c.run_stmt.new.frames c.in-Wants.part env [] (omega arith) c.index-block-at.is (omega arith)
-          ∙ subst (λ r. StmtAsks (Ok r) n (drop (c.args.depth + 1) c.run_stmt.new.frames) (with_stmt x rest) env) c.in-Wants.is (c.in_ok-run_stmt.ensures rest).asks;
+          resume-set n c.args.level.depth block i x c.run_stmt.new.frames c.in-Wants.part env [] (omega arith) c.index-block-at.is (omega arith)
+          ∙ subst (λ r. StmtAsks (Ok r) n (drop (c.args.level.depth + 1) c.run_stmt.new.frames) (with_stmt x rest) env) c.in-Wants.is (c.in_ok-run_stmt.ensures rest).asks;
     }
 
 pub run_stmt-run_block-exit-requires : goal.run_stmt-run_block-exit-requires
@@ -41,15 +41,15 @@ run_stmt-run_block-exit-requires t c =
     let w = c.in-If in
     let arm = c.arm_at-arm.result in
     let told = arm_block arm c.block_of_arm-block.ensures c.as_slice.ensures.value c.as_slice-in-If.ensures.value in
-    (omega arith, can_run_arm c.args.registers c.args.depth c.args.stmt.now w.test w.first w.second arm (block_of c.block_of_arm-block.result.now) c.args.frames.now w.is told c.requires)
+    (omega arith, can_run_arm c.args.level.registers c.args.level.depth c.args.stmt.now w.test w.first w.second arm (block_of c.block_of_arm-block.result.now) c.args.frames.now w.is told c.requires)
 
 pub run_stmt-run_turns-requires : goal.run_stmt-run_turns-requires
 run_stmt-run_turns-requires t c =
     let w = c.in-Repeat in
-    (omega arith, can_run_repeat c.args.registers c.args.depth c.args.stmt.now w.count w.body c.as_slice-in-Repeat.result.now _ _ w.is c.as_slice-in-Repeat.ensures.value refl c.requires)
+    (omega arith, can_run_repeat c.args.level.registers c.args.level.depth c.args.stmt.now w.count w.body c.as_slice-in-Repeat.result.now _ _ w.is c.as_slice-in-Repeat.ensures.value refl c.requires)
 
 pub run_stmt-returns-in-Assign : goal.run_stmt-returns-in-Assign
-run_stmt-returns-in-Assign t c = rw c.in-Assign.is (c.assign.ensures c.args.registers _)
+run_stmt-returns-in-Assign t c = rw c.in-Assign.is (c.assign.ensures c.args.level.registers _)
 
 pub run_stmt-returns-in-Read : goal.run_stmt-returns-in-Read
 run_stmt-returns-in-Read t c = rw c.in-Read.is (c.read.ensures _)
@@ -58,7 +58,7 @@ pub run_stmt-returns-in-Write : goal.run_stmt-returns-in-Write
 run_stmt-returns-in-Write t c = rw c.in-Write.is (c.write.ensures _)
 
 pub run_stmt-returns-in-Emit : goal.run_stmt-returns-in-Emit
-run_stmt-returns-in-Emit t c = rw c.in-Emit.is (c.emit.ensures c.args.registers _)
+run_stmt-returns-in-Emit t c = rw c.in-Emit.is (c.emit.ensures c.args.level.registers _)
 
 pub run_stmt-returns-in-Scan : goal.run_stmt-returns-in-Scan
 run_stmt-returns-in-Scan t c = rw c.in-Scan.is (c.scan.ensures _ _)
@@ -66,11 +66,11 @@ run_stmt-returns-in-Scan t c = rw c.in-Scan.is (c.scan.ensures _ _)
 pub run_stmt-returns-in_ok-expr-in-If : goal.run_stmt-returns-in_ok-expr-in-If
 run_stmt-returns-in_ok-expr-in-If t c = λ rest.
     let w = c.in-If in
-    let n = c.args.registers in
+    let n = c.args.level.registers in
     let arm = c.arm_at-arm.result in
     let exit = c.run_block-exit.result in
     let block = block_of c.block_of_arm-block.result.now in
-    let fs = drop (c.args.depth + 1) c.run_block-exit.new.frames in
+    let fs = drop (c.args.level.depth + 1) c.run_block-exit.new.frames in
     let env = env_of c.run_block-exit.new.store in
     let told = arm_block _ c.block_of_arm-block.ensures c.as_slice.ensures.value c.as_slice-in-If.ensures.value in
     rw c.stmt_exit.ensures (record {
@@ -83,7 +83,7 @@ run_stmt-returns-in_ok-expr-in-If t c = λ rest.
 pub run_stmt-returns-else-turns-gt-MOST_TURNS : goal.run_stmt-returns-else-turns-gt-MOST_TURNS
 run_stmt-returns-else-turns-gt-MOST_TURNS t c = λ rest.
     let w = c.in-Repeat in
-    let n = c.args.registers in
+    let n = c.args.level.registers in
     let old = env_of c.args.store.now in
     let row = block_of c.as_slice-in-Repeat.result.now in
     let turns = c.run_turns.ensures w.count rest in
@@ -96,25 +96,25 @@ pub run_turns-returns-in_err-run_block : goal.run_turns-returns-in_err-run_block
 run_turns-returns-in_err-run_block t c = λ e rest.
     let p = err_from_is_err_and c.from_residual.result c.from_residual.ensures.1 in
     rw (p.1, p.2) (record {
-      flow = λ s. turn_flow-left c.args.turns c.loop-left.left c.args.registers (block_of c.args.body.now) rest (env_of c.args.store.now) (env_of c.loop-left.store) s _ (c.loop-left.invariant s) (omega arith) (c.in_err-run_block.ensures.flow s);
+      flow = λ s. turn_flow-left c.args.turns c.loop-left.left c.args.level.registers (block_of c.args.body.now) rest (env_of c.args.store.now) (env_of c.loop-left.store) s _ (c.loop-left.invariant s) (omega arith) (c.in_err-run_block.ensures.flow s);
       asks = tt;
     })
 
 pub run_turns-loop-left-preserved : goal.run_turns-loop-left-preserved
 run_turns-loop-left-preserved t c = λ s.
     let body = block_of c.args.body.now in
-    let n = c.args.registers in
+    let n = c.args.level.registers in
     let block = exec body n in
     c.loop-left.invariant s
     ∙ times-more c.loop-left.left block (env_of c.loop-left.store) s (omega arith)
-    ∙ ap (λ f. then_do f (times (c.loop-left.left - 1) block)) (known_exit _ _ _ n (drop (c.args.depth + 1) c.run_block.new.frames) body (env_of c.run_block.new.store) s (c.in_ok-run_block.ensures.flow s) c.in-GoesOn.is)
+    ∙ ap (λ f. then_do f (times (c.loop-left.left - 1) block)) (known_exit _ _ _ n (drop (c.args.level.depth + 1) c.run_block.new.frames) body (env_of c.run_block.new.store) s (c.in_ok-run_block.ensures.flow s) c.in-GoesOn.is)
 
 pub run_turns-returns-in-Wants : goal.run_turns-returns-in-Wants
 run_turns-returns-in-Wants t c = λ e rest.
     let body = block_of c.args.body.now in
-    let n = c.args.registers in
+    let n = c.args.level.registers in
     let left = c.loop-left.left in
-    let fs = drop (c.args.depth + 1) c.run_block.new.frames in
+    let fs = drop (c.args.level.depth + 1) c.run_block.new.frames in
     let env = env_of c.run_block.new.store in
     record {
       flow = λ s. turn_flow-left c.args.turns left n body rest (env_of c.args.store.now) (env_of c.loop-left.store) s _ (c.loop-left.invariant s) (omega arith) (known_exit _ _ _ n fs body env s (c.in_ok-run_block.ensures.flow s) c.in-Wants.is);
@@ -124,8 +124,8 @@ run_turns-returns-in-Wants t c = λ e rest.
 pub run_turns-returns-in-Halts : goal.run_turns-returns-in-Halts
 run_turns-returns-in-Halts t c = λ e rest.
     let body = block_of c.args.body.now in
-    let n = c.args.registers in
-    let fs = drop (c.args.depth + 1) c.run_block.new.frames in
+    let n = c.args.level.registers in
+    let fs = drop (c.args.level.depth + 1) c.run_block.new.frames in
     let env = env_of c.run_block.new.store in
     record {
       flow = λ s. turn_flow-left c.args.turns c.loop-left.left n body rest (env_of c.args.store.now) (env_of c.loop-left.store) s _ (c.loop-left.invariant s) (omega arith) (known_exit _ _ _ n fs body env s (c.in_ok-run_block.ensures.flow s) c.in-Halts.is);

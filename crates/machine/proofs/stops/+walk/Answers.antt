@@ -1,12 +1,12 @@
-use Rattle.std.proofs.Common.{◌≡◌, ◌+◌, ◌-◌, [], drop, ap, sym, subst, ◌∙◌, arith}
+use Rattle.std.proofs.Common.{◌≡◌, ℕ, ◌+◌, ◌-◌, [], Result, drop, refl, ap, sym, subst, ◌∙◌, arith}
 use Rattle.std.proofs.lemmas.Result.{err_from_is_err_and}
-use Rattle.regmodel.specs.Prelude.{exec, times, block_of, with_stmt}
+use Rattle.regmodel.specs.Prelude.{Block, exec, times, block_of, with_stmt}
 use Rattle.regmodel.specs.Limits.{statements}
-use Rattle.regmodel.specs.Program as program
 use Rattle.regmodel.specs.Program.{Stop}
 use Rattle.regmodel.proofs.Blocks.{repeat_block, statements-step}
-use Rattle.machine.specs.Stops.{in_turns, past, stops_in}
+use Rattle.machine.specs.Stops.{in_turns, past, stopped_at, stops_in}
 use Rattle.machine.specs.declared.stops.Stopped.{Stopped}
+use Rattle.machine.specs.declared.stops.Walk.{Walk}
 use Rattle.machine.specs.Stores.{env_of}
 use Rattle.machine.specs.Walks.{BlockWalks, CanWalk, replies_of}
 use Rattle.machine.proofs.Blocks.{if_rows}
@@ -14,9 +14,9 @@ use Rattle.machine.proofs.NumberedBlocks.{can_walk_next, statements_left}
 use Rattle.machine.proofs.WalkedBlocks.{past-next, past-turn, simple_walks, walk_into}
 use Rattle.machine.proofs.stops.+walk.Goals as goal
 
--- the number of a place is the one that it was made of
-number-of_stopped : {s t : Stopped} → s ≡ t → s.at ≡ t.at
-number-of_stopped e = ap (λ (s : Stopped). s.at) e
+-- a statement that was left is walked over as the block that it was told to be
+walks_told : (old : Walk) (n : ℕ) {number : ℕ} {x b : Block} {so : Stopped} {result : Result (Unit {0}) Stopped} {new : Walk} → x ≡ b → so ≡ stopped_at x n number (env_of old.store) → BlockWalks result n so.at b old new → BlockWalks result n number x old new
+walks_told old n {number} {x} {b} {so} {result} {new} told stops walks = rw told (subst (λ k. BlockWalks result n k b old new) (ap (λ (s : Stopped). s.at) stops) walks)
 
 pub past_block-past_stmt-requires : goal.past_block-past_stmt-requires
 past_block-past_stmt-requires t c =
@@ -33,20 +33,15 @@ past_block-behind_stmt-at-requires t c =
 
 pub past_block-returns-in_err-past_stmt : goal.past_block-returns-in_err-past_stmt
 past_block-returns-in_err-past_stmt t c =
-    let block = c.args.block.now in
     let n = c.args.registers in
-    let i = c.loop-stmt.stmt-index in
     let x = c.stmt-item.result in
-    let at = c.loop-stmt.at in
-    let env = env_of c.loop-stmt.walk.store in
-    let s = replies_of c.loop-stmt.walk in
-    let rest = block_of (drop (i + 1) block) in
+    let rest = block_of (drop (c.loop-stmt.stmt-index + 1) c.args.block.now) in
     let p = err_from_is_err_and c.from_residual.result c.from_residual.ensures.1 in
     rw (p.1, p.2) (record {
       same = λ go.
           c.loop-stmt.invariant.same go
-          ∙ past-next block i x n at env s go (omega arith) c.stmt-item.is
-          ∙ c.in_err-past_stmt.ensures.same (λ env s. past (exec rest n env s) (stops_in rest n (at + statements (with_stmt x Stop)) env s) go);
+          ∙ past-next _ c.loop-stmt.stmt-index x n c.loop-stmt.at _ _ go (omega arith) c.stmt-item.is
+          ∙ c.in_err-past_stmt.ensures.same (λ env s. past (exec rest n env s) (stops_in rest n (c.loop-stmt.at + statements (with_stmt x Stop)) env s) go);
     })
 
 pub past_block-loop-stmt-preserved : goal.past_block-loop-stmt-preserved
@@ -101,63 +96,31 @@ past_repeat-loop-preserved t c = λ go.
 
 pub past_stmt-past_if-requires : goal.past_stmt-past_if-requires
 past_stmt-past_if-requires t c =
-    let w = c.in-If in
-    let told = if_rows c.args.stmt.now w.test w.first w.second c.as_slice-first.result.now c.as_slice-second.result.now Stop w.is c.as_slice-first.ensures.value c.as_slice-second.ensures.value in
-    let count = ap statements told in
-    (omega (arith, count), walk_into (env_of c.args.walk.now.store) told c.requires c.stopped_at-stopped.ensures)
+    let told = if_rows _ _ _ _ _ _ Stop c.in-If.is c.as_slice-first.ensures.value c.as_slice-second.ensures.value in
+    (omega (arith, ap statements told), walk_into _ told c.requires c.stopped_at-stopped.ensures)
 
 pub past_stmt-past_repeat-requires : goal.past_stmt-past_repeat-requires
 past_stmt-past_repeat-requires t c =
-    let w = c.in-Repeat in
-    let told = repeat_block c.args.stmt.now w.count w.body c.as_slice.result.now Stop w.is c.as_slice.ensures.value in
-    let count = ap statements told in
-    (omega (arith, count), walk_into (env_of c.args.walk.now.store) told c.requires c.stopped_at-stopped.ensures)
+    let told = repeat_block _ _ _ _ Stop c.in-Repeat.is c.as_slice.ensures.value in
+    (omega (arith, ap statements told), walk_into _ told c.requires c.stopped_at-stopped.ensures)
 
 pub past_stmt-returns-in-If : goal.past_stmt-returns-in-If
-past_stmt-returns-in-If t c =
-    let w = c.in-If in
-    let b = program.If w.test (block_of c.as_slice-first.result.now) (block_of c.as_slice-second.result.now) Stop in
-    rw (if_rows c.args.stmt.now w.test w.first w.second c.as_slice-first.result.now c.as_slice-second.result.now Stop w.is c.as_slice-first.ensures.value c.as_slice-second.ensures.value)
-    (subst (λ k. BlockWalks c.past_if.result c.args.registers k b c.args.walk.now c.past_if.new.walk) (number-of_stopped c.stopped_at-stopped.ensures) c.past_if.ensures)
+past_stmt-returns-in-If t c = walks_told c.args.walk.now _ (if_rows _ _ _ _ _ _ Stop c.in-If.is c.as_slice-first.ensures.value c.as_slice-second.ensures.value) c.stopped_at-stopped.ensures c.past_if.ensures
 
 pub past_stmt-returns-in-Repeat : goal.past_stmt-returns-in-Repeat
-past_stmt-returns-in-Repeat t c =
-    let w = c.in-Repeat in
-    let b = program.Repeat w.count (block_of c.as_slice.result.now) Stop in
-    rw (repeat_block c.args.stmt.now w.count w.body c.as_slice.result.now Stop w.is c.as_slice.ensures.value)
-    (subst (λ k. BlockWalks c.past_repeat.result c.args.registers k b c.args.walk.now c.past_repeat.new.walk) (number-of_stopped c.stopped_at-stopped.ensures) c.past_repeat.ensures)
+past_stmt-returns-in-Repeat t c = walks_told c.args.walk.now _ (repeat_block _ _ _ _ Stop c.in-Repeat.is c.as_slice.ensures.value) c.stopped_at-stopped.ensures c.past_repeat.ensures
 
 pub past_stmt-returns-in-Assign : goal.past_stmt-returns-in-Assign
-past_stmt-returns-in-Assign t c =
-    let w = c.in-Assign in
-    let n = c.args.registers in
-    let s = program.Assign w.target w.value in
-    simple_walks s n c.args.number c.args.walk.now (ap (λ x. with_stmt x Stop) w.is) (c.assign-exit.ensures n [] Stop) c.stopped_at-stopped.ensures (c.past_exit.ensures s n)
+past_stmt-returns-in-Assign t c = simple_walks c.args.walk.now c.in-Assign.is refl (c.assign-exit.ensures _ [] Stop) c.stopped_at-stopped.ensures (c.past_exit.ensures _ _)
 
 pub past_stmt-returns-in-Read : goal.past_stmt-returns-in-Read
-past_stmt-returns-in-Read t c =
-    let w = c.in-Read in
-    let n = c.args.registers in
-    let s = program.Read w.to w.from in
-    simple_walks s n c.args.number c.args.walk.now (ap (λ x. with_stmt x Stop) w.is) (c.read-exit.ensures [] Stop) c.stopped_at-stopped.ensures (c.past_exit-in-Read.ensures s n)
+past_stmt-returns-in-Read t c = simple_walks c.args.walk.now c.in-Read.is refl (c.read-exit.ensures [] Stop) c.stopped_at-stopped.ensures (c.past_exit-in-Read.ensures _ _)
 
 pub past_stmt-returns-in-Write : goal.past_stmt-returns-in-Write
-past_stmt-returns-in-Write t c =
-    let w = c.in-Write in
-    let n = c.args.registers in
-    let s = program.Write w.to w.value in
-    simple_walks s n c.args.number c.args.walk.now (ap (λ x. with_stmt x Stop) w.is) (c.write-exit.ensures [] Stop) c.stopped_at-stopped.ensures (c.past_exit-in-Write.ensures s n)
+past_stmt-returns-in-Write t c = simple_walks c.args.walk.now c.in-Write.is refl (c.write-exit.ensures [] Stop) c.stopped_at-stopped.ensures (c.past_exit-in-Write.ensures _ _)
 
 pub past_stmt-returns-in-Scan : goal.past_stmt-returns-in-Scan
-past_stmt-returns-in-Scan t c =
-    let w = c.in-Scan in
-    let n = c.args.registers in
-    let s = program.Scan w.cell w.first w.count in
-    simple_walks s n c.args.number c.args.walk.now (ap (λ x. with_stmt x Stop) w.is) (c.scan-exit.ensures (env_of c.args.walk.now.store) [] Stop) c.stopped_at-stopped.ensures (c.past_exit-in-Scan.ensures s n)
+past_stmt-returns-in-Scan t c = simple_walks c.args.walk.now c.in-Scan.is refl (c.scan-exit.ensures _ [] Stop) c.stopped_at-stopped.ensures (c.past_exit-in-Scan.ensures _ _)
 
 pub past_stmt-returns-in-Emit : goal.past_stmt-returns-in-Emit
-past_stmt-returns-in-Emit t c =
-    let w = c.in-Emit in
-    let n = c.args.registers in
-    let s = program.Emit w.value in
-    simple_walks s n c.args.number c.args.walk.now (ap (λ x. with_stmt x Stop) w.is) (c.emit-exit.ensures n [] Stop) c.stopped_at-stopped.ensures (c.past_exit-in-Emit.ensures s n)
+past_stmt-returns-in-Emit t c = simple_walks c.args.walk.now c.in-Emit.is refl (c.emit-exit.ensures _ [] Stop) c.stopped_at-stopped.ensures (c.past_exit-in-Emit.ensures _ _)

@@ -19,5 +19,5 @@ returns c = λ x n.
       same = λ go.
           ap (λ part. past (part_flow part n b (resume n []) env (replies_of c.args.walk.now)) at go) w.is
           ∙ ap (λ s. past (part_flow (At w.field-0 w.destination) n b (resume n []) env s) at go) (ap (map values_in) c.in-Some.ensures.cases.0)
-          ∙ ap (λ env. go env (map values_in c.in-Some.others.now)) (ap (reply_stored w.destination env) (sym c.values.ensures) ∙ sym c.put_reply.ensures);
+          ∙ ap (λ env. go env (map values_in c.in-Some.others.now)) (ap (reply_stored w.destination env) (sym c.values.ensures.value) ∙ sym c.put_reply.ensures);
     }

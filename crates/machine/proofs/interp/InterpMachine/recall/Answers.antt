@@ -18,7 +18,7 @@ loop-reply-preserved c =
       count = omega (arith, told.count);
       prog = told.prog;
       known = known.0;
-      leads = rw told.count (led_on (program_of m.prog) m.kept.items (act_of (program_of m.prog)) m.at m.known c.args.replies.now c.loop-reply.reply-index _ m.follows known.0 c.loop-reply-test.true (known.1 ∙ c.values.ensures) (rw told.count at told.leads));
+      leads = rw told.count (led_on (program_of m.prog) m.kept.items (act_of (program_of m.prog)) m.at m.known c.args.replies.now c.loop-reply.reply-index _ m.follows known.0 c.loop-reply-test.true (known.1 ∙ c.values.ensures.value) (rw told.count at told.leads));
     }
 
 pub returns-after-loop-reply-clause-leads : goal.returns-after-loop-reply-clause-leads
