@@ -9,7 +9,7 @@ use Rattle.part_texts.specs.declared.parts.PartReport.{PartReport}
 use Rattle.merging.specs.Merged.{AreJoined, IsToldBy}
 use Rattle.merging.specs.Joined.{numbers_marked}
 use Rattle.merging.specs.declared.faults.Misfit.TheVariants.{Count}
-use Rattle.report.specs.declared.yields.Yield.TheVariants.{Least}
+use Rattle.report.specs.declared.explored.Yield.TheVariants.{Least}
 use Rattle.part_texts.specs.PlainHead.{PlainHead}
 use Rattle.merging.specs.Texts.{AreOfTexts, IsKnownTextOf}
 use Rattle.merging.specs.Unjoined.{DifferIn}
@@ -40,7 +40,7 @@ head number count cut = record {
 
 -- the numbers of the exploration stand in what is told, and not those of the part
 pub told_of_head : (number count cut : ℕ) → IsToldBy (head number count cut) (found.Least None)
-    (Least (record { processes = 2; length = 20; crashes = 1; least = None }))
+    (Least (record { bounds = record { processes = 2; length = 20; crashes = 1 }; least = None }))
 told_of_head number count cut = refl
 
 -- a first part of four and one of five differ in how many parts there are

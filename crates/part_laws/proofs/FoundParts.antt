@@ -20,7 +20,7 @@ use Rattle.report.specs.PlainReport.{Findings, LeastFinding}
 use Rattle.part_texts.specs.FitsPart.{FitsFound, FitsLeast, FitsOutcome, FitsPart}
 use Rattle.part_texts.specs.PartText.{explored_part, least_part}
 use Rattle.part_texts.specs.PlainHead.{FitsHead, PlainHead}
-use Rattle.explorer.specs.Parts.{IsFoundAmong, IsLeastAmong, summary_of}
+use Rattle.explorer.specs.Parts.{IsFoundAmong, IsLeastAmong}
 use Rattle.explorer.specs.Searches.{Search, members_below, members_of, reduced_of}
 use Rattle.explorer.specs.Shares.{IsLowestRefused, Tells}
 use Rattle.part_laws.proofs.OutcomeCounts.{few_outcomes}
@@ -72,14 +72,14 @@ module _ (law : WantsWithin) (search : Search) (registers budget : ℕ) (fit : A
       }
 
   module _ (order : IsTotalOrder outcome_cmp) (same : (a b : List ProcEnd) → outcome_cmp a b ≡ Equal → a ≡ b) where
-    pub explored-fits : (pieces : List (List Letter)) (head : PlainHead) (findings : Findings) → FitsHead head → head.processes ≡ length ps → head.length ≡ search.limit → IsFoundAmong search (members_below search pieces) findings → findings.tried < 2 ^ 64 → FitsPart (explored_part head findings)
+    pub explored-fits : (pieces : List (List Letter)) (head : PlainHead) (findings : Findings) → FitsHead head → head.processes ≡ length ps → head.length ≡ search.limit → IsFoundAmong search (members_below search pieces) findings → findings.found.tried < 2 ^ 64 → FitsPart (explored_part head findings)
     explored-fits pieces head findings fits processes length_is found tried =
         let schedules : List (List Letter) = members_below search pieces in
-        let told : Tells search schedules (summary_of findings) = found.told in
+        let told : Tells search schedules findings.found = found.told in
         let letters : search.limit ≤ MOST_LETTERS = omega (arith, length_is, fits.letters) in
-        let few = few_outcomes order same findings.outcomes (map (outcome_of ps) schedules) told.outcomes in
-        let count : length findings.outcomes < 2 ^ 64 = omega (arith, few, length-map schedules (outcome_of ps), told.tried, tried) in
+        let few = few_outcomes order same findings.found.outcomes (map (outcome_of ps) schedules) told.outcomes in
+        let count : length findings.found.outcomes < 2 ^ 64 = omega (arith, few, length-map schedules (outcome_of ps), told.tried, tried) in
         record {
           head = fits;
-          found = subst (λ n. FitsFound n (explored_part head findings).found) (sym processes) (tried, record { count = count; fit = outcomes-fit schedules findings.outcomes told.outcomes; rising = told.outcomes.rising }, least-fits pieces findings.least letters told.least);
+          found = subst (λ n. FitsFound n (explored_part head findings).found) (sym processes) (tried, record { count = count; fit = outcomes-fit schedules findings.found.outcomes told.outcomes; rising = told.outcomes.rising }, least-fits pieces findings.found.least letters told.least);
         }

@@ -9,19 +9,19 @@ use Rattle.regmodel.specs.declared.schedules.Letter.{Letter}
 use Rattle.regmodel.specs.declared.outcomes.ProcEnd.{ProcEnd}
 use Rattle.regmodel.specs.Prelude.{Summary}
 use Rattle.reglang.specs.declared.source.Source.{Source}
-use Rattle.report.specs.PlainReport.{Findings, IsPlainLeast, LeastFinding}
+use Rattle.report.specs.PlainReport.{Findings, LeastFinding}
 use Rattle.part_texts.specs.PlainHead.{AreOfOne}
 use Rattle.tallies.specs.Merging.{Merges, lower_of}
 use Rattle.part_texts.specs.declared.parts.Found.{Found}
 use Rattle.part_texts.specs.declared.parts.Found.TheVariants.{Explored, Least}
 use Rattle.part_texts.specs.declared.parts.PartReport.{PartReport}
 use Rattle.merging.specs.Merged.{AreJoined, IsJoined, IsToldBy}
-use Rattle.report.specs.declared.yields.Yield.{Yield}
-use Rattle.report.specs.declared.yields.Yield.TheVariants as merged
+use Rattle.report.specs.declared.explored.Yield.{Yield}
+use Rattle.report.specs.declared.explored.Yield.TheVariants as merged
 use Rattle.explorer.specs.Searches.{Search, reduced_of, search_of}
 use Rattle.explorer.specs.Shares.{IsLowestRefused, Tells}
-use Rattle.explorer.specs.Parts.{IsFoundAmong, IsLeastAmong, members_of_part, summary_of}
-use Rattle.explorer.specs.Running.{IsFoundOf}
+use Rattle.explorer.specs.Parts.{members_of_part}
+use Rattle.explorer.proofs.Jobs.{LeastOfWhole, ReportsWhole}
 use Rattle.part_laws.specs.Wholes.{IsFoundIn, IsPartOfSource, IsWholeOf}
 
 -- where a list is in balance with the numbers from 1 on, there is a number
@@ -63,27 +63,26 @@ module _ (search : Search) (merges : (first second : List (List Letter)) (s t wh
       both_found (gathered members first others) (members last.head.number) j.0 last.found whole (all_found members first others j.0 p (All-tail told last others each) j.1) (All-head told last others each) j.2
 
 module _ (source : Source) (settings : Bounds) (accepts : List ProcEnd → Bool) where
+  abbrev search : Search
+  search = search_of source settings accepts
+
   -- the members of parts that are of one exploration are counted off alike
-  pub each_found : (first : PartReport) (others : List PartReport) → All (λ part. AreOfOne first.head part.head) others → All (IsPartOfSource source settings accepts) others → All (λ part. IsFoundIn (search_of source settings accepts) (members_of_part (search_of source settings accepts) settings.cut first.head.count part.head.number) part.found) others
+  pub each_found : (first : PartReport) (others : List PartReport) → All (λ part. AreOfOne first.head part.head) others → All (IsPartOfSource source settings accepts) others → All (λ part. IsFoundIn search (members_of_part search settings.cut first.head.count part.head.number) part.found) others
   each_found first others of_one parts k d lt =
       let part : PartReport = slice_index_or others k d in
-      subst (λ count. IsFoundIn (search_of source settings accepts) (members_of_part (search_of source settings accepts) settings.cut count part.head.number) part.found) (sym (of_one k d lt).count) (parts k d lt).found
+      subst (λ count. IsFoundIn search (members_of_part search settings.cut count part.head.number) part.found) (sym (of_one k d lt).count) (parts k d lt).found
 
-  module _ (explored : (search : Search) (schedules : List (List Letter)) (findings : Findings) → AreInBalance schedules (reduced_of search) → IsFoundAmong search schedules findings → IsFoundOf search findings) (lowest : (search : Search) (schedules : List (List Letter)) (finding : LeastFinding) → AreInBalance schedules (reduced_of search) → IsLeastAmong search schedules finding → IsPlainLeast search.programs search.limit search.crashes search.accepts finding) where
-    pub whole_found : (part : PartReport) (whole : Found) (merged : Yield Summary) (schedules : List (List Letter)) → IsPartOfSource source settings accepts part → AreInBalance schedules (reduced_of (search_of source settings accepts)) → IsFoundIn (search_of source settings accepts) schedules whole → IsToldBy part.head whole merged → IsWholeOf source settings accepts merged
+  module _ (explored : ReportsWhole) (lowest : LeastOfWhole) where
+    pub whole_found : (part : PartReport) (whole : Found) (merged : Yield Summary) (schedules : List (List Letter)) → IsPartOfSource source settings accepts part → AreInBalance schedules (reduced_of search) → IsFoundIn search schedules whole → IsToldBy part.head whole merged → IsWholeOf source settings accepts merged
     whole_found part (Explored s) (merged.Report f) schedules own balance told e =
-        explored (search_of source settings accepts) schedules f balance (record {
-          processes = ap (λ (f : Findings). f.processes) e ∙ own.processes;
-          length_is = ap (λ (f : Findings). f.length) e ∙ own.length_is;
-          crashes_is = ap (λ (f : Findings). f.crashes) e ∙ own.crashes_is;
-          told = subst (Tells (search_of source settings accepts) schedules) (sym (ap summary_of e)) told;
+        explored search schedules f balance (record {
+          bounds = ap (λ (f : Findings). f.bounds) e ∙ own.bounds;
+          told = subst (Tells search schedules) (sym (ap (λ (f : Findings). f.found) e)) told;
         })
     whole_found part (Least least) (merged.Least f) schedules own balance told e =
-        lowest (search_of source settings accepts) schedules f balance (record {
-          processes = ap (λ (f : LeastFinding). f.processes) e ∙ own.processes;
-          length_is = ap (λ (f : LeastFinding). f.length) e ∙ own.length_is;
-          crashes_is = ap (λ (f : LeastFinding). f.crashes) e ∙ own.crashes_is;
-          least = subst (IsLowestRefused (search_of source settings accepts) schedules) (sym (ap (λ (f : LeastFinding). f.least) e)) told;
+        lowest search schedules f balance (record {
+          bounds = ap (λ (f : LeastFinding). f.bounds) e ∙ own.bounds;
+          least = subst (IsLowestRefused search schedules) (sym (ap (λ (f : LeastFinding). f.least) e)) told;
         })
     whole_found part (Explored s) (merged.Least f) schedules own balance told e = absurd e
     whole_found part (Least least) (merged.Report f) schedules own balance told e = absurd e

@@ -1,17 +1,18 @@
 -- What is told of a part of a source, and of the whole.
-use Rattle.std.specs.Prelude.{◌≡◌, Bool, List, length}
+use Rattle.std.specs.Prelude.{◌≡◌, Bool, List}
 use Rattle.regmodel.specs.Settings.{Bounds}
 use Rattle.regmodel.specs.declared.schedules.Letter.{Letter}
 use Rattle.regmodel.specs.declared.outcomes.ProcEnd.{ProcEnd}
 use Rattle.reglang.specs.Sources.{source_programs}
 use Rattle.reglang.specs.declared.source.Source.{Source}
-use Rattle.report.specs.PlainReport.{IsPlainLeast}
+use Rattle.merging.specs.Merged.{head_bounds}
+use Rattle.report.specs.PlainReport.{IsPlainLeast, plain_bounds}
 use Rattle.part_texts.specs.declared.parts.Found.{Found}
 use Rattle.part_texts.specs.declared.parts.Found.TheVariants as found
 use Rattle.part_texts.specs.declared.parts.PartReport.{PartReport}
 use Rattle.regmodel.specs.Summary.{Summary}
-use Rattle.report.specs.declared.yields.Yield.{Yield}
-use Rattle.report.specs.declared.yields.Yield.TheVariants.{Report, Least}
+use Rattle.report.specs.declared.explored.Yield.{Yield}
+use Rattle.report.specs.declared.explored.Yield.TheVariants.{Report, Least}
 use Rattle.explorer.specs.Parts.{members_of_part}
 use Rattle.explorer.specs.Running.{IsExplored}
 use Rattle.explorer.specs.Searches.{Search, search_of}
@@ -25,9 +26,8 @@ IsFoundIn search schedules (found.Least least) = IsLowestRefused search schedule
 -- what was found of a part of a source by these settings, for a judge that accepts these outcomes
 pub record IsPartOfSource (source : Source) (settings : Bounds) (accepts : List ProcEnd → Bool)
     (part : PartReport) : Type 0 where
-  pub processes : part.head.processes ≡ length (source_programs source)
-  pub length_is : part.head.length ≡ settings.length
-  pub crashes_is : part.head.crashes ≡ settings.crashes
+  pub bounds : head_bounds part.head
+      ≡ plain_bounds (source_programs source) settings.length settings.crashes
   pub cut_is : part.head.cut ≡ settings.cut
   pub found : IsFoundIn (search_of source settings accepts)
       (members_of_part (search_of source settings accepts) settings.cut part.head.count

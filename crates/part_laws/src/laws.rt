@@ -9,7 +9,7 @@ ghost use Rattle.regmodel.specs.declared.parts.Part.{Part};
 ghost use Rattle.reglang.specs.Sources.{source_programs};
 ghost use Rattle.reglang.specs.declared.source.Source.{Source};
 ghost use Rattle.report.specs.PlainReport.{Findings, LeastFinding};
-ghost use Rattle.report.specs.declared.yields.Yield.{Yield};
+ghost use Rattle.report.specs.declared.explored.Yield.{Yield};
 ghost use Rattle.part_texts.specs.FitsPart.{FitsPart};
 ghost use Rattle.part_texts.specs.PartText.{explored_part, least_part};
 ghost use Rattle.part_texts.specs.PlainHead.{FitsHead, PlainHead};
@@ -30,7 +30,7 @@ pub fn parts_can_be_read(source: &Source)
         → FitsHead head → head.processes ≡ length (source_programs source.now)
         → head.length ≡ settings.length
         → IsPartExplored source.now settings accepts part findings
-        → findings.tried < 2 ^ 64 → FitsPart (explored_part head findings) }
+        → findings.found.tried < 2 ^ 64 → FitsPart (explored_part head findings) }
     ensures least { (settings : Bounds) (accepts : List ProcEnd → Bool) (part : Part)
         (head : PlainHead) (finding : LeastFinding)
         → FitsHead head → head.processes ≡ length (source_programs source.now)

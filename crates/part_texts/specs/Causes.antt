@@ -2,7 +2,8 @@
 use Rattle.std.specs.Prelude.{◌≡◌, ◌⊎◌, ◌++◌, ℕ, List, Option, Some}
 use Rattle.part_texts.specs.declared.faults.Cause.{Cause}
 use Rattle.part_texts.specs.declared.faults.Cause.TheVariants.{NoMemory, Unreadable}
-use Rattle.part_texts.specs.Streams.{IsLineOf}
+use Rattle.part_texts.specs.Streams.{IsLineOf, left_of}
+use Rattle.part_texts.specs.declared.streams.PartStream.{PartStream}
 
 -- the memory or the reader is at fault, and not the text
 abbrev pub IsOutward : Cause → Type 0
@@ -14,11 +15,12 @@ abbrev pub IsOutwardAt : {X : Type 0} → (X → Type 0) → (X → List ℕ) �
 IsOutwardAt {X} fits text left cause =
     (x : X) (rest : List ℕ) → fits x → left ≡ Some (text x ++ rest) → IsOutward cause
 
--- the same behind the first line of that text
-abbrev pub IsOutwardBehind : {X : Type 0} → (X → Type 0) → (X → List ℕ) → Option (List ℕ) → List ℕ
-    → Cause → Type 0
-IsOutwardBehind {X} fits text left line cause =
-    (x : X) (rest : List ℕ) → fits x → IsLineOf left line (text x ++ rest) → IsOutward cause
+-- the same of a stream that has read the first line of that text
+abbrev pub IsOutwardBehind : {R X : Type 0} → (R → Option (List ℕ)) → (X → Type 0)
+    → (X → List ℕ) → PartStream R → Cause → Type 0
+IsOutwardBehind {R} {X} left fits text stream cause =
+    (x : X) (rest : List ℕ) → fits x
+    → IsLineOf (left_of left stream) stream.line.items (text x ++ rest) → IsOutward cause
 
 -- the reader is at fault only if it may be
 abbrev pub IsUnreadOnlyIf : Type 0 → Cause → Type 0

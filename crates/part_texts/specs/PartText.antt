@@ -60,12 +60,7 @@ part_text report = head_text report.head ++ found_text report.found ++ end_text
 
 -- a part of which the whole was sought
 abbrev pub explored_part : PlainHead → Findings → PartReport
-explored_part head findings = record {
-  head = head;
-  found =
-      Explored
-      (record { tried = findings.tried; outcomes = findings.outcomes; least = findings.least });
-}
+explored_part head findings = record { head = head; found = Explored findings.found }
 
 -- a part of which the least failing schedule alone was sought
 abbrev pub least_part : PlainHead → LeastFinding → PartReport

@@ -29,6 +29,12 @@ pub record ReadsOn (old new : Option (List ℕ)) (line text : List ℕ) : Type 0
   pub parts : line ++ 10 ∷ rest ≡ text
   pub taken : Consumes old new rest
 
+-- a text of this kind was read, whose first line is read already
+abbrev pub ReadsBehind : {R X : Type 0} → (R → Option (List ℕ)) → (X → List ℕ) → PartStream R
+    → PartStream R → X → Type 0
+ReadsBehind left text old new x =
+    ReadsOn (left_of left old) (left_of left new) old.line.items (text x)
+
 -- a line that was read, its line feed and what is left are a text
 pub record IsLineOf (left : Option (List ℕ)) (line text : List ℕ) : Type 0 where
   pub one : has_no 10 line ≡ true

@@ -25,7 +25,7 @@ impl<R: ByteReader> PartStream<R> {
     ghost use Rattle.part_texts.specs.NextParts.{IsNextPart};
     ghost use Rattle.part_texts.specs.PlainHead.{FitsHead};
     ghost use Rattle.part_texts.specs.PartText.{bounds_in, bounds_text, end_text, found_text, head_text, outcome_behind, outcomes_text, part_text, source_text};
-    ghost use Rattle.part_texts.specs.Streams.{Reads, ReadsOn, left_of};
+    ghost use Rattle.part_texts.specs.Streams.{Reads, ReadsBehind, left_of};
 
     /// The next part; None where nothing is left. An error names the line at fault, and says
     /// what is wrong with it, that a request for memory was refused, or that the reader
@@ -63,13 +63,9 @@ impl<R: ByteReader> PartStream<R> {
 
     /// The part whose first line is read.
     fn part(&mut self, alloc: Global) -> Result<PartReport, Cause>
-        ensures text { IfOk result
-            (λ part. ReadsOn (left_of R.left self.old) (left_of R.left self.new)
-            self.old.line.items (part_text part)) }
+        ensures text { IfOk result (ReadsBehind R.left part_text self.old self.new) }
         ensures fits { IfOk result FitsPart }
-        ensures whole { IfErr result
-            (IsOutwardBehind FitsPart part_text (left_of R.left self.old)
-            self.old.line.items) }
+        ensures whole { IfErr result (IsOutwardBehind R.left FitsPart part_text self.old) }
         ensures unread { IfErr result (IsUnreadOnlyIf R.may_fail) }
     {
         let head = self.head(alloc)?;
@@ -96,13 +92,9 @@ impl<R: ByteReader> PartStream<R> {
 
     /// The head whose first line is read.
     fn head(&mut self, alloc: Global) -> Result<PartHead, Cause>
-        ensures text { IfOk result
-            (λ head. ReadsOn (left_of R.left self.old) (left_of R.left self.new)
-            self.old.line.items (head_text head)) }
+        ensures text { IfOk result (ReadsBehind R.left head_text self.old self.new) }
         ensures fits { IfOk result FitsHead }
-        ensures whole { IfErr result
-            (IsOutwardBehind FitsHead head_text (left_of R.left self.old)
-            self.old.line.items) }
+        ensures whole { IfErr result (IsOutwardBehind R.left FitsHead head_text self.old) }
         ensures unread { IfErr result (IsUnreadOnlyIf R.may_fail) }
     {
         let (number, count) = part_in(self.line.as_slice()).ok_or(Cause::Other)?;
@@ -242,13 +234,10 @@ impl<R: ByteReader> PartStream<R> {
     /// The least failing schedule with its outcome, whose first line is read;
     /// None where none fails.
     fn least(&mut self, processes: u32) -> Result<Option<(Prefix, Outcome)>, Cause>
-        ensures text { IfOk result
-            (λ least. ReadsOn (left_of R.left self.old) (left_of R.left self.new)
-            self.old.line.items (least_text least)) }
+        ensures text { IfOk result (ReadsBehind R.left least_text self.old self.new) }
         ensures fits { IfOk result (FitsLeast processes) }
         ensures whole { IsProcessCount processes → IfErr result
-            (IsOutwardBehind (FitsLeast processes) least_text (left_of R.left self.old)
-            self.old.line.items) }
+            (IsOutwardBehind R.left (FitsLeast processes) least_text self.old) }
         ensures unread { IfErr result (IsUnreadOnlyIf R.may_fail) }
     {
         let word = after(self.line.as_slice(), b"least ").ok_or(Cause::Other)?;

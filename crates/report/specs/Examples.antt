@@ -9,12 +9,12 @@ use Rattle.report.specs.ReportText.{report_text, standing_text}
 -- what is found of the writer and the reader at length 2
 abbrev found_of_both : Findings
 found_of_both = record {
-  processes = 2;
-  length = 2;
-  crashes = 0;
-  tried = 2;
-  outcomes = (started [] ∷ started (0 ∷ []) ∷ []) ∷ (started [] ∷ started (5 ∷ []) ∷ []) ∷ [];
-  least = None;
+  bounds = record { processes = 2; length = 2; crashes = 0 };
+  found = record {
+    tried = 2;
+    outcomes = (started [] ∷ started (0 ∷ []) ∷ []) ∷ (started [] ∷ started (5 ∷ []) ∷ []) ∷ [];
+    least = None;
+  };
 }
 
 pub report_of_both : report_text found_of_both

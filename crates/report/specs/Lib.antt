@@ -1,3 +1,4 @@
+pub mod Bounds
 pub mod Examples
 pub mod PlainCheck
 pub mod PlainReport

@@ -11,4 +11,4 @@ abbrev pub IsPlainCheck : List Program → ℕ → ℕ → (List ProcEnd → Boo
 IsPlainCheck programs limit crashes accepts (Fails least) =
     IsPlainLeast programs limit crashes accepts least × (is_some least.least ≡ true)
 IsPlainCheck programs limit crashes accepts (Holds exploration) =
-    IsPlainReport programs limit crashes accepts exploration × (exploration.least ≡ None)
+    IsPlainReport programs limit crashes accepts exploration × (exploration.found.least ≡ None)

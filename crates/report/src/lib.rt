@@ -6,13 +6,11 @@ mod checked;
 mod explored;
 mod least;
 mod writing;
-mod yields;
 
 pub use bounds::Bounds;
 pub use checked::Checked;
-pub use explored::{Exploration, Explored, Report, Tallied};
+pub use explored::{Exploration, Explored, Report, Tallied, Yield};
 pub use least::Least;
 pub use writing::{
     CodedLines, LeastLines, write_exploration, write_least, write_report, write_standing,
 };
-pub use yields::Yield;
