@@ -2,7 +2,7 @@
 //! copy from (docs/CALLING.md).
 #![tactic(auto)]
 
-ghost use Rattle.std.specs.Prelude.{◌≡◌, IfOk, map};
+ghost use Rattle.std.specs.Prelude.{IfOk};
 ghost use Rattle.reglang.specs.Sources.{source_programs};
 ghost use Rattle.report.specs.PlainReport.{IsPlainReport};
 

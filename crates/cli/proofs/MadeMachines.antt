@@ -5,14 +5,16 @@ use Rattle.regmodel.specs.declared.accesses.Pending.{Pending}
 use Rattle.regmodel.specs.Program.{Program}
 use Rattle.regmodel.specs.Reply.{Replies}
 use Rattle.reglang.specs.Sources.{source_programs}
-use Rattle.reglang.specs.declared.source.Source.{Source}
 use Rattle.explorer.proofs.GrownLists.{All-before}
+use Rattle.explorer.specs.declared.tasks.Job.{Job}
+use Rattle.explorer.specs.Running.{AreMachinesOf}
+use Rattle.explorer.specs.Searches.{Understood}
 use Rattle.cli.specs.Understanding.{AreMade, resumed_of_all}
 
--- all of them but the last
-pub made_before : {B : Type 0} (program : B → Program) (resumed : B → List ℕ → Replies → Pending) (source : Source) (native : Bool) (n : ℕ) (last : Vec B Global) (others lists : List (Vec B Global)) → lists ≡ others ++ last ∷ []
-    → AreMade program resumed source native (n + 1) lists → AreMade program resumed source native n others
-made_before program resumed source native n last others lists parted made = record {
-  machines = (omega (arith, made.machines.0, ap length parted, length-append others (last ∷ [])), All-before (λ list. map program list.items ≡ source_programs source) last others lists parted made.machines.1);
-  understood = All-before (λ list. map resumed list.items ≡ resumed_of_all source native) last others lists parted made.understood;
+-- the machines of a job: all lists that were made for its source, but the last
+pub machines_before : {B J G U : Type 0} {program : B → Program} {resumed : B → List ℕ → Replies → Pending} {understood : U → Understood} {job : Job J G U} {native : Bool} {others lists : List (Vec B Global)} (last : Vec B Global) → understood job.understanding.now ≡ resumed_of_all job.source.now native → lists ≡ others ++ last ∷ []
+    → AreMade program resumed job.source.now native (job.effort.settings.workers + 1) lists → AreMachinesOf program resumed understood job others
+machines_before {program = program} {resumed = resumed} {job = job} {native = native} {others = others} {lists = lists} last same parted made = record {
+  lists_are = (omega (arith, made.machines.0, ap length parted, length-append others (last ∷ [])), All-before (λ list. map program list.items ≡ source_programs job.source.now) last others lists parted made.machines.1);
+  understood_so = λ some. rw same (All-before (λ list. map resumed list.items ≡ resumed_of_all job.source.now native) last others lists parted made.understood);
 }

@@ -6,7 +6,7 @@ use Rattle.part_texts.specs.PartText.{explored_part, least_part, part_text}
 use Rattle.report.specs.ReportText.{standing_text}
 use Rattle.report.specs.YieldText as yields
 use Rattle.report.specs.YieldText.{yield_text}
-use Rattle.report.specs.declared.yields.Yield.TheVariants.{Least, Report}
+use Rattle.report.specs.declared.explored.Yield.TheVariants.{Least, Report}
 use Rattle.verdict.specs.Faults.{fault_drawn}
 use Rattle.verdict.specs.FaultText.{fault_line}
 use Rattle.verdict.specs.Listings.{listed_text}

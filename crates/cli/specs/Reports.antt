@@ -17,7 +17,7 @@ pub record IsReportOf (settings : Settings) (text : List ℕ) (report : Findings
   pub spelled : Spells text source
   pub report_is : IsPlainReport (programs_in source) settings.length settings.crashes
       (meets_all source.clauses) report
-  pub tried : report.tried
+  pub tried : report.found.tried
       ≡ length (reduced_schedules (programs_in source) settings.crashes settings.length)
 
 -- the report of the text of the file is written whole behind `old`, and the status is 1 where a
@@ -29,4 +29,4 @@ pub record IsReportWritten (settings : Settings) (file old new : Option (List �
   pub report : Findings
   pub found : IsReportOf settings text report
   pub written : Writes old new (report_text report) None
-  pub failing : status ≡ (if is_some report.least then 1 else 0)
+  pub failing : status ≡ (if is_some report.found.least then 1 else 0)

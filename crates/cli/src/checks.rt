@@ -35,19 +35,18 @@ pub fn checked<H: Threads + Wait + Sync, G: Gate>(
     ensures refused { IfErr result (IsCheckRefused allows_faults run.now.spelling.text.now) }
 {
     run.spelling.spells();
-    let (rt, alloc, source, gate) = (run.rt, run.alloc, run.spelling.source, run.gate);
     let own = last_of(&mut lists);
-    let settings = effort.settings;
+    let source = run.spelling.source;
     let judge = Demands {
         clauses: source.clauses(),
         allows_faults,
     };
     let made = run.made();
-    let job = Job::whole(alloc, source, effort, &judge, gate, &made);
-    match run_check(rt, &job, lists) {
+    let job = Job::whole(run.alloc, source, effort, &judge, run.gate, &made);
+    match run_check(run.rt, &job, lists) {
         Ok(found) => {
-            let verdict = verdict_on(&run.spelling, own, settings, allows_faults, found);
-            Ok(Finding::Verdict(Box::new(alloc, verdict)?, shortest))
+            let verdict = verdict_on(&run.spelling, own, effort.settings, allows_faults, found);
+            Ok(Finding::Verdict(Box::new(run.alloc, verdict)?, shortest))
         }
         Err(fault) => Err(AnswerFault::Run(fault)),
     }

@@ -1,5 +1,5 @@
 -- The line of the first check that an outcome breaks, and that a schedule has no letter that is refused.
-use Rattle.std.proofs.Common.{◌≡◌, ℕ, suc, ◌<◌, Bool, true, false, cond, List, ◌++◌, length, get_or, take, drop, drop-cons, Option, Some, None, IfSome, MatchOption, slice_get, refl, ap, sym, subst, ◌∙◌}
+use Rattle.std.proofs.Common.{◌≡◌, ℕ, suc, ◌<◌, Bool, true, false, cond, List, ◌++◌, length, get_or, take, drop, drop-cons, Some, None, IfSome, MatchOption, slice_get, refl, ap, sym, subst, ◌∙◌}
 use Rattle.std.specs.Prelude.{nat_lt}
 use Rattle.std.specs.List.{position, position_or_len}
 use Rattle.std.proofs.lemmas.Bool.{ltb-true}

@@ -108,15 +108,15 @@ at_a_line_of_another_file = refl
 pub in_words : reason_text 4 ≡ codes "it emits a ninth number"
 in_words = refl
 
-pub no_such_cell : culprit_text (Some (Cell 40)) ≡ codes ": cell 40 of 32"
+pub no_such_cell : culprit_text (Cell 40) ≡ codes ": cell 40 of 32"
 unfolding digits
 no_such_cell = refl
 
-pub below_0 : culprit_text (Some (Value 3 op.Sub 5)) ≡ codes ": 3 - 5"
+pub below_0 : culprit_text (Value 3 op.Sub 5) ≡ codes ": 3 - 5"
 unfolding digits
 below_0 = refl
 
-pub too_often : culprit_text (Some (Turns 120)) ≡ codes ": 120 times"
+pub too_often : culprit_text (Turns 120) ≡ codes ": 120 times"
 unfolding digits
 too_often = refl
 
@@ -159,18 +159,18 @@ pub no_more_crashes :
 no_more_crashes = refl
 
 pub second_asks :
-    excess_text 2 (Some 2)
+    excess_text 2 2
     ≡ codes "Pattern 2 asks for more crashes than there may be: give a greater --crashes.\n"
 unfolding digits
 second_asks = refl
 
 pub second_in_vain :
-    shortfall_text 2 (Some (record { pattern = 2; process = 1; asked = 2; most = 1 }))
+    shortfall_text 2 (record { pattern = 2; process = 1; asked = 2; most = 1 })
     ≡ codes "Pattern 2 cannot match: it asks for 2 numbers of process 1, which emits at most 1.\n"
 unfolding digits
 second_in_vain = refl
 
-pub emits_none : shortfall_text 1 (Some (record { pattern = 1; process = 0; asked = 1; most = 0 }))
+pub emits_none : shortfall_text 1 (record { pattern = 1; process = 0; asked = 1; most = 0 })
     ≡ codes "The pattern cannot match: it asks for 1 number of process 0, which emits none.\n"
 unfolding digits
 emits_none = refl

@@ -16,16 +16,14 @@ reason_text code =
     (if code == TOO_MANY_TURNS then codes "it repeats more than 99 times"
     else codes "it emits a ninth number"))
 
--- what is out of range, where a number is
-abbrev pub culprit_text : Option Culprit → List ℕ
-culprit_text (Some (Register number count)) =
+-- what is out of range
+abbrev pub culprit_text : Culprit → List ℕ
+culprit_text (Register number count) =
     codes ": register " ++ decimal number ++ codes " of " ++ decimal count
-culprit_text (Some (Cell number)) =
-    codes ": cell " ++ decimal number ++ codes " of " ++ decimal CELLS
-culprit_text (Some (Value a op b)) =
+culprit_text (Cell number) = codes ": cell " ++ decimal number ++ codes " of " ++ decimal CELLS
+culprit_text (Value a op b) =
     codes ": " ++ decimal a ++ codes " " ++ operator_text op ++ codes " " ++ decimal b
-culprit_text (Some (Turns count)) = codes ": " ++ decimal count ++ codes " times"
-culprit_text None = []
+culprit_text (Turns count) = codes ": " ++ decimal count ++ codes " times"
 
 -- on which line of a text, where that is known
 abbrev pub at_line_text : List ℕ → Option ℕ → List ℕ
@@ -40,7 +38,8 @@ abbrev pub fault_text : List ℕ → ProcessFault → List ℕ
 fault_text text fault =
     codes "process " ++ decimal fault.process ++ codes " is at fault"
     ++ at_line_text text fault.line ++ codes ": "
-    ++ reason_text fault.code ++ culprit_text fault.culprit
+    ++ reason_text fault.code
+    ++ elim fault.culprit [ Some culprit ↦ culprit_text culprit | None ↦ [] ]
 
 -- that it is so at the end of a schedule, where a process is at fault
 abbrev pub fault_line : List ℕ → Option ProcessFault → List ℕ

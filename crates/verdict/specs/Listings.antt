@@ -21,9 +21,9 @@ abbrev pub listed_text :
     List ℕ → List ℕ → List ℕ → Breadth → Bool → Verdict → Option Findings → List ℕ
 listed_text program path text breadth is_shortest (Holds held) explored =
     verdict_text program path text breadth is_shortest (Holds held)
-    ++ outcome_list held.exploration.outcomes
+    ++ outcome_list held.exploration.found.outcomes
 listed_text program path text breadth is_shortest (Fails breach cut) (Some explored) =
     verdict_text program path text breadth is_shortest (Fails breach cut)
-    ++ outcome_list explored.outcomes
+    ++ outcome_list explored.found.outcomes
 listed_text program path text breadth is_shortest (Fails breach cut) None =
     verdict_text program path text breadth is_shortest (Fails breach cut)

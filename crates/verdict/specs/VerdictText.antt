@@ -101,15 +101,15 @@ beside_text program path text breadth cut = elim cut [
 -- whether schedules were cut off: some process still wants an access after as many letters as there
 -- may be
 abbrev pub is_cut_off : Findings → Bool
-is_cut_off findings = list_any (λ ends. list_any is_running ends) findings.outcomes
+is_cut_off findings = list_any (λ ends. list_any is_running ends) findings.found.outcomes
 
 -- how much was tried, and how far
 abbrev pub reach_of : Findings → Reach
 reach_of findings = record {
-  tried = findings.tried;
-  outcomes = length findings.outcomes;
-  length = findings.length;
-  crashes = findings.crashes;
+  tried = findings.found.tried;
+  outcomes = length findings.found.outcomes;
+  length = findings.bounds.length;
+  crashes = findings.bounds.crashes;
   cut_off = is_cut_off findings;
 }
 

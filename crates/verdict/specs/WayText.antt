@@ -56,33 +56,36 @@ abbrev pub pattern_told : ℕ → ℕ → List ℕ
 pattern_told sought number =
     if sought == 1 then codes "The pattern" else codes "Pattern " ++ decimal number
 
--- which pattern asks for more crashes than there may be, where one does
-abbrev pub excess_text : ℕ → Option ℕ → List ℕ
-excess_text sought excess = elim excess [
-  | Some number ↦ pattern_told sought number
-      ++ codes " asks for more crashes than there may be: give a greater --crashes.\n"
-  | None ↦ []
-]
+-- that the pattern with this number asks for more crashes than there may be
+abbrev pub excess_text : ℕ → ℕ → List ℕ
+excess_text sought number =
+    pattern_told sought number
+    ++ codes " asks for more crashes than there may be: give a greater --crashes.\n"
 
 -- how many numbers a process emits at most
 abbrev pub most_text : ℕ → List ℕ
 most_text most = if most == 0 then codes "none" else codes "at most " ++ decimal most
 
--- which pattern asks for more numbers than a process emits, where one does
-abbrev pub shortfall_text : ℕ → Option Shortfall → List ℕ
-shortfall_text sought shortfall = elim shortfall [
-  | Some s ↦ pattern_told sought s.pattern ++ codes " cannot match: it asks for "
-      ++ counted s.asked (codes "number") (codes "s") ++ codes " of process "
-      ++ decimal s.process ++ codes ", which emits " ++ most_text s.most ++ codes ".\n"
-  | None ↦ []
-]
+-- which pattern asks for more numbers than a process emits
+abbrev pub shortfall_text : ℕ → Shortfall → List ℕ
+shortfall_text sought shortfall =
+    pattern_told sought shortfall.pattern ++ codes " cannot match: it asks for "
+    ++ counted shortfall.asked (codes "number") (codes "s") ++ codes " of process "
+    ++ decimal shortfall.process ++ codes ", which emits " ++ most_text shortfall.most
+    ++ codes ".\n"
+
+-- which pattern asks for more crashes than there may be, and which for more numbers than a process
+-- emits, where one does
+abbrev pub unmatched_text : Discovery → List ℕ
+unmatched_text discovery =
+    elim discovery.excess [ Some number ↦ excess_text discovery.sought number | None ↦ [] ]
+    ++ elim discovery.shortfall [ Some s ↦ shortfall_text discovery.sought s | None ↦ [] ]
 
 -- what a program that was called by these words tells of a source in the file of this path
 abbrev pub discovery_text : List ℕ → List ℕ → List ℕ → Breadth → Discovery → Bool → List ℕ
 discovery_text program path text breadth discovery is_shortest =
     elim discovery.way [
       | Some way ↦ way_text program path text breadth discovery.sought is_shortest way
-      | None ↦ nowhere_text path discovery.sought discovery.least.length discovery.least.crashes
-          ++ excess_text discovery.sought discovery.excess
-          ++ shortfall_text discovery.sought discovery.shortfall
+      | None ↦ nowhere_text path discovery.sought discovery.least.bounds.length
+          discovery.least.bounds.crashes ++ unmatched_text discovery
     ]

@@ -1,9 +1,9 @@
 //! What a schedule that fails breaks.
 
-ghost use Rattle.std.specs.Prelude.{◌≡◌, Bool, IfSome, IsNone, false, is_some, map, true};
+ghost use Rattle.std.specs.Prelude.{◌≡◌, IfSome, IsNone, false, is_some, map, true};
 ghost use Rattle.regmodel.specs.Judging.{meets_all};
 ghost use Rattle.regmodel.specs.Prelude.{IsSchedule};
-ghost use Rattle.reglang.specs.Sources.{contents_of, registers_of, source_programs};
+ghost use Rattle.reglang.specs.Sources.{contents_of, source_programs};
 ghost use Rattle.report.specs.PlainCheck.{IsPlainCheck};
 ghost use Rattle.report.specs.PlainReport.{IsPlainLeast};
 ghost use Rattle.verdict.specs.Breaches.{IsBreachOf, IsBrokenLine, IsCauseOf};

@@ -39,8 +39,6 @@ pub struct Demands<'a> {
 }
 
 impl Judge for Demands<'_> {
-    ghost use Rattle.std.specs.Prelude.{◌≡◌, IsTrue, List, true};
-    ghost use Rattle.regmodel.specs.declared.outcomes.ProcEnd.{ProcEnd};
     ghost use Rattle.verdict.specs.Demands.{meets_demands};
 
     ghost accepts = { λ judge ends. meets_demands judge.clauses.now judge.allows_faults ends };

@@ -1,7 +1,6 @@
 //! Patterns in which more processes have crashed than may crash.
 
-ghost use Rattle.std.specs.Prelude.{◌≡◌, ◌<◌, ◌≤◌, IfSome, length, nat_lt};
-ghost use Rattle.std.specs.List.{position};
+ghost use Rattle.std.specs.Prelude.{◌≡◌, ◌<◌, ◌≤◌, IfSome, length};
 ghost use Rattle.verdict.specs.Excesses as spec;
 
 use patterns::{Pattern, Standing};

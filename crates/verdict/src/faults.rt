@@ -32,42 +32,23 @@ pub struct ProcessFault {
 
 /// That a process of the source that a text spells is at fault, where and why.
 #[derive(Clone, Copy)]
-pub(crate) struct FaultTold<'a> {
-    pub(crate) text: &'a [u8],
-    pub(crate) fault: ProcessFault,
-}
+pub(crate) struct FaultTold<'a>(pub(crate) &'a [u8], pub(crate) ProcessFault);
 
 impl Text for FaultTold<'_> {
-    ghost text = { λ told. spec.fault_text told.text.now told.fault };
+    ghost text = { λ told. spec.fault_text told.0.now told.1 };
 
     fn put<W: Write>(&self, out: &mut W, block: &mut Block) -> Result<(), WriteFault> {
-        let fault = self.fault;
-        let place = AtLine {
-            text: self.text,
-            line: fault.line,
-        };
+        let FaultTold(text, fault) = *self;
         let head = ("process ", fault.process, " is at fault");
-        let culprit = CulpritTold(fault.culprit);
+        let place = match fault.line {
+            Some(line) => Some((" at ", LineOrigin { text, line })),
+            None => None,
+        };
+        let culprit = match fault.culprit {
+            Some(culprit) => Some(CulpritTold(culprit)),
+            None => None,
+        };
         (head, place, ": ", reason_of(fault.code), culprit).put(out, block)
-    }
-}
-
-/// On which line of a text, where that is known.
-#[derive(Clone, Copy)]
-struct AtLine<'a> {
-    text: &'a [u8],
-    line: Option<u64>,
-}
-
-impl Text for AtLine<'_> {
-    ghost text = { λ at. spec.at_line_text at.text.now at.line };
-
-    fn put<W: Write>(&self, out: &mut W, block: &mut Block) -> Result<(), WriteFault> {
-        let text = self.text;
-        match self.line {
-            Some(line) => (" at ", LineOrigin { text, line }).put(out, block),
-            None => Ok(()),
-        }
     }
 }
 
@@ -87,30 +68,27 @@ impl Text for FaultLine<'_> {
     fn put<W: Write>(&self, out: &mut W, block: &mut Block) -> Result<(), WriteFault> {
         let text = self.text;
         match self.fault {
-            Some(fault) => ("At its end ", FaultTold { text, fault }, ".\n").put(out, block),
+            Some(fault) => ("At its end ", FaultTold(text, fault), ".\n").put(out, block),
             None => Ok(()),
         }
     }
 }
 
-/// What is out of range, where a number is.
+/// What is out of range.
 #[derive(Clone, Copy)]
-struct CulpritTold(Option<Culprit>);
+struct CulpritTold(Culprit);
 
 impl Text for CulpritTold {
     ghost text = { λ told. spec.culprit_text told.0 };
 
     fn put<W: Write>(&self, out: &mut W, block: &mut Block) -> Result<(), WriteFault> {
         match self.0 {
-            Some(Culprit::Register(number, count)) => {
+            Culprit::Register(number, count) => {
                 (": register ", number, " of ", count).put(out, block)
             }
-            Some(Culprit::Cell(number)) => (": cell ", number, " of ", CELLS).put(out, block),
-            Some(Culprit::Value(a, op, b)) => {
-                ((": ", a, " "), op.text(), " ", b).put(out, block)
-            }
-            Some(Culprit::Turns(count)) => (": ", count, " times").put(out, block),
-            None => Ok(()),
+            Culprit::Cell(number) => (": cell ", number, " of ", CELLS).put(out, block),
+            Culprit::Value(a, op, b) => ((": ", a, " "), op.text(), " ", b).put(out, block),
+            Culprit::Turns(count) => (": ", count, " times").put(out, block),
         }
     }
 }

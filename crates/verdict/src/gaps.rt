@@ -25,7 +25,7 @@ pub struct Gap {
 pub fn gaps_of(spelling: &Spelling<'_>, found: &Exploration) -> ArrayVec<Gap, 16>
     ensures { result.items
         ≡ spec.gaps_of spelling.now.text.now (contents_of spelling.now.source.now).clauses
-        found.now.outcomes }
+        found.now.found.outcomes }
 {
     let mut gaps = ArrayVec::new();
     for i in 0..spelling.source.clauses().list().len() {
@@ -40,7 +40,7 @@ pub fn gaps_of(spelling: &Spelling<'_>, found: &Exploration) -> ArrayVec<Gap, 16
 fn gap_at(spelling: &Spelling<'_>, found: &Exploration, i: usize) -> Option<Gap>
     ensures { result
         ≡ spec.gap_at spelling.now.text.now (contents_of spelling.now.source.now).clauses
-        found.now.outcomes i }
+        found.now.found.outcomes i }
 {
     let clause = spelling.source.clauses().list().get(i)?;
     let want = want_of(clause, found)?;
@@ -50,7 +50,7 @@ fn gap_at(spelling: &Spelling<'_>, found: &Exploration, i: usize) -> Option<Gap>
 
 /// What a clause speaks of that no outcome of an exploration has.
 fn want_of(clause: &Clause, found: &Exploration) -> Option<Subject>
-    ensures { result ≡ spec.want_of clause.now found.now.outcomes }
+    ensures { result ≡ spec.want_of clause.now found.now.found.outcomes }
 {
     let want = clause.subject()?;
     if is_met(want, found.outcomes()) {

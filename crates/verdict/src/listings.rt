@@ -17,7 +17,7 @@ use texts::{Block, NumberLine, Text, WriteFault, write};
 struct OutcomeList<'a>(&'a Exploration);
 
 impl Text for OutcomeList<'_> {
-    ghost text = { λ list. spec.outcome_list list.0.now.outcomes };
+    ghost text = { λ list. spec.outcome_list list.0.now.found.outcomes };
 
     fn put<W: Write>(&self, out: &mut W, block: &mut Block) -> Result<(), WriteFault> {
         let count = NumberLine::new("outcomes", self.0.outcome_count() as u64);

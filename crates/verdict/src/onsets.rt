@@ -1,6 +1,6 @@
 //! From which letter on a schedule fails.
 
-ghost use Rattle.std.specs.Prelude.{◌≡◌, false};
+ghost use Rattle.std.specs.Prelude.{false};
 ghost use Rattle.world.specs.Sound.{IsSameWorld, IsSoundWorld, letters_of, world_programs};
 ghost use Rattle.verdict.specs.Demands.{clauses_asked, meets_demands};
 ghost use Rattle.verdict.specs.Onsets.{IsOnset};

@@ -154,7 +154,7 @@ impl Text for Caused<'_> {
                 let beside = FaultLine { text, fault };
                 (check, "\n", When(is_empty, empty), beside).put(out, block)
             }
-            Cause::Fault(fault) => (FaultTold { text, fault }, "\n").put(out, block),
+            Cause::Fault(fault) => (FaultTold(text, fault), "\n").put(out, block),
         }
     }
 }

@@ -82,34 +82,15 @@ impl Text for Numbered {
     }
 }
 
-/// Which of so many patterns, by its number, asks for more crashes than there may be, where one
-/// does.
+/// Which of so many patterns asks for more numbers than a process emits.
 #[derive(Clone, Copy)]
-struct Excess(u64, Option<u64>);
-
-impl Text for Excess {
-    ghost text = { λ e. spec.excess_text e.0 e.1 };
-
-    fn put<W: Write>(&self, out: &mut W, block: &mut Block) -> Result<(), WriteFault> {
-        let Some(number) = self.1 else {
-            return Ok(());
-        };
-        let asks = " asks for more crashes than there may be: give a greater --crashes.\n";
-        (Numbered(self.0, number), asks).put(out, block)
-    }
-}
-
-/// Which of so many patterns asks for more numbers than a process emits, where one does.
-#[derive(Clone, Copy)]
-struct InVain(u64, Option<Shortfall>);
+struct InVain(u64, Shortfall);
 
 impl Text for InVain {
     ghost text = { λ v. spec.shortfall_text v.0 v.1 };
 
     fn put<W: Write>(&self, out: &mut W, block: &mut Block) -> Result<(), WriteFault> {
-        let Some(shortfall) = self.1 else {
-            return Ok(());
-        };
+        let shortfall = self.1;
         let pattern = Numbered(self.0, shortfall.pattern);
         let asked = Counted(shortfall.asked, "number", "s");
         let asks = (
@@ -120,6 +101,29 @@ impl Text for InVain {
         );
         let most = Either(shortfall.most == 0, "none", ("at most ", shortfall.most));
         (asks, shortfall.process, ", which emits ", most, ".\n").put(out, block)
+    }
+}
+
+/// Which of the patterns that were looked for asks for more crashes than there may be, or for more
+/// numbers than a process emits, where one does.
+#[derive(Clone, Copy)]
+struct Unmatched<'a>(&'a Discovery);
+
+impl Text for Unmatched<'_> {
+    ghost text = { λ u. spec.unmatched_text u.0.now };
+
+    fn put<W: Write>(&self, out: &mut W, block: &mut Block) -> Result<(), WriteFault> {
+        let sought = self.0.sought;
+        let asks = " asks for more crashes than there may be: give a greater --crashes.\n";
+        let excess = match self.0.excess {
+            Some(number) => Some((Numbered(sought, number), asks)),
+            None => None,
+        };
+        let shortfall = match self.0.shortfall {
+            Some(shortfall) => Some(InVain(sought, shortfall)),
+            None => None,
+        };
+        (excess, shortfall).put(out, block)
     }
 }
 
@@ -174,8 +178,7 @@ pub fn write_discovery<W: Write>(
                 crashes: u64::from(discovery.least.crashes()),
             };
             let nowhere = (path, ": no schedule leads ", Nowhere(sought), bounds);
-            let excess = Excess(sought, discovery.excess);
-            write(&(nowhere, excess, InVain(sought, discovery.shortfall)), out)
+            write(&(nowhere, Unmatched(discovery)), out)
         }
     }
 }

@@ -1,12 +1,11 @@
 use Rattle.std.proofs.Common.{refl}
-use Rattle.cli.proofs.MadeMachines.{made_before}
+use Rattle.cli.proofs.MadeMachines.{machines_before}
 use Rattle.cli.proofs.VerdictsFound.{plain_check, verdict_is}
 use Rattle.cli.proofs.checks.checked.Goals as goal
 
 pub run_check-requires-clause-machines : goal.run_check-requires-clause-machines
 run_check-requires-clause-machines g c κs within =
-    let made = made_before _ _ _ _ c.args.effort.settings.workers c.last_of-own.result c.last_of-own.new.lists.items c.args.lists.items c.last_of-own.ensures c.requires in
-    rw (c.whole-job.ensures, c.made-made.ensures) (record { lists_are = made.machines; understood_so = λ some. made.understood })
+    rw (c.whole-job.ensures, c.made-made.ensures) (machines_before _ refl c.last_of-own.ensures c.requires)
 
 pub verdict_on-verdict-requires-clause-checked : goal.verdict_on-verdict-requires-clause-checked
 verdict_on-verdict-requires-clause-checked g c =

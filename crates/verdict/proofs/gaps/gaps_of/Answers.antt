@@ -7,7 +7,7 @@ use Rattle.verdict.proofs.gaps.gaps_of.Goals.{in-Some, in_default}
 
 pub loop-i-preserved : goal.loop-i-preserved
 loop-i-preserved c =
-    let at = gap_at c.args.spelling.now.text.now (contents_of c.args.spelling.now.source.now).clauses c.args.found.now.outcomes in
+    let at = gap_at c.args.spelling.now.text.now (contents_of c.args.spelling.now.source.now).clauses c.args.found.now.found.outcomes in
     let so_far = c.loop-i.invariant in
     elim c.match-gap_at.branch [
       | in-Some w ↦ rw w.gaps-is (record {

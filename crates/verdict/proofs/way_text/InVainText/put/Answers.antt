@@ -1,4 +1,0 @@
-use Rattle.verdict.proofs.way_text.InVainText.put.Goals as goal
-
-pub returns : goal.returns
-returns g c = rw c.in-Some.is c.put.ensures
