@@ -112,7 +112,6 @@ impl Model for Drawing {
 
 impl Drawing {
     ghost use Rattle.regmodel.specs.declared.limits.TheConstants.{MOST_PROCESSES};
-    ghost use Rattle.drawing.specs.Pictures.{Picture};
 
     /// The drawing of these parts.
     pub(crate) fn new(

@@ -1,6 +1,6 @@
 //! How wide the columns of a drawing are, and how many are shown.
 
-ghost use Rattle.std.specs.Prelude.{◌≡◌, ◌≤◌, ◌<◌, ◌*◌, ◌^◌, All, IfSome, length};
+ghost use Rattle.std.specs.Prelude.{◌≡◌, ◌≤◌, ◌<◌, ◌*◌, All, length};
 ghost use Rattle.drawing.specs.Layout as layout;
 
 use crate::breadths::Room;

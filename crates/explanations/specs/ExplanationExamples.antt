@@ -41,95 +41,67 @@ pub words_at_fault :
     ≡ map (λ (it : LineFault × List ℕ × Option (List ℕ)). it.2) faulty
 words_at_fault = refl
 
--- what to write for a word of another language, for the name of a register, and for an unknown kind
-pub turned_round : hint_of (words (codes "if v0 > 1")) ≡ codes "write B < A for A > B"
-turned_round = refl
+-- a line, and the hint for it
+abbrev hinted : List (List ℕ × List ℕ)
+hinted =
+    -- what to write for a word of another language, for the name of a register, and for an unknown
+    -- kind
+    (codes "if v0 > 1", codes "write B < A for A > B")
+    ∷ (codes "read v0 r0", codes "name a register by its number alone")
+    ∷ (codes "use spilt 0 1", wanted_form (words (codes "use")))
+    -- of words of other languages, first ones and later ones
+    ∷ (codes "if v0 && v1", codes "write A * B for A and B: it is 0 where one of them is")
+    ∷ (
+      codes "while v0",
+      codes "write repeat with as many turns as may be needed, and an if in it: "
+          ++ codes "further turns do nothing",
+    )
+    -- of a first word behind another, a number below 0, a name before a cell, and another comment
+    ∷ (codes "write 0 read 1", codes "read is a line of its own: read v0 1")
+    ∷ (
+      codes "set v0 v0 - -1",
+      codes "there are no negative numbers; to subtract, write spaces around -, as in v0 - 1",
+    )
+    ∷ (codes "emit v[0]", codes "a cell is [0] to [31], or [v0] to [v15], and has no name before it")
+    ∷ (codes "//turns", codes "write the comment on a line of its own that begins with #")
+    -- of a first word that is nearly one
+    ∷ (codes "wirte 0 1", codes "did you mean write?")
+    ∷ (codes "Process", codes "did you mean process?")
+    -- where no variable may stand, the form of the line
+    ∷ (codes "registers two", codes "give the line its form: registers NUMBER") ∷ []
 
-pub named_register : hint_of (words (codes "read v0 r0"))
-    ≡ codes "name a register by its number alone"
-named_register = refl
-
-pub unknown_kind : hint_of (words (codes "use spilt 0 1")) ≡ wanted_form (words (codes "use"))
-unknown_kind = refl
-
--- of words of other languages, first ones and later ones
-pub both_hold : hint_of (words (codes "if v0 && v1"))
-    ≡ codes "write A * B for A and B: it is 0 where one of them is"
-both_hold = refl
-
-pub endless : hint_of (words (codes "while v0"))
-    ≡
-    codes "write repeat with as many turns as may be needed, and an if in it: further turns do nothing"
-endless = refl
-
--- of a first word behind another, a number below 0, a name before a cell, and another comment
-pub first_behind : hint_of (words (codes "write 0 read 1"))
-    ≡ codes "read is a line of its own: read v0 1"
-first_behind = refl
-
-pub below_zero : hint_of (words (codes "set v0 v0 - -1"))
-    ≡ codes "there are no negative numbers; to subtract, write spaces around -, as in v0 - 1"
-below_zero = refl
-
-pub named_cell : hint_of (words (codes "emit v[0]"))
-    ≡ codes "a cell is [0] to [31], or [v0] to [v15], and has no name before it"
-named_cell = refl
-
-pub other_comment : hint_of (words (codes "//turns"))
-    ≡ codes "write the comment on a line of its own that begins with #"
-other_comment = refl
-
--- of a first word that is nearly one
-pub two_letters : hint_of (words (codes "wirte 0 1")) ≡ codes "did you mean write?"
-two_letters = refl
-
-pub capital : hint_of (words (codes "Process")) ≡ codes "did you mean process?"
-capital = refl
+pub hints_of_lines :
+    map (λ (it : List ℕ × List ℕ). hint_of (words it.0)) hinted
+    ≡ map (λ (it : List ℕ × List ℕ). it.1) hinted
+hints_of_lines = refl
 
 pub far_from_all : nearest (codes "hlat") ≡ None
 far_from_all = refl
 
--- where no variable may stand, the form of the line
-pub spelled_number : hint_of (words (codes "registers two"))
-    ≡ codes "give the line its form: registers NUMBER"
-spelled_number = refl
-
 -- the form of a check, by its property, and how clauses are listed
-pub check_of_numbers : form_of (words (codes "check within 1"))
-    ≡ codes "check within LO HI; LO and HI are 0 to 1000000000"
-check_of_numbers = refl
+pub forms_and_clauses :
+    (form_of (words (codes "check within 1"))
+    ≡ codes "check within LO HI; LO and HI are 0 to 1000000000")
+    × (form_of (words (codes "check ended 1")) ≡ codes "check ended, and nothing behind it")
+    × (clauses_listed (property.Distinct ∷ property.AtMost ∷ property.Ended ∷ [])
+    ≡ codes "distinct, atmost V C and ended")
+forms_and_clauses = (refl, refl, refl)
 
-pub check_alone : form_of (words (codes "check ended 1"))
-    ≡ codes "check ended, and nothing behind it"
-check_alone = refl
+-- inside an if that is closed again, and an if that has its else
+pub innermost_blocks :
+    (innermost (open_after 5 (codes "registers 1\nprocess\nrepeat 2\nif v0\nfi\nend\n"))
+    ≡ Some (record { block = block.Repeat; line = 3; else_line = None }))
+    × (innermost (open_after 4 (codes "registers 1\nprocess\nif v0\nelse\n"))
+    ≡ Some (record { block = block.If; line = 3; else_line = Some 4 }))
+innermost_blocks = (refl, refl)
 
-pub three_clauses : clauses_listed (property.Distinct ∷ property.AtMost ∷ property.Ended ∷ [])
-    ≡ codes "distinct, atmost V C and ended"
-three_clauses = refl
-
--- inside an if that is closed again
-pub inside_repeat :
-    innermost (open_after 5 (codes "registers 1\nprocess\nrepeat 2\nif v0\nfi\nend\n"))
-    ≡ Some (record { block = block.Repeat; line = 3; else_line = None })
-inside_repeat = refl
-
--- an if that has its else, and what is told of another else in it
-pub second_else : innermost (open_after 4 (codes "registers 1\nprocess\nif v0\nelse\n"))
-    ≡ Some (record { block = block.If; line = 3; else_line = Some 4 })
-second_else = refl
-
-pub told_again :
-    place_words (first_of (words (codes "else")))
+-- what is told of another else in that, and of what closes a block where none such is open
+pub misplaced_lines :
+    (place_words (first_of (words (codes "else")))
     (Some (record { block = block.If; line = 3; else_line = Some 4 }))
-    ≡ codes "this if has its else at line " ++ decimal 4
-told_again = refl
-
--- what closes a block where none such is open
-pub nothing_to_close :
-    place_words (first_of (words (codes "done")))
+    ≡ codes "this if has its else at line " ++ decimal 4)
+    × (place_words (first_of (words (codes "done")))
     (Some (record { block = block.Process; line = 2; else_line = None }))
-    ≡ codes "no repeat is open here"
-nothing_to_close = refl
-
-pub second_end : place_words (first_of (words (codes "end"))) None ≡ codes "no process is open here"
-second_end = refl
+    ≡ codes "no repeat is open here")
+    × (place_words (first_of (words (codes "end"))) None ≡ codes "no process is open here")
+misplaced_lines = (refl, refl, refl)

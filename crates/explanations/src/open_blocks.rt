@@ -1,6 +1,6 @@
 //! The blocks that are open where a line stands.
 
-ghost use Rattle.std.specs.Prelude.{◌≡◌, ◌≤◌, None, length};
+ghost use Rattle.std.specs.Prelude.{◌≡◌, None};
 ghost use Rattle.explanations.specs.OpenBlocks as spec;
 ghost use Rattle.reglang.specs.Forms.{read_line};
 

@@ -2,7 +2,6 @@
 //! or leaves the grid.
 
 ghost use Rattle.std.specs.Prelude.{◌≡◌, ◌+◌, ◌-◌, ◌*◌, ◌<◌, ◌≤◌};
-ghost use Rattle.regmodel.specs.Prelude.{Replies};
 ghost use Rattle.uses.specs.declared.kinds.Use.TheVariants as kind;
 ghost use Rattle.natives.specs.Makes.{IsMadeFor};
 ghost use Rattle.natives.specs.Puts.{ArePut};

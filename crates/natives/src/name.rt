@@ -1,7 +1,6 @@
 //! Renamings: a process proposes a name in its slot until no other slot holds it.
 
 ghost use Rattle.std.specs.Prelude.{◌≡◌, ◌+◌, ◌≤◌, ◌∷◌, slice_index};
-ghost use Rattle.regmodel.specs.Prelude.{Replies};
 ghost use Rattle.uses.specs.declared.kinds.Use.TheVariants as kind;
 ghost use Rattle.natives.specs.Makes.{IsMadeFor};
 ghost use Rattle.natives.specs.declared.rounds.Reading.{Reading};

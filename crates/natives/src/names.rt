@@ -2,7 +2,6 @@
 //! it sees all slots at once.
 
 ghost use Rattle.std.specs.Prelude.{◌≡◌, ◌∷◌, length};
-ghost use Rattle.regmodel.specs.Prelude.{Replies};
 ghost use Rattle.regmodel.specs.Reply.{one};
 ghost use Rattle.uses.specs.declared.kinds.Use.TheVariants as kind;
 ghost use Rattle.natives.specs.Makes.{IsMadeFor};

@@ -51,7 +51,6 @@ pub struct NoneOf<'a> {
 }
 
 impl Judge for NoneOf<'_> {
-    ghost use Rattle.std.specs.Prelude.{◌≡◌};
     ghost use Rattle.patterns.specs.Matching.{matches_none};
 
     ghost accepts = { λ judge ends. matches_none judge.patterns.now ends };

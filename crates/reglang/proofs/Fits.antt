@@ -124,66 +124,33 @@ entered before frame frames block n fits h nested around =
       few = omega arith;
     })
 
+-- the same statements, in other open blocks
+regrouped : {before : Contents} {frames others : List Frame} {block other : Block} {n : ℕ} → InsideFits before frames block n → FramesFit before.registers others other → statements block + statements_around frames ≡ statements other + statements_around others → InsideFits before others other n
+regrouped h nested same = record { contents = h.contents; room = h.room; nested = nested; count = h.count ∙ same; few = h.few }
+
 elsed : (before : Contents) (frames : List Frame) (block : Block) (n : ℕ) → InsideFits before frames block n → Fitting (enter_else before frames block n)
-elsed before [] block n h = tt
 elsed before (First test outer ∷ frames) block n h =
     let nested = h.nested in
-    let count = h.count in
-    let deep = nested.1.0.depth in
-    let turning = nested.1.0.turning in
-    record {
-      contents = h.contents;
-      room = h.room;
-      nested = (nested.0, (nested.1.0, (nothing_fits _ _ _ (omega arith) (omega arith), nested.1.1)));
-      count = omega arith;
-      few = h.few;
-    }
-elsed before (Second test first outer ∷ frames) block n h = tt
-elsed before (Turn count outer ∷ frames) block n h = tt
+    regrouped h (nested.0, (nested.1.0, (nothing_fits _ _ _ (omega (arith, nested.1.0.depth)) (omega (arith, nested.1.0.turning)), nested.1.1))) (omega arith)
+elsed before _ block n h = tt
 
 fi_left : (before : Contents) (frames : List Frame) (block : Block) (n : ℕ) → InsideFits before frames block n → Fitting (leave_if before frames block n)
-fi_left before [] block n h = tt
 fi_left before (First test outer ∷ frames) block n h =
     let nested = h.nested in
-    let count = h.count in
-    let deep = nested.1.0.depth in
-    let turning = nested.1.0.turning in
-    let sum = statements-join outer (program.If test block Stop Stop) in
-    record {
-      contents = h.contents;
-      room = h.room;
-      nested = frames_join before.registers frames outer (program.If test block Stop Stop) nested.1.1 (if_fits _ _ _ test block Stop nested.0 nested.1.0 (nothing_fits _ _ _ (omega arith) (omega arith)));
-      count = omega arith;
-      few = h.few;
-    }
+    let all = program.If test block Stop Stop in
+    regrouped h (frames_join _ frames outer all nested.1.1 (if_fits _ _ _ test block Stop nested.0 nested.1.0 (nothing_fits _ _ _ (omega (arith, nested.1.0.depth)) (omega (arith, nested.1.0.turning))))) (omega (arith, statements-join outer all))
 fi_left before (Second test first outer ∷ frames) block n h =
     let nested = h.nested in
-    let count = h.count in
-    let sum = statements-join outer (program.If test first block Stop) in
-    record {
-      contents = h.contents;
-      room = h.room;
-      nested = frames_join before.registers frames outer (program.If test first block Stop) nested.1.1.1 (if_fits _ _ _ test first block nested.0 nested.1.0 nested.1.1.0);
-      count = omega arith;
-      few = h.few;
-    }
-fi_left before (Turn count outer ∷ frames) block n h = tt
+    let all = program.If test first block Stop in
+    regrouped h (frames_join _ frames outer all nested.1.1.1 (if_fits _ _ _ test first block nested.0 nested.1.0 nested.1.1.0)) (omega (arith, statements-join outer all))
+fi_left before _ block n h = tt
 
 done_left : (before : Contents) (frames : List Frame) (block : Block) (n : ℕ) → InsideFits before frames block n → Fitting (leave_repeat before frames block n)
-done_left before [] block n h = tt
-done_left before (First test outer ∷ frames) block n h = tt
-done_left before (Second test first outer ∷ frames) block n h = tt
 done_left before (Turn times outer ∷ frames) block n h =
     let nested = h.nested in
-    let count = h.count in
-    let sum = statements-join outer (program.Repeat times block Stop) in
-    record {
-      contents = h.contents;
-      room = h.room;
-      nested = frames_join before.registers frames outer (program.Repeat times block Stop) nested.1.1 (repeat_fits _ _ _ times block nested.0 nested.1.0);
-      count = omega arith;
-      few = h.few;
-    }
+    let all = program.Repeat times block Stop in
+    regrouped h (frames_join _ frames outer all nested.1.1 (repeat_fits _ _ _ times block nested.0 nested.1.0)) (omega (arith, statements-join outer all))
+done_left before _ block n h = tt
 
 -- one more process
 process_more : (before : Contents) (body : Body) → ContentsFit before → length before.processes < 8 → IsBodyWithin before.registers body → ContentsFit (record before { processes = before.processes ++ body ∷ [] })

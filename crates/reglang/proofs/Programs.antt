@@ -15,7 +15,6 @@ use Rattle.reglang.specs.Bodies.{is_over, body_of}
 use Rattle.reglang.specs.declared.source.Process.{Process}
 use Rattle.reglang.specs.declared.source.Process.TheVariants as process
 use Rattle.uses.proofs.ExpansionLimits.{fitting}
-use Rattle.uses.specs.declared.kinds.Use.{Use}
 
 within_limits : (p : Prog) → IsWithin (program_of p)
 within_limits p = record { some_register = p.some_register; registers = p.few_registers; operands = p.operands; statements = p.statements; open_blocks = p.open_blocks; open_repeats = p.open_repeats }

@@ -1,6 +1,6 @@
 //! Lines of a text, the words of a line, and what a line says by the form that its words have.
 
-ghost use Rattle.std.specs.Prelude.{◌≡◌, ◌≤◌, ◌&&◌, ◌||◌, length, take, ℕ, ◌==◌, ◌+◌};
+ghost use Rattle.std.specs.Prelude.{◌≡◌, ◌≤◌, ◌&&◌, ◌||◌, length, take, ◌==◌, ◌+◌};
 ghost use Rattle.std.specs.List.{list_all, list_any, position, prefix_len, before_first, after_first};
 ghost use Rattle.reglang.specs.Forms as spec;
 ghost use Rattle.reglang.specs.Forms.{KeepsFirst, words_said};

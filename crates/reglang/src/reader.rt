@@ -28,8 +28,9 @@ pub struct ReadFault {
     /// where there is none.
     pub line: u64,
     /// Of the first fault of the text: 1 a byte not in 32 to 126, 2 an unknown word, 3 no number
-    /// word, 4 no form of its first word, 5 a line that cannot stand there, 6 a limit, 7 a line
-    /// before `registers`, 8 no clause; or 9 where a request for memory was refused.
+    /// word, 4 no form of its first word, 5 a line that cannot stand there, 6 a limit, 7 a
+    /// `process` or `check` before `registers`, 8 no clause; or 9 where a request for memory was
+    /// refused.
     pub code: u8,
 }
 

@@ -23,7 +23,7 @@ pub enum LineFault {
     Misplaced,
     /// A limit that is passed.
     PastLimit,
-    /// A line before the `registers` line.
+    /// A `process` or `check` before the `registers` line, or no such line in the whole text.
     NoRegisters,
     /// A check without a clause.
     NoClause,

@@ -19,7 +19,9 @@ pub type TableSeat<S, G, L> = atomic_table::Seat<S, Known<G, L>>;
 /// A worker's right to take steps at a table. It may go to another thread. A clause sees its
 /// account.
 pub struct Seat<S, G, L, P: SeatRule<S, G, L>> {
+    /// The table, which all its seats share.
     pub table: Arc<SeatTable<S, G, L, P>, Global>,
+    /// What it has there.
     pub seat: TableSeat<S, G, L>,
     ghost at: { IsAt P.words P.slots (arc_value table).shared.table_id seat.table_id },
     ghost part: { seat.me.0.parts ≡ 1 },

@@ -67,14 +67,8 @@ grid_down id =
     set 1 (Two (Var 1) Add (Number 1)) ▸
     Stop
 
--- to the vertex on the right
-abbrev pub grid_right : Block
-grid_right =
-    set 1 (Two (Var 1) Add (Var 0)) ▸
-    set 1 (Two (Var 1) Add (Number 2)) ▸
-    Stop
-
--- finds the registers of a vertex, then its splitter
+-- finds the registers of a vertex, then its splitter: to the vertex on the right where the door is
+-- closed
 abbrev pub grid_visit : ℕ → ℕ → Block
 grid_visit base id =
     set 2 (Two (Var 1) Mul (Number 2)) ▸
@@ -83,7 +77,9 @@ grid_visit base id =
     set 3 (Two (Var 2) Add (Number 1)) ▸
     write (Var 2) (One (Number id)) ▸
     read 4 (Var 3) ▸
-    If (One (Var 4)) grid_right (grid_down id) ▸
+    If (One (Var 4))
+    (set 1 (Two (Var 1) Add (Var 0)) ▸ set 1 (Two (Var 1) Add (Number 2)) ▸ Stop)
+    (grid_down id) ▸
     set 0 (Two (Var 0) Add (Number 1)) ▸
     Stop
 
@@ -107,14 +103,7 @@ tree_down id =
     (set 0 (Two (Var 0) Mul (Number 2)) ▸ Stop) ▸
     Stop
 
--- to the right child
-abbrev pub tree_right : Block
-tree_right =
-    set 0 (Two (Var 0) Mul (Number 2)) ▸
-    set 0 (Two (Var 0) Add (Number 1)) ▸
-    Stop
-
--- marks a vertex, then its splitter
+-- marks a vertex, then its splitter: to the right child where the door is closed
 abbrev pub tree_visit : ℕ → ℕ → Block
 tree_visit base id =
     set 2 (Two (Var 0) Sub (Number 1)) ▸
@@ -125,7 +114,9 @@ tree_visit base id =
     write (Var 2) (One (Number 1)) ▸
     write (Var 3) (One (Number id)) ▸
     read 5 (Var 4) ▸
-    If (One (Var 5)) tree_right (tree_down id) ▸
+    If (One (Var 5))
+    (set 0 (Two (Var 0) Mul (Number 2)) ▸ set 0 (Two (Var 0) Add (Number 1)) ▸ Stop)
+    (tree_down id) ▸
     Stop
 
 -- at a marked vertex: emits its value, and tells its children that it is marked

@@ -2,7 +2,7 @@
 
 ghost use Rattle.std.specs.Prelude.{◌≡◌, IfOk};
 ghost use Rattle.regmodel.specs.Prelude.{block_of};
-ghost use Rattle.uses.specs.Expansions.{grid_body, grid_visit, grid_right, grid_down};
+ghost use Rattle.uses.specs.Expansions.{grid_body, grid_visit, grid_down};
 
 use regmodel::Expr::{One, Two};
 use regmodel::Op::{Add, Equal, Mul, Sub};
@@ -23,11 +23,14 @@ pub fn grid_block(alloc: Global, base: u32, side: u32, id: u32) -> Result<Vec<St
     ]?)
 }
 
-/// The splitter of one vertex.
+/// The splitter of one vertex; to the right of it where the door is closed.
 fn visit(alloc: Global, base: u32, id: u32) -> Result<Vec<Stmt>, OutOfMemory>
     ensures { IfOk result (λ block. block_of block.items ≡ grid_visit base id) }
 {
-    let right = right(alloc)?;
+    let right = vec![in alloc;
+        Assign(Target::Var(1), Two(Var(1), Add, Var(0))),
+        Assign(Target::Var(1), Two(Var(1), Add, Number(2))),
+    ]?;
     let down = down(alloc, id)?;
     Ok(vec![in alloc;
         Assign(Target::Var(2), Two(Var(1), Mul, Number(2))),
@@ -38,16 +41,6 @@ fn visit(alloc: Global, base: u32, id: u32) -> Result<Vec<Stmt>, OutOfMemory>
         Read(Target::Var(4), Var(3)),
         If(One(Var(4)), right, down),
         Assign(Target::Var(0), Two(Var(0), Add, Number(1))),
-    ]?)
-}
-
-/// From a vertex to the one on its right.
-fn right(alloc: Global) -> Result<Vec<Stmt>, OutOfMemory>
-    ensures { IfOk result (λ block. block_of block.items ≡ grid_right) }
-{
-    Ok(vec![in alloc;
-        Assign(Target::Var(1), Two(Var(1), Add, Var(0))),
-        Assign(Target::Var(1), Two(Var(1), Add, Number(2))),
     ]?)
 }
 

@@ -3,7 +3,7 @@
 ghost use Rattle.std.specs.Prelude.{◌≡◌, ◌≤◌, IfOk};
 ghost use Rattle.regmodel.specs.declared.limits.TheConstants.{MOST_LEVELS};
 ghost use Rattle.regmodel.specs.Prelude.{block_of};
-ghost use Rattle.uses.specs.Expansions.{tree_body, tree_descend, tree_visit, tree_right, tree_down, tree_collect, tree_look, tree_marked};
+ghost use Rattle.uses.specs.Expansions.{tree_body, tree_descend, tree_visit, tree_down, tree_collect, tree_look, tree_marked};
 
 use crate::kinds::vertices;
 use regmodel::Expr::{One, Two};
@@ -49,12 +49,15 @@ fn descend(alloc: Global, base: u32, id: u32) -> Result<Vec<Stmt>, OutOfMemory>
     Ok(vec![in alloc; If(Two(Var(1), Equal, Number(0)), visit, Vec::new(alloc))]?)
 }
 
-/// Marks a vertex, then its splitter.
+/// Marks a vertex, then its splitter; to its right child where the door is closed.
 fn visit(alloc: Global, base: u32, id: u32) -> Result<Vec<Stmt>, OutOfMemory>
     ensures { IfOk result (λ block. block_of block.items ≡ tree_visit base id) }
 {
-    let right = right(alloc)?;
     let down = down(alloc, id)?;
+    let right = vec![in alloc;
+        Assign(Target::Var(0), Two(Var(0), Mul, Number(2))),
+        Assign(Target::Var(0), Two(Var(0), Add, Number(1))),
+    ]?;
     Ok(vec![in alloc;
         Assign(Target::Var(2), Two(Var(0), Sub, Number(1))),
         Assign(Target::Var(2), Two(Var(2), Mul, Number(4))),
@@ -65,16 +68,6 @@ fn visit(alloc: Global, base: u32, id: u32) -> Result<Vec<Stmt>, OutOfMemory>
         Write(Var(3), One(Number(id))),
         Read(Target::Var(5), Var(4)),
         If(One(Var(5)), right, down),
-    ]?)
-}
-
-/// From a vertex to its right child.
-fn right(alloc: Global) -> Result<Vec<Stmt>, OutOfMemory>
-    ensures { IfOk result (λ block. block_of block.items ≡ tree_right) }
-{
-    Ok(vec![in alloc;
-        Assign(Target::Var(0), Two(Var(0), Mul, Number(2))),
-        Assign(Target::Var(0), Two(Var(0), Add, Number(1))),
     ]?)
 }
 
