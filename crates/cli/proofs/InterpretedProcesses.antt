@@ -2,7 +2,7 @@
 use Rattle.std.proofs.Common.{◌≡◌, ℕ, Bool, false, Option, Some, None, refl, ap, sym, subst}
 use Rattle.std.specs.Prelude.{option_map}
 use Rattle.regmodel.specs.Prelude.{Program}
-use Rattle.machine.specs.Standings.{resumed_by}
+use Rattle.machine.specs.StateNumbers.{resumed_by}
 use Rattle.reglang.specs.Contents.{Body, Kind, Text, program_over}
 use Rattle.uses.specs.declared.kinds.Use.{Use}
 use Rattle.cli.specs.Understanding.{resumed_over}

@@ -35,18 +35,18 @@ mark_text is_first = if is_first then codes ": " else codes ", "
 
 -- how many files were answered in one way, with what is said of one file or of
 -- several; nothing of none
-abbrev pub share_text : Bool → ℕ → List ℕ → List ℕ → List ℕ
-share_text is_first n one several =
+abbrev pub answer_count_text : Bool → ℕ → List ℕ → List ℕ → List ℕ
+answer_count_text is_first n one several =
     if n == 0 then [] else mark_text is_first ++ decimal n ++ (if n == 1 then one else several)
 
 -- the line that tells how several files were answered
 abbrev pub counts_text : FileCounts → List ℕ
 counts_text counts =
     decimal counts.files ++ codes " files"
-    ++ share_text true counts.holding (codes " holds") (codes " hold")
-    ++ share_text (counts.holding == 0) counts.failing (codes " fails") (codes " fail")
-    ++ share_text (counts.holding == 0 && counts.failing == 0) counts.refused
+    ++ answer_count_text true counts.holding (codes " holds") (codes " hold")
+    ++ answer_count_text (counts.holding == 0) counts.failing (codes " fails") (codes " fail")
+    ++ answer_count_text (counts.holding == 0 && counts.failing == 0) counts.refused
     (codes " refused") (codes " refused")
-    ++ share_text ((counts.holding == 0 && counts.failing == 0) && counts.refused == 0)
+    ++ answer_count_text ((counts.holding == 0 && counts.failing == 0) && counts.refused == 0)
     counts.unanswered (codes " unanswered") (codes " unanswered")
     ++ codes "\n"

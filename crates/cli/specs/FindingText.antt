@@ -12,7 +12,7 @@ use Rattle.verdict.specs.FaultText.{fault_line}
 use Rattle.verdict.specs.Listings.{listed_text}
 use Rattle.verdict.specs.Verdicts.{is_failing}
 use Rattle.verdict.specs.VerdictText.{verdict_text}
-use Rattle.verdict.specs.WayText.{discovery_text}
+use Rattle.verdict.specs.WitnessText.{discovery_text}
 use Rattle.cli.specs.declared.findings.Finding.{Finding}
 use Rattle.cli.specs.declared.findings.Finding.TheVariants.{Discovery, Drawing, Explored, Listing, Part, Standing, Verdict}
 

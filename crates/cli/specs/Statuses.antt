@@ -1,15 +1,15 @@
 -- The statuses with which the program tells that there is no answer.
 use Rattle.std.specs.Prelude.{ℕ, Bool, true, false}
 use Rattle.orders.specs.Statuses as orders
-use Rattle.part_texts.specs.declared.faults.Cause.{Cause}
-use Rattle.part_texts.specs.declared.faults.Cause.TheVariants as cause
+use Rattle.part_texts.specs.declared.faults.PartCause.{PartCause}
+use Rattle.part_texts.specs.declared.faults.PartCause.TheVariants as cause
 use Rattle.merging.specs.declared.faults.MergeFault.{MergeFault}
 use Rattle.merging.specs.declared.faults.MergeFault.TheVariants as merging
 use Rattle.cli.specs.declared.faults.AnswerFault.{AnswerFault}
 use Rattle.cli.specs.declared.faults.AnswerFault.TheVariants.{Refused, Misfit, Source, Letter, Merge, Run, Write}
 
 -- where a line of a part was not read: 3 for want of memory
-abbrev pub line_status : Cause → ℕ
+abbrev pub line_status : PartCause → ℕ
 line_status cause.NoMemory = 3
 line_status _ = 2
 

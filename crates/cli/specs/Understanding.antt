@@ -4,7 +4,7 @@ use Rattle.std.specs.declared.alloc.Global.{Global}
 use Rattle.regmodel.specs.declared.accesses.Pending.{Pending}
 use Rattle.regmodel.specs.Program.{Program}
 use Rattle.regmodel.specs.Reply.{Replies}
-use Rattle.machine.specs.Standings.{resumed_by}
+use Rattle.machine.specs.StateNumbers.{resumed_by}
 use Rattle.natives.specs.Resuming.{native_resumed}
 use Rattle.reglang.specs.Contents.{Body, Contents, Kind, Text, program_over}
 use Rattle.reglang.specs.Sources.{contents_of, source_programs}

@@ -16,7 +16,7 @@ use crate::faults::AnswerFault;
 use crate::findings::Finding;
 use crate::machines::{Run, last_of, machine_of};
 use crate::searches::{discovered, matching};
-use crate::standings::{drawing_of, standing_after};
+use crate::standings::{drawing_after, standing_after};
 use explorer::{Effort, Gate};
 use machine::Machine;
 use orders::Task;
@@ -144,7 +144,7 @@ fn shown<H, G>(
     ensures { Finds (asked.Show schedule.now) run.now.spelling.text.now result }
 {
     run.spelling.spells();
-    match drawing_of(run.spelling.source, own, schedule) {
+    match drawing_after(run.spelling.source, own, schedule) {
         Ok(drawing) => Ok(Finding::Drawing(Box::new(run.alloc, drawing)?)),
         Err(refused) => Err(AnswerFault::Letter(refused)),
     }

@@ -133,7 +133,7 @@ fn written<H: Threads + Wait + Sync, R: Readable, W: Output, E: Write + Send>(
         text: text.as_slice(),
         breadth: question.breadth,
     };
-    tell(topic, &finding, out)?;
+    tell_finding(topic, &finding, out)?;
     Ok(finding.fails())
 }
 
@@ -214,7 +214,11 @@ fn explained<E: Write>(
 }
 
 /// Writes what was found of the text in the file of a path, and has the writer pass it on.
-fn tell<W: Output>(topic: Topic<'_>, finding: &Finding, out: &mut W) -> Result<(), AnswerFault>
+fn tell_finding<W: Output>(
+    topic: Topic<'_>,
+    finding: &Finding,
+    out: &mut W,
+) -> Result<(), AnswerFault>
     ensures { Tells (W.contents out.old) (W.contents out.new)
         (finding_text topic.entry.program.now topic.entry.path.now topic.entry.text.now
         topic.entry.breadth finding.now) result }

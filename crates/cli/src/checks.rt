@@ -1,4 +1,5 @@
-//! What a check finds of a source.
+//! What a check finds of a source, and the search for a schedule that fails by more than being cut
+//! off.
 
 ghost use Rattle.std.specs.Prelude.{◌+◌, Bool, IfErr, IfOk};
 ghost use Rattle.orders.specs.declared.tasks.Task.TheVariants as asked;

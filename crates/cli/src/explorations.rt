@@ -1,4 +1,5 @@
-//! The explorations of a source, and of one part of it, which several runs share.
+//! The explorations of a source, and of one part of it, which several runs share; or the least
+//! failing schedule alone.
 
 ghost use Rattle.std.specs.Prelude.{◌≡◌, Bool, IfOk, option_map};
 ghost use Rattle.orders.specs.declared.tasks.Task.TheVariants as asked;

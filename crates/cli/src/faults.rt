@@ -11,7 +11,7 @@ use explorer::faults::NOT_STARTED;
 use explorer::{NO_MEMORY, RunFault, TOO_MANY};
 use merging::MergeFault;
 use orders::{Reason, Refusal};
-use part_texts::Cause;
+use part_texts::PartCause;
 use reglang::Rejection;
 use regmodel::{End, OutOfMemory};
 use std::alloc::AllocFailed;
@@ -135,17 +135,17 @@ fn merge_status(fault: &MergeFault) -> u8
 }
 
 /// The status where a line of a part was not read.
-fn line_status(cause: Cause) -> u8
+fn line_status(cause: PartCause) -> u8
     ensures { IsStatusOf line_status cause result }
 {
     match cause {
-        Cause::NoMemory => 3,
-        Cause::Other
-        | Cause::OutOfRange
-        | Cause::NotRising
-        | Cause::Unfinished
-        | Cause::LongLine
-        | Cause::Unreadable => 2,
+        PartCause::NoMemory => 3,
+        PartCause::Other
+        | PartCause::OutOfRange
+        | PartCause::NotRising
+        | PartCause::Unfinished
+        | PartCause::LongLine
+        | PartCause::Unreadable => 2,
     }
 }
 

@@ -20,8 +20,8 @@ mod standings;
 
 pub use answers::answer;
 pub use orders::{
-    Bound, FileFault, Input, Opener, Order, Question, Reason, Refusal, Request, Task, command,
-    input_of, refuse, words_of,
+    FileFault, Input, Opener, OptionBound, Order, Question, Reason, Refusal, Request, Task,
+    command, input_of, refuse, words_of,
 };
 pub use outputs::{Output, Watched};
 pub use program::perform;

@@ -218,8 +218,5 @@ pub fn last_of(lists: &mut Vec<Vec<Box<dyn Machine + Send>>>) -> Vec<Box<dyn Mac
     requires some { 0 < length lists.old.items }
     ensures { lists.old.items ≡ lists.new.items ++ result ∷ [] }
 {
-    let Some(last) = lists.pop() else {
-        unreachable!()
-    };
-    last
+    lists.pop().unwrap()
 }

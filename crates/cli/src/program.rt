@@ -154,10 +154,10 @@ impl Text for FileCounts {
         let none_holds = self.holding == 0;
         let none_told = none_holds & (self.failing == 0);
         let none_read = none_told & (self.refused == 0);
-        let holding = Share(true, self.holding, " holds", " hold");
-        let failing = Share(none_holds, self.failing, " fails", " fail");
-        let refused = Share(none_told, self.refused, " refused", " refused");
-        let unanswered = Share(none_read, self.unanswered, " unanswered", " unanswered");
+        let holding = AnswerCount(true, self.holding, " holds", " hold");
+        let failing = AnswerCount(none_holds, self.failing, " fails", " fail");
+        let refused = AnswerCount(none_told, self.refused, " refused", " refused");
+        let unanswered = AnswerCount(none_read, self.unanswered, " unanswered", " unanswered");
         let files = (self.files, " files", holding);
         (files, failing, refused, unanswered, "\n").put(out, block)
     }
@@ -166,13 +166,13 @@ impl Text for FileCounts {
 /// How many files were answered in one way: whether it is told first, how many, and what is said of
 /// one file and of several.
 #[derive(Clone, Copy)]
-struct Share(bool, u64, &'static str, &'static str);
+struct AnswerCount(bool, u64, &'static str, &'static str);
 
-impl Text for Share {
-    ghost text = { λ share. spec.share_text share.0 share.1 share.2.now share.3.now };
+impl Text for AnswerCount {
+    ghost text = { λ count. spec.answer_count_text count.0 count.1 count.2.now count.3.now };
 
     fn put<W: Write>(&self, out: &mut W, block: &mut Block) -> Result<(), WriteFault> {
-        let Share(is_first, count, one, several) = *self;
+        let AnswerCount(is_first, count, one, several) = *self;
         if count == 0 {
             return Ok(());
         }

@@ -1,4 +1,5 @@
-//! How many pieces were taken and how many are known, told on a writer while workers run.
+//! How many pieces were taken and how many are known, told on a writer while workers run, and which
+//! length is searched next.
 //!
 //! It tells by its own counts and by no clock. A piece may be taken before the gate is told that it
 //! is known, so a line tells at least as many known as taken.
@@ -52,12 +53,12 @@ impl Counts {
 
 /// Counts, and the writer on which they are told.
 #[derive(Drop)]
-struct Telling<'a, E> {
+struct ProgressWriter<'a, E> {
     counts: Counts,
     err: &'a mut E,
 }
 
-impl<E: Write> Telling<'_, E> {
+impl<E: Write> ProgressWriter<'_, E> {
     /// One piece more was taken. What the writer does not take of the line is left out.
     fn take(&mut self) {
         self.counts.take();
@@ -81,7 +82,7 @@ impl<E: Write> Telling<'_, E> {
 #[derive(Drop)]
 pub struct Progress<'a, H, E> {
     rt: &'a H,
-    telling: Option<Mutex<Telling<'a, E>>>,
+    telling: Option<Mutex<ProgressWriter<'a, E>>>,
 }
 
 impl<'a, H, E> Progress<'a, H, E> {
@@ -90,7 +91,7 @@ impl<'a, H, E> Progress<'a, H, E> {
         let counts = Counts::none();
         Progress {
             rt,
-            telling: Some(Mutex::new(Telling { counts, err })),
+            telling: Some(Mutex::new(ProgressWriter { counts, err })),
         }
     }
 

@@ -63,7 +63,7 @@ pub fn standing_after(
 /// and dropped once, also then. Takes no memory.
 // In a frame of its own, which other orders do not touch.
 #[inline(never)]
-pub fn drawing_of(
+pub fn drawing_after(
     source: &Source,
     machines: Vec<Box<dyn Machine + Send>>,
     schedule: &Prefix,

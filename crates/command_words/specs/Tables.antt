@@ -7,9 +7,9 @@ use Rattle.clap.specs.Words.{App, Rule, Shape, Text, new_app, new_rule, with_rul
 use Rattle.clap.specs.Words.{with_subcommand}
 use Rattle.clap.specs.declared.builder.action.ArgAction.TheVariants.{SetTrue}
 use Rattle.clap.specs.declared.builder.value_parser.ValueParser.TheVariants as parser
-use Rattle.command_words.specs.declared.tables.Kind.{Kind}
-use Rattle.command_words.specs.declared.tables.Kind.TheVariants as kind
-use Rattle.command_words.specs.declared.tables.Word.{Word}
+use Rattle.command_words.specs.declared.tables.WordKind.{WordKind}
+use Rattle.command_words.specs.declared.tables.WordKind.TheVariants as kind
+use Rattle.command_words.specs.declared.tables.CommandWord.{CommandWord}
 use Rattle.command_words.specs.declared.tables.Subcommand.{Subcommand}
 
 -- a word that has to be there
@@ -44,7 +44,7 @@ abbrev pub any_text : Text → Rule
 any_text name = record (option name) { is_simple = false }
 
 -- what a kind of word makes of a name
-abbrev pub rule_of_kind : Kind → Text → Rule
+abbrev pub rule_of_kind : WordKind → Text → Rule
 rule_of_kind kind.Needed name = needed name
 rule_of_kind kind.Several name = several name
 rule_of_kind kind.Flag name = flag name
@@ -53,7 +53,7 @@ rule_of_kind (kind.Number value) name = number name
 rule_of_kind (kind.Text value) name = any_text name
 
 -- what clap reads of a word of a table
-abbrev pub rule_of_word : Word → Rule
+abbrev pub rule_of_word : CommandWord → Rule
 rule_of_word word = rule_of_kind word.kind word.name.now
 
 -- what clap reads of a subcommand of the table, with its words added one after another

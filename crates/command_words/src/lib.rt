@@ -14,7 +14,7 @@ mod texts;
 use clap::{Arg, ArgAction, ArgMatches, Command, Error, value_parser};
 use std::alloc::{AllocError, Global};
 use std::convert::AsStr;
-use tables::{Kind, SUBCOMMANDS, Subcommand, Word};
+use tables::{CommandWord, SUBCOMMANDS, Subcommand, WordKind};
 use texts::STATUSES;
 
 /// The program's version, and the logic that it is proved with, which several kits of Rattle share.
@@ -109,7 +109,7 @@ fn command_of<'a>(alloc: Global, subcommand: &Subcommand) -> Result<Command<'a>,
 fn with_words<'a>(
     alloc: Global,
     mut command: Command<'a>,
-    words: &[Word],
+    words: &[CommandWord],
 ) -> Result<Command<'a>, AllocError>
     ensures { IfOk result (λ r. app_of r ≡ fold with_rule (app_of command.entry)
         (map rule_of_word words.now)) }
@@ -121,25 +121,25 @@ fn with_words<'a>(
 }
 
 /// The argument of a word.
-fn arg_of<'a>(alloc: Global, word: &Word) -> Arg<'a>
+fn arg_of<'a>(alloc: Global, word: &CommandWord) -> Arg<'a>
     ensures rule { rule_of result ≡ rule_of_word word.now }
     ensures local { result.global ≡ false }
 {
     let arg = Arg::new(alloc, word.name).help(word.help);
     match word.kind {
-        Kind::Needed => arg.required(true),
-        Kind::Several => arg.required(true).num_args(1..),
-        Kind::Flag => arg.long(word.name).action(ArgAction::SetTrue),
-        Kind::NeededNumber(value) => arg
+        WordKind::Needed => arg.required(true),
+        WordKind::Several => arg.required(true).num_args(1..),
+        WordKind::Flag => arg.long(word.name).action(ArgAction::SetTrue),
+        WordKind::NeededNumber(value) => arg
             .long(word.name)
             .value_name(value)
             .required(true)
             .value_parser(value_parser!(u32)),
-        Kind::Number(value) => arg
+        WordKind::Number(value) => arg
             .long(word.name)
             .value_name(value)
             .value_parser(value_parser!(u32)),
-        Kind::Text(value) => arg
+        WordKind::Text(value) => arg
             .long(word.name)
             .value_name(value)
             .allow_hyphen_values(true),

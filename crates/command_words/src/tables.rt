@@ -3,7 +3,7 @@
 use crate::texts::Closing;
 
 /// How a word is taken; an option has what its value is called.
-pub(crate) enum Kind {
+pub(crate) enum WordKind {
     /// A word that has to be there.
     Needed,
     /// Words of which one has to be there.
@@ -20,9 +20,9 @@ pub(crate) enum Kind {
 }
 
 /// A word of a subcommand: its name, how it is taken, and what the help says of it.
-pub(crate) struct Word {
+pub(crate) struct CommandWord {
     pub(crate) name: &'static str,
-    pub(crate) kind: Kind,
+    pub(crate) kind: WordKind,
     pub(crate) help: &'static str,
 }
 
@@ -31,7 +31,7 @@ pub(crate) struct Subcommand {
     pub(crate) name: &'static str,
     pub(crate) about: &'static str,
     pub(crate) after: Closing,
-    pub(crate) words: &'static [Word],
+    pub(crate) words: &'static [CommandWord],
 }
 
 /// The subcommands.
@@ -75,29 +75,29 @@ pub(crate) const SUBCOMMANDS: &[Subcommand] = &[
 ];
 
 /// The words of `check`.
-const CHECK: &[Word] = &[
-    Word {
+const CHECK: &[CommandWord] = &[
+    CommandWord {
         name: "FILE",
-        kind: Kind::Several,
+        kind: WordKind::Several,
         help: FILE,
     },
     LENGTH,
     CRASHES,
     WORKERS,
     CACHE,
-    Word {
+    CommandWord {
         name: "allow-faults",
-        kind: Kind::Flag,
+        kind: WordKind::Flag,
         help: "Let no schedule fail for a process at fault alone, but only for a check that it breaks",
     },
-    Word {
+    CommandWord {
         name: "shortest",
-        kind: Kind::Flag,
+        kind: WordKind::Flag,
         help: "Tell the least of the shortest schedules that fail, in place of the least of all: lengths are tried from 0 on, up to --length",
     },
-    Word {
+    CommandWord {
         name: "outcomes",
-        kind: Kind::Flag,
+        kind: WordKind::Flag,
         help: "Print all outcomes as well, as explore does",
     },
     ALL,
@@ -109,67 +109,67 @@ const CHECK: &[Word] = &[
 ];
 
 /// The words of `explore`.
-const EXPLORE: &[Word] = &[
+const EXPLORE: &[CommandWord] = &[
     SOURCE,
-    Word {
+    CommandWord {
         name: "length",
-        kind: Kind::NeededNumber("L"),
+        kind: WordKind::NeededNumber("L"),
         help: "How many letters a schedule has at most: 0 to 64",
     },
-    Word {
+    CommandWord {
         name: "crashes",
-        kind: Kind::NeededNumber("C"),
+        kind: WordKind::NeededNumber("C"),
         help: "How many crashes a schedule has at most: 0 to 8",
     },
-    Word {
+    CommandWord {
         name: "workers",
-        kind: Kind::NeededNumber("W"),
+        kind: WordKind::NeededNumber("W"),
         help: "How many workers share the exploration, each in a thread of its own: 1 to 16",
     },
-    Word {
+    CommandWord {
         name: "cut",
-        kind: Kind::NeededNumber("D"),
+        kind: WordKind::NeededNumber("D"),
         help: "Up to which length beginnings are split into pieces: 0 to 16 (6 serves well)",
     },
-    Word {
+    CommandWord {
         name: "room",
-        kind: Kind::NeededNumber("M"),
+        kind: WordKind::NeededNumber("M"),
         help: "How many pieces each worker may put up for the others: 0 to 65536 (64 serves well); each takes up to 700 bytes from the start",
     },
-    Word {
+    CommandWord {
         name: "cache",
-        kind: Kind::Number("MB"),
+        kind: WordKind::Number("MB"),
         help: "In how many megabytes states are remembered: 0 to 65536. What follows a state that was met before is counted and not tried again, which gives the same report in fewer steps. The workers share the megabytes [default: 0]",
     },
-    Word {
+    CommandWord {
         name: "part",
-        kind: Kind::Text("I/N"),
+        kind: WordKind::Text("I/N"),
         help: "Explore only part I of N, as 3/16, and print it as a part for `regtry merge`: N is at most 65536",
     },
     TEXT,
-    Word {
+    CommandWord {
         name: "least",
-        kind: Kind::Flag,
+        kind: WordKind::Flag,
         help: "Look for the least failing schedule alone: no outcomes are printed, and what can hold no lower one is left out",
     },
     PROGRESS,
 ];
 
 /// The words of `find`.
-const FIND: &[Word] = &[
+const FIND: &[CommandWord] = &[
     SOURCE,
-    Word {
+    CommandWord {
         name: "PATTERN",
-        kind: Kind::Several,
+        kind: WordKind::Several,
         help: "How each process may stand, as one word: 'done 1; *'; or - for the lines of standard input",
     },
     LENGTH,
     CRASHES,
     WORKERS,
     CACHE,
-    Word {
+    CommandWord {
         name: "shortest",
-        kind: Kind::Flag,
+        kind: WordKind::Flag,
         help: "Tell the least of the shortest schedules that lead there, in place of the least of all: lengths are tried from 0 on, up to --length",
     },
     ALL,
@@ -181,102 +181,102 @@ const FIND: &[Word] = &[
 ];
 
 /// The words of `merge`.
-const MERGE: &[Word] = &[Word {
+const MERGE: &[CommandWord] = &[CommandWord {
     name: "FILE",
-    kind: Kind::Several,
+    kind: WordKind::Several,
     help: "Files of parts, as explore --part prints them, in any order, or - for standard input",
 }];
 
 /// The words of `replay`.
-const REPLAY: &[Word] = &[SOURCE, SCHEDULE];
+const REPLAY: &[CommandWord] = &[SOURCE, SCHEDULE];
 
 /// The words of `show`.
-const SHOW: &[Word] = &[SOURCE, SCHEDULE, ALL, REGISTERS, WIDTH, LINES];
+const SHOW: &[CommandWord] = &[SOURCE, SCHEDULE, ALL, REGISTERS, WIDTH, LINES];
 
 /// What the help says of a source.
 const FILE: &str =
     "The source: a text in the register language, at most 1048576 bytes, or - for standard input";
 
 /// The file of a source.
-const SOURCE: Word = Word {
+const SOURCE: CommandWord = CommandWord {
     name: "FILE",
-    kind: Kind::Needed,
+    kind: WordKind::Needed,
     help: FILE,
 };
 
 /// A schedule.
-const SCHEDULE: Word = Word {
+const SCHEDULE: CommandWord = CommandWord {
     name: "SCHEDULE",
-    kind: Kind::Needed,
+    kind: WordKind::Needed,
     help: "The schedule, as one word: at most 64 letters parted by one space, as 'R0 R1 C0', or . for none",
 };
 
 /// The greatest length, for a check and a search.
-const LENGTH: Word = Word {
+const LENGTH: CommandWord = CommandWord {
     name: "length",
-    kind: Kind::Text("L"),
+    kind: WordKind::Text("L"),
     help: "How many letters a schedule has at most: 0 to 64 [default: 64]",
 };
 
 /// How many crashes there may be, for a check and a search.
-const CRASHES: Word = Word {
+const CRASHES: CommandWord = CommandWord {
     name: "crashes",
-    kind: Kind::Text("C"),
+    kind: WordKind::Text("C"),
     help: "How many crashes a schedule has at most: 0 to 8 [default: 0]",
 };
 
 /// How many workers there are, for a check and a search.
-const WORKERS: Word = Word {
+const WORKERS: CommandWord = CommandWord {
     name: "workers",
-    kind: Kind::Text("W"),
+    kind: WordKind::Text("W"),
     help: "How many workers share the exploration, each in a thread of its own: 1 to 16 [default: the number of processors, at most 16]",
 };
 
 /// The megabytes for states, for a check and a search.
-const CACHE: Word = Word {
+const CACHE: CommandWord = CommandWord {
     name: "cache",
-    kind: Kind::Text("MB"),
+    kind: WordKind::Text("MB"),
     help: "In how many megabytes states are remembered, as by explore: 0 to 65536 [default: 256]",
 };
 
 /// The flag that asks for all registers, for a check, a search and a drawing.
-const ALL: Word = Word {
+const ALL: CommandWord = CommandWord {
     name: "all",
-    kind: Kind::Flag,
+    kind: WordKind::Flag,
     help: "Draw all registers, however long the lines become",
 };
 
 /// The registers to draw, for a check, a search and a drawing.
-const REGISTERS: Word = Word {
+const REGISTERS: CommandWord = CommandWord {
     name: "registers",
-    kind: Kind::Text("LIST"),
+    kind: WordKind::Text("LIST"),
     help: "Draw these registers alone: numbers from 0 to 63 and ranges of them, as 0,3-5",
 };
 
 /// How broad a drawing may be, for a check, a search and a drawing.
-const WIDTH: Word = Word {
+const WIDTH: CommandWord = CommandWord {
     name: "width",
-    kind: Kind::Text("N"),
+    kind: WordKind::Text("N"),
     help: "How long a line of a drawing may become, as far as leaving out registers helps: 1 to 65536 [default: 80 for up to two processes, else 132]",
 };
 
 /// The flag that asks for a column of lines, for a check, a search and a drawing.
-const LINES: Word = Word {
+const LINES: CommandWord = CommandWord {
     name: "lines",
-    kind: Kind::Flag,
+    kind: WordKind::Flag,
     help: "Draw a column with the line of the source on which each letter's statement stands",
 };
 
 /// The flag that asks for interpreters.
-const TEXT: Word = Word {
+const TEXT: CommandWord = CommandWord {
     name: "text",
-    kind: Kind::Flag,
+    kind: WordKind::Flag,
     help: "Interpret the processes with a `use` line, too, which else run as native machines",
 };
 
 /// The flag that asks to tell how far a run has come.
-const PROGRESS: Word = Word {
+const PROGRESS: CommandWord = CommandWord {
     name: "progress",
-    kind: Kind::Flag,
+    kind: WordKind::Flag,
     help: "Tell on standard error how many pieces the workers have taken and how many are known so far: a line each time that those taken reach 1, 3, 5 or 7 times a power of two",
 };

@@ -8,8 +8,8 @@ use Rattle.regmodel.specs.Prelude.{Schedule, process_of, wanted_after, outcome_o
 use Rattle.reglang.specs.Contents.{Contents, programs_in}
 use Rattle.world.specs.Registers.{values_after}
 use Rattle.drawing.specs.declared.drawings.Deed.{Deed}
-use Rattle.drawing.specs.declared.drawings.Held.{Held}
-use Rattle.drawing.specs.declared.drawings.Row.{Row}
+use Rattle.drawing.specs.declared.drawings.RegisterValue.{RegisterValue}
+use Rattle.drawing.specs.declared.drawings.LetterRow.{LetterRow}
 use Rattle.drawing.specs.Pictures.{AreRowsOf, IsPictureOf, IsRowOf, Picture, deed_by}
 use Rattle.drawing.specs.Registers.{all_held, held_after}
 use Rattle.drawing.specs.Stops.{stops_after}
@@ -33,7 +33,7 @@ pub values-same : (ps qs : List Program) (n m : ℕ) (v w : Schedule) (now : Lis
 values-same ps qs n m v w now same count went told = told ∙ (ap (λ rs. values_after rs w m) same ∙ (ap (values_after ps w) count ∙ ap (λ u. values_after ps u n) went))
 
 -- what registers hold past a letter, of programs and registers that have stayed the same
-pub held-past : (ps qs : List Program) (n m : ℕ) (v w : Schedule) (a : Letter) (before now : List ℕ) (held : List Held) → ((programs : List Program) → (x y : Schedule) → (k : ℕ) → before ≡ values_after programs x k → now ≡ values_after programs y k → held ≡ all_held programs k x y)
+pub held-past : (ps qs : List Program) (n m : ℕ) (v w : Schedule) (a : Letter) (before now : List ℕ) (held : List RegisterValue) → ((programs : List Program) → (x y : Schedule) → (k : ℕ) → before ≡ values_after programs x k → now ≡ values_after programs y k → held ≡ all_held programs k x y)
     → before ≡ values_after ps v n → qs ≡ ps → m ≡ n → w ≡ v ++ a ∷ [] → now ≡ values_after qs w m → held ≡ all_held ps n v (v ++ a ∷ [])
 held-past ps qs n m v w a before now held told first same count went last = told ps v (v ++ a ∷ []) n first (values-same ps qs n m (v ++ a ∷ []) w now same count went last)
 
@@ -42,7 +42,7 @@ pub number-told : (w v : List Letter) (a : Letter) (n : ℕ) → w ≡ v ++ a �
 number-told w v a n went told = omega (arith, told, ap length went, length-append v (a ∷ []))
 
 -- the row of a last letter comes last
-pub rows-more : (source : Contents) (before w : Schedule) (rows : List Row) (a : Letter) (row : Row) → AreRowsOf source before w rows → IsRowOf source (before ++ w) a row → AreRowsOf source before (w ++ a ∷ []) (rows ++ row ∷ [])
+pub rows-more : (source : Contents) (before w : Schedule) (rows : List LetterRow) (a : Letter) (row : LetterRow) → AreRowsOf source before w rows → IsRowOf source (before ++ w) a row → AreRowsOf source before (w ++ a ∷ []) (rows ++ row ∷ [])
 rows-more source before [] [] a row h last = (rw (append-nil before) at last, tt)
 rows-more source before [] (r ∷ rows) a row h last = absurd h
 rows-more source before (b ∷ w) [] a row h last = absurd h
@@ -53,7 +53,7 @@ pub letters-more : (w v items s : List Letter) (i : ℕ) (d : Letter) → w ≡ 
 letters-more w v items s i d ew ev es lt = ew ∙ (ap (λ u. u ++ get_or items i d ∷ []) ev ∙ (ap (λ xs. take i s ++ get_or xs i d ∷ []) es ∙ sym (take_more s i d lt)))
 
 -- the rows so far, with the row of one letter more
-pub rows-past : (source : Contents) (v w : Schedule) (rows more : List Row) (a : Letter) (row : Row) → w ≡ v ++ a ∷ [] → more ≡ rows ++ row ∷ [] → AreRowsOf source [] v rows → IsRowOf source v a row → AreRowsOf source [] w more
+pub rows-past : (source : Contents) (v w : Schedule) (rows more : List LetterRow) (a : Letter) (row : LetterRow) → w ≡ v ++ a ∷ [] → more ≡ rows ++ row ∷ [] → AreRowsOf source [] v rows → IsRowOf source v a row → AreRowsOf source [] w more
 rows-past source v w rows more a row went pushed before last = rw (went, pushed) (rows-more source [] v rows a row before last)
 
 -- what a letter does, by programs that have stayed the same
@@ -61,7 +61,7 @@ pub deed-same : (ps qs : List Program) (v : Schedule) (a : Letter) (did : Deed) 
 deed-same ps qs v a did same told = subst (λ (rs : List Program). deed_by a (wanted_after rs v (process_of a)) ≡ Some did) same told
 
 -- the picture of the parts
-pub picture-whole : (source : Contents) (qs : List Program) (v w : Schedule) (picture : Picture) (start : List Held) (rows : List Row) (ends : List ProcEnd) (stops : List (Option Stopped)) → picture ≡ record { start = start; rows = rows; ends = ends; stops = stops } → qs ≡ programs_in source → v ≡ w → start ≡ all_held (programs_in source) source.registers [] [] → AreRowsOf source [] v rows → ends ≡ outcome_of qs v → stops ≡ stops_after source v → IsPictureOf source w picture
+pub picture-whole : (source : Contents) (qs : List Program) (v w : Schedule) (picture : Picture) (start : List RegisterValue) (rows : List LetterRow) (ends : List ProcEnd) (stops : List (Option Stopped)) → picture ≡ record { start = start; rows = rows; ends = ends; stops = stops } → qs ≡ programs_in source → v ≡ w → start ≡ all_held (programs_in source) source.registers [] [] → AreRowsOf source [] v rows → ends ≡ outcome_of qs v → stops ≡ stops_after source v → IsPictureOf source w picture
 picture-whole source qs v w picture start rows ends stops parts same went held told ended stopped =
     rw parts (record {
       start = held;

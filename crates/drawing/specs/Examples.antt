@@ -13,24 +13,24 @@ use Rattle.regmodel.specs.Wanted.{wanted_after}
 use Rattle.regmodel.specs.Examples.{scans_two, two_writers, writer_and_reader}
 use Rattle.reglang.specs.Contents.{Contents, Text}
 use Rattle.drawing.specs.declared.drawings.Deed.TheVariants as deed
-use Rattle.drawing.specs.declared.drawings.Held.{Held}
-use Rattle.drawing.specs.declared.drawings.Row.{Row}
+use Rattle.drawing.specs.declared.drawings.RegisterValue.{RegisterValue}
+use Rattle.drawing.specs.declared.drawings.LetterRow.{LetterRow}
 use Rattle.drawing.specs.Cells.{row_text}
 use Rattle.drawing.specs.Choices.{is_told, tells_registers}
 use Rattle.drawing.specs.declared.breadths.Breadth.{Breadth}
 use Rattle.drawing.specs.declared.breadths.Room.TheVariants.{Places, Usual, Whole}
 use Rattle.drawing.specs.DrawingText.{drawing_text, left_out_text}
 use Rattle.drawing.specs.Layout.{columns_shown, written_left_out}
-use Rattle.drawing.specs.Names.{name_in, register_names}
+use Rattle.drawing.specs.RegisterNames.{name_in, register_names}
 use Rattle.drawing.specs.Pictures.{IsPictureOf, Picture, deed_by}
 use Rattle.drawing.specs.Registers.{all_held}
 use Rattle.drawing.specs.Stops.{stop_of, stops_after}
 use Rattle.machine.specs.declared.culprits.Culprit.TheVariants.{Register}
 
-abbrev kept : ℕ → Held
+abbrev kept : ℕ → RegisterValue
 kept value = record { value = value; changed = false }
 
-abbrev changed_to : ℕ → Held
+abbrev changed_to : ℕ → RegisterValue
 changed_to value = record { value = value; changed = true }
 
 -- as broad as usual, with lines of statements or without
@@ -68,7 +68,7 @@ writes_and_reads = record {
 }
 
 -- the row of a letter of a process that stands at its first statement
-abbrev first_row : ℕ → ℕ → Access → List Held → Row
+abbrev first_row : ℕ → ℕ → Access → List RegisterValue → LetterRow
 first_row number process done held = record {
   number = number;
   process = process;
@@ -169,7 +169,7 @@ text_with_lines = refl
 -- ---- a fault
 
 -- a process that scans two registers and names then one that is not there
-abbrev scan_row : Row
+abbrev scan_row : LetterRow
 scan_row = first_row 1 0 (access.Scan 1 2) (kept 0 ∷ kept 7 ∷ kept 12 ∷ [])
 
 abbrev faulty : Picture
@@ -193,7 +193,7 @@ a_scan_from_a_named_register = refl
 -- ---- what is left out
 
 -- the row of a letter of the only process, which takes its statements in turn
-abbrev row_after : ℕ → Access → List Held → Row
+abbrev row_after : ℕ → Access → List RegisterValue → LetterRow
 row_after number done held = record {
   number = number;
   process = 0;

@@ -4,7 +4,7 @@ pub mod DrawingText
 pub mod Examples
 pub mod Labels
 pub mod Layout
-pub mod Names
+pub mod RegisterNames
 pub mod Pictures
 pub mod Registers
 pub mod StatementLineExamples

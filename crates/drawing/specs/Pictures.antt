@@ -19,16 +19,16 @@ use Rattle.machine.specs.declared.stops.Stopped.{Stopped}
 use Rattle.world.specs.Stops.{IsStopped}
 use Rattle.drawing.specs.declared.drawings.Deed.{Deed}
 use Rattle.drawing.specs.declared.drawings.Deed.TheVariants as deed
-use Rattle.drawing.specs.declared.drawings.Held.{Held}
-use Rattle.drawing.specs.declared.drawings.Row.{Row}
+use Rattle.drawing.specs.declared.drawings.RegisterValue.{RegisterValue}
+use Rattle.drawing.specs.declared.drawings.LetterRow.{LetterRow}
 use Rattle.drawing.specs.Registers.{all_held}
 use Rattle.drawing.specs.Stops.{statement_after, stops_after}
 
 -- what registers hold before the first letter, a row a letter, how each process stands after the
 -- last, and where it stops then
 pub record Picture : Type 0 where
-  pub start : List Held
-  pub rows : List Row
+  pub start : List RegisterValue
+  pub rows : List LetterRow
   pub ends : List ProcEnd
   pub stops : List (Option Stopped)
 
@@ -41,7 +41,7 @@ deed_by (letter.Crash p) wanted = Some deed.Crash
 -- the row of a letter that comes after `before`, with the statement at which its process stands
 -- before it
 pub record IsRowOf (source : Contents) (before : Schedule) (letter : Letter)
-    (row : Row) : Type 0 where
+    (row : LetterRow) : Type 0 where
   pub number : row.number ≡ length before + 1
   pub process : row.process ≡ process_of letter
   pub deed :
@@ -52,7 +52,7 @@ pub record IsRowOf (source : Contents) (before : Schedule) (letter : Letter)
   pub statement : row.statement ≡ statement_after source before (process_of letter)
 
 -- a row for each letter of `later`, which comes after `before`
-abbrev pub AreRowsOf : Contents → Schedule → Schedule → List Row → Type 0
+abbrev pub AreRowsOf : Contents → Schedule → Schedule → List LetterRow → Type 0
 AreRowsOf source before [] [] = Unit {0}
 AreRowsOf source before [] (row ∷ rows) = ⊥
 AreRowsOf source before (letter ∷ later) [] = ⊥

@@ -7,9 +7,9 @@ ghost use Rattle.drawing.specs.Cells as texts;
 ghost use Rattle.drawing.specs.Layout.{column_count, line_count};
 
 use crate::cell_bytes::{Cell, MOST_CELL_BYTES};
-use crate::drawings::{Deed, Drawing, Held, Row};
+use crate::drawings::{Deed, Drawing, LetterRow, RegisterValue};
 use crate::labels::{Labels, line_of};
-use crate::names::{MOST_NAME_BYTES, Names};
+use crate::names::{MOST_NAME_BYTES, RegisterNames};
 use regmodel::{Access, End, ProcEnd};
 
 /// The most columns: the letters' numbers, 8 processes and 64 registers.
@@ -17,7 +17,7 @@ pub(crate) const MOST_COLUMNS: usize = 73;
 
 impl Cell {
     /// The same with a register last: its name, or else its number.
-    fn with_place(self, names: &Names<'_>, r: usize) -> Cell
+    fn with_place(self, names: &RegisterNames<'_>, r: usize) -> Cell
         requires room { length self + MOST_NAME_BYTES ≤ MOST_CELL_BYTES }
         requires few { r ≤ 510 }
         ensures text { result ≡ self ++ texts.place_text names.now r }
@@ -31,7 +31,7 @@ impl Cell {
 
     /// The same with the registers of a scan last: the first one, and how many they are; or the
     /// first and the last one, where one of these has a name.
-    fn with_span(self, names: &Names<'_>, first: u8, count: u8) -> Cell
+    fn with_span(self, names: &RegisterNames<'_>, first: u8, count: u8) -> Cell
         requires { length self ≤ 5 }
         ensures text { result ≡ self ++ texts.span_text names.now first count }
         ensures long { length result ≤ length self + 36 }
@@ -51,7 +51,7 @@ impl Cell {
 }
 
 /// What a letter did, after which registers hold this.
-fn deed_cell(names: &Names<'_>, deed: Deed, registers: &[Held]) -> Cell
+fn deed_cell(names: &RegisterNames<'_>, deed: Deed, registers: &[RegisterValue]) -> Cell
     requires { length registers.now ≤ 64 }
     ensures text { result ≡ texts.deed_text names.now registers.now deed }
     ensures long { length result ≤ 748 }
@@ -79,7 +79,7 @@ fn deed_cell(names: &Names<'_>, deed: Deed, registers: &[Held]) -> Cell
 }
 
 /// The same with what a scan of so many registers from the first on finds in them last.
-fn with_scanned(cell: Cell, registers: &[Held], first: usize, count: usize) -> Cell
+fn with_scanned(cell: Cell, registers: &[RegisterValue], first: usize, count: usize) -> Cell
     requires short { length cell ≤ 44 }
     requires few { (length registers.now ≤ 64) × (first ≤ 255) × (count ≤ 255) }
     ensures text { result ≡ cell ++ texts.scanned_text registers.now first count }
@@ -94,7 +94,7 @@ fn with_scanned(cell: Cell, registers: &[Held], first: usize, count: usize) -> C
 }
 
 /// What a scan of so many registers from the first on finds in a register, where it is one of them.
-fn found_cell(registers: &[Held], first: usize, count: usize, r: usize) -> Cell
+fn found_cell(registers: &[RegisterValue], first: usize, count: usize, r: usize) -> Cell
     requires { (first ≤ 255) × (count ≤ 255) }
     ensures text { result ≡ texts.found_text registers.now first count r }
     ensures long { length result ≤ 11 }
@@ -107,7 +107,7 @@ fn found_cell(registers: &[Held], first: usize, count: usize, r: usize) -> Cell
 }
 
 /// What a register holds, behind a space, where it is there.
-fn value_cell(registers: &[Held], r: usize) -> Cell
+fn value_cell(registers: &[RegisterValue], r: usize) -> Cell
     ensures text { result ≡ texts.value_at registers.now r }
     ensures long { length result ≤ 11 }
 {
@@ -118,7 +118,7 @@ fn value_cell(registers: &[Held], r: usize) -> Cell
 }
 
 /// The head of a register's column: its name, or else `r` and its number.
-fn head_cell(names: &Names<'_>, r: u8) -> Cell
+fn head_cell(names: &RegisterNames<'_>, r: u8) -> Cell
     ensures { result ≡ texts.name_or names.now r (codes "r" ++ decimal r) }
 {
     match names.at(usize::from(r)) {
@@ -128,7 +128,7 @@ fn head_cell(names: &Names<'_>, r: u8) -> Cell
 }
 
 /// What a register holds, and a star where the letter changed it.
-fn held_cell(held: Held) -> Cell
+fn held_cell(held: RegisterValue) -> Cell
     ensures { result ≡ texts.held_text held }
 {
     let cell = Cell::new().with_number(held.value);
@@ -181,7 +181,7 @@ fn with_ending(cell: Cell, end: &ProcEnd) -> Cell
 }
 
 /// Whether a letter comes after the one with this number and is one of this process.
-fn is_later(number: u8, process: u8, row: &Row) -> bool
+fn is_later(number: u8, process: u8, row: &LetterRow) -> bool
     ensures { result ≡ texts.is_later number process row.now }
 {
     row.process == process && number < row.number
@@ -189,27 +189,27 @@ fn is_later(number: u8, process: u8, row: &Row) -> bool
 
 /// A line of a drawing.
 #[derive(Clone, Copy)]
-enum Line<'a> {
+enum DrawingLine<'a> {
     /// The header.
     Head,
     /// What stands before the first letter.
     Start,
     /// What one letter did.
-    Row(&'a Row),
+    LetterRow(&'a LetterRow),
     /// The ends.
     End,
 }
 
 /// The text of a line in the column of the letters' numbers, and in that of the lines of their
 /// statements, where these are to be told.
-fn number_cell(labels: &Labels<'_>, line: Line<'_>) -> Cell
+fn number_cell(labels: &Labels<'_>, line: DrawingLine<'_>) -> Cell
     ensures { result ≡ texts.number_cell labels.now.lines (texts.line_of line.entry) }
 {
     match line {
-        Line::Head => numbers_head(labels.lines()),
-        Line::Start => Cell::new().with(b"0"),
-        Line::Row(row) => letter_cell(labels.lines(), row),
-        Line::End => Cell::new(),
+        DrawingLine::Head => numbers_head(labels.lines()),
+        DrawingLine::Start => Cell::new().with(b"0"),
+        DrawingLine::LetterRow(row) => letter_cell(labels.lines(), row),
+        DrawingLine::End => Cell::new(),
     }
 }
 
@@ -225,7 +225,7 @@ fn numbers_head(lines: Option<&[u8]>) -> Cell
 }
 
 /// The number of a letter, and the line of a text with its statement, where that is to be told.
-fn letter_cell(lines: Option<&[u8]>, row: &Row) -> Cell
+fn letter_cell(lines: Option<&[u8]>, row: &LetterRow) -> Cell
     ensures { result ≡ decimal row.now.number
         ++ texts.line_beside (option_map (λ text. text.now) lines.entry) row.now }
 {
@@ -266,15 +266,15 @@ impl Drawing {
     }
 
     /// What a line is.
-    fn line_at(&self, line: usize) -> Line<'_>
+    fn line_at(&self, line: usize) -> DrawingLine<'_>
         ensures { texts.line_of result ≡ texts.line_at self.now line }
     {
         match line {
-            0 => Line::Head,
-            1 => Line::Start,
+            0 => DrawingLine::Head,
+            1 => DrawingLine::Start,
             _ => match self.rows().get(line - 2) {
-                Some(row) => Line::Row(row),
-                None => Line::End,
+                Some(row) => DrawingLine::LetterRow(row),
+                None => DrawingLine::End,
             },
         }
     }
@@ -296,7 +296,7 @@ impl Drawing {
 
     /// What a row's letter did, and where it is the last one of its process, how that came to its
     /// end.
-    fn row_cell(&self, names: &Names<'_>, row: &Row) -> Cell
+    fn row_cell(&self, names: &RegisterNames<'_>, row: &LetterRow) -> Cell
         ensures { result ≡ texts.row_text names.now self.now row.now }
     {
         let cell = deed_cell(names, row.deed, row.registers.as_slice());
@@ -310,7 +310,7 @@ impl Drawing {
     }
 
     /// Whether no later letter is one of the same process.
-    fn is_last(&self, row: &Row) -> bool
+    fn is_last(&self, row: &LetterRow) -> bool
         ensures { result ≡ texts.is_last self.now.rows row.now }
     {
         !self.has_later(row.number, row.process)
@@ -324,14 +324,14 @@ impl Drawing {
     }
 
     /// The text of a line in the column of a process.
-    fn process_cell(&self, names: &Names<'_>, line: Line<'_>, p: u8) -> Cell
+    fn process_cell(&self, names: &RegisterNames<'_>, line: DrawingLine<'_>, p: u8) -> Cell
         ensures { result ≡ texts.process_cell names.now self.now p (texts.line_of line.entry) }
     {
         match line {
-            Line::Head => Cell::new().with(b"process ").with_number(u32::from(p)),
-            Line::Row(row) if row.process == p => self.row_cell(names, row),
-            Line::Start | Line::Row(_) => Cell::new(),
-            Line::End => match self.outcome().ends().get(usize::from(p)) {
+            DrawingLine::Head => Cell::new().with(b"process ").with_number(u32::from(p)),
+            DrawingLine::LetterRow(row) if row.process == p => self.row_cell(names, row),
+            DrawingLine::Start | DrawingLine::LetterRow(_) => Cell::new(),
+            DrawingLine::End => match self.outcome().ends().get(usize::from(p)) {
                 Some(end) => end_cell(end),
                 None => Cell::new(),
             },
@@ -339,15 +339,15 @@ impl Drawing {
     }
 
     /// The text of a line in the column of a register.
-    fn register_cell(&self, names: &Names<'_>, line: Line<'_>, r: u8) -> Cell
+    fn register_cell(&self, names: &RegisterNames<'_>, line: DrawingLine<'_>, r: u8) -> Cell
         ensures { result ≡ texts.register_cell names.now self.now.start r
             (texts.line_of line.entry) }
     {
         let registers = match line {
-            Line::Head => return head_cell(names, r),
-            Line::Start => self.start(),
-            Line::Row(row) => &row.registers,
-            Line::End => return Cell::new(),
+            DrawingLine::Head => return head_cell(names, r),
+            DrawingLine::Start => self.start(),
+            DrawingLine::LetterRow(row) => &row.registers,
+            DrawingLine::End => return Cell::new(),
         };
         match registers.get(usize::from(r)) {
             Some(held) => held_cell(*held),

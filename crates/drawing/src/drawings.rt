@@ -60,7 +60,7 @@ impl Deed {
 
 /// What a register holds after a letter, and whether it held another value before it.
 #[derive(Clone, Copy, Default, PartialEq, Eq, Debug)]
-pub struct Held {
+pub struct RegisterValue {
     /// The value.
     pub value: u32,
     /// Whether the letter changed it.
@@ -69,7 +69,7 @@ pub struct Held {
 
 /// What is drawn of one letter.
 #[derive(Default, Debug, Drop)]
-pub struct Row {
+pub struct LetterRow {
     /// Which letter it is, the first one 1.
     pub number: u8,
     /// The process whose letter it is.
@@ -80,15 +80,15 @@ pub struct Row {
     /// from 0; that of a use line is 0.
     pub statement: Option<usize>,
     /// What each register holds after it, registers from 0.
-    pub registers: ArrayVec<Held, 64>,
+    pub registers: ArrayVec<RegisterValue, 64>,
 }
 
 /// What is drawn of a schedule: what each register holds before its first letter, a row a letter,
 /// how each process stands after the last one, and where it stops in its own text then.
 #[derive(Debug, Drop)]
 pub struct Drawing {
-    start: ArrayVec<Held, 64>,
-    rows: ArrayVec<Row, 64>,
+    start: ArrayVec<RegisterValue, 64>,
+    rows: ArrayVec<LetterRow, 64>,
     outcome: Outcome,
     stops: ArrayVec<Option<Stopped>, 8>,
 }
@@ -115,8 +115,8 @@ impl Drawing {
 
     /// The drawing of these parts.
     pub(crate) fn new(
-        start: ArrayVec<Held, 64>,
-        rows: ArrayVec<Row, 64>,
+        start: ArrayVec<RegisterValue, 64>,
+        rows: ArrayVec<LetterRow, 64>,
         outcome: Outcome,
         stops: ArrayVec<Option<Stopped>, 8>,
     ) -> Drawing
@@ -137,14 +137,14 @@ impl Drawing {
     }
 
     /// What each register holds before the first letter, registers from 0.
-    pub(crate) fn start(&self) -> &ArrayVec<Held, 64>
+    pub(crate) fn start(&self) -> &ArrayVec<RegisterValue, 64>
         ensures { result.now.items ≡ self.now.start }
     {
         &self.start
     }
 
     /// What is drawn of each letter.
-    pub(crate) fn rows(&self) -> &ArrayVec<Row, 64>
+    pub(crate) fn rows(&self) -> &ArrayVec<LetterRow, 64>
         ensures { result.now.items ≡ self.now.rows }
     {
         &self.rows

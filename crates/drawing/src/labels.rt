@@ -3,8 +3,8 @@
 ghost use Rattle.std.specs.Prelude.{◌≡◌, ◌≤◌, option_map};
 ghost use Rattle.drawing.specs.Labels as spec;
 
-use crate::drawings::Row;
-use crate::names::Names;
+use crate::drawings::LetterRow;
+use crate::names::RegisterNames;
 use crate::statement_lines::statement_line;
 use explanations::origin_of;
 use std::marker::Model;
@@ -12,7 +12,7 @@ use std::marker::Model;
 /// A name for each register, where it has one; and the text, where lines of it are to be told.
 #[derive(Drop)]
 pub(crate) struct Labels<'a> {
-    names: Names<'a>,
+    names: RegisterNames<'a>,
     lines: Option<&'a [u8]>,
 }
 
@@ -32,13 +32,13 @@ impl<'a> Labels<'a> {
         ensures { result ≡ spec.labels_of text.now count tells_lines }
     {
         Labels {
-            names: Names::told(text, count),
+            names: RegisterNames::told(text, count),
             lines: if tells_lines { Some(text) } else { None },
         }
     }
 
     /// The names.
-    pub(crate) fn names(&self) -> &Names<'a>
+    pub(crate) fn names(&self) -> &RegisterNames<'a>
         ensures { result.now ≡ self.now.names }
     {
         &self.names
@@ -54,7 +54,7 @@ impl<'a> Labels<'a> {
 
 /// The number that a text tells of the line with the statement that took a letter. None for a
 /// crash.
-pub(crate) fn line_of(text: &[u8], row: &Row) -> Option<u64>
+pub(crate) fn line_of(text: &[u8], row: &LetterRow) -> Option<u64>
     ensures { result ≡ spec.letter_line text.now row.now }
 {
     if row.deed.is_crash() {

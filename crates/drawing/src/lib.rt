@@ -20,6 +20,6 @@ mod writing;
 pub use breadths::{Breadth, Room};
 pub use choices::tells_registers;
 pub use deeds::draw;
-pub use drawings::{Deed, Drawing, Held, Row};
+pub use drawings::{Deed, Drawing, LetterRow, RegisterValue};
 pub use statement_lines::statement_line;
 pub use writing::Drawn;

@@ -2,7 +2,7 @@
 
 ghost use Rattle.std.specs.Prelude.{◌≡◌, ◌≤◌, length, option_map};
 ghost use Rattle.reglang.specs.Lines.{lines, words};
-ghost use Rattle.drawing.specs.Names as spec;
+ghost use Rattle.drawing.specs.RegisterNames as spec;
 ghost use Rattle.drawing.specs.declared.names.TheConstants.{MOST_NAME_BYTES};
 
 use crate::cell_bytes::Cell;
@@ -22,22 +22,22 @@ pub(crate) struct Name<'a> {
 
 /// A name for each register, where it has one, registers from 0.
 #[derive(Drop)]
-pub(crate) struct Names<'a> {
+pub(crate) struct RegisterNames<'a> {
     names: ArrayVec<Option<Name<'a>>, 64>,
 }
 
-impl<'a> Model for Names<'a> {
+impl<'a> Model for RegisterNames<'a> {
     ghost use Rattle.std.specs.Prelude.{map, option_map};
-    ghost use Rattle.drawing.specs.Names as spec;
+    ghost use Rattle.drawing.specs.RegisterNames as spec;
 
-    ghost Value = { spec.Names };
+    ghost Value = { spec.RegisterNames };
 
     ghost view = { λ n. map (option_map (λ name. name.bytes.now)) n.names.items };
 }
 
-impl<'a> Names<'a> {
+impl<'a> RegisterNames<'a> {
     /// The names that a text gives so many registers.
-    pub(crate) fn told(text: &'a [u8], count: usize) -> Names<'a>
+    pub(crate) fn told(text: &'a [u8], count: usize) -> RegisterNames<'a>
         requires { count ≤ 64 }
         ensures { result ≡ spec.register_names text.now count }
     {
@@ -45,7 +45,7 @@ impl<'a> Names<'a> {
         for r in 0..count {
             names.push(name_told(text, r as u32));
         }
-        Names { names }
+        RegisterNames { names }
     }
 
     /// The name of a register, where it has one.

@@ -1,6 +1,6 @@
 //! On which line of a text a process has a statement.
 
-ghost use Rattle.std.specs.Prelude.{◌≡◌, ◌<◌, ◌+◌, ◌==◌, ◌≤◌, ◌&&◌};
+ghost use Rattle.std.specs.Prelude.{◌≡◌, ◌<◌, ◌+◌, ◌-◌, ◌^◌, ◌==◌, ◌≤◌, ◌&&◌};
 ghost use Rattle.drawing.specs.StatementLines as spec;
 ghost use Rattle.reglang.specs.Forms as forms;
 
@@ -60,7 +60,7 @@ fn is_statement(line: Line) -> bool
 
 /// How many processes have begun with a line, where so many had before it.
 fn begun_with(line: &[u8], begun: u64) -> u64
-    requires { begun < 18446744073709551615 }
+    requires { begun < 2 ^ 64 - 1 }
     ensures value { result ≡ spec.begun_with (forms.read_line line.now) begun }
     ensures few { result ≤ begun + 1 }
 {

@@ -1,4 +1,4 @@
-//! The lines of a drawing, in columns.
+//! The lines of a drawing, in columns, and its last line: how many registers are left out.
 
 ghost use Rattle.std.specs.Prelude.{◌≤◌, ◌<◌, All, length};
 ghost use Rattle.drawing.specs.DrawingText.{left_out_text, table_line, table_lines, table_text, written_text};

@@ -6,7 +6,7 @@ use Rattle.explanations.specs.Misplaced.{end_words, place_words}
 use Rattle.explanations.specs.PassedLimits.{limit_of}
 use Rattle.explanations.specs.Wording.{is_end, is_line}
 use Rattle.explanations.specs.declared.open_blocks.Opened.{Opened}
-use Rattle.explanations.specs.declared.wording.Culprit.{Culprit}
+use Rattle.explanations.specs.declared.wording.TextCulprit.{TextCulprit}
 use Rattle.reglang.specs.Lines.{words}
 use Rattle.reglang.specs.declared.refusals.LineFault.{LineFault}
 use Rattle.reglang.specs.declared.refusals.LineFault.TheVariants as fault
@@ -15,19 +15,19 @@ use Rattle.reglang.specs.declared.refusals.LineRefusal.TheVariants.{Fault, Memor
 use Rattle.reglang.specs.declared.words.Word.{Word}
 
 -- what to change where the end of a text is misplaced, or a line with this first word
-abbrev pub move_words : Culprit → Word → Option Opened → List ℕ
+abbrev pub move_words : TextCulprit → Word → Option Opened → List ℕ
 move_words culprit first opened =
     if is_end culprit then end_words opened else place_words first opened
 
 -- what to change where a limit is passed
-abbrev pub stay_words : Culprit → List (List ℕ) → List ℕ
+abbrev pub stay_words : TextCulprit → List (List ℕ) → List ℕ
 stay_words culprit line =
     if is_line culprit then limit_of line else
     (if is_end culprit then codes "write at least one process"
     else codes "write a number up to 1000000000")
 
 -- what to change in a line with this fault, where this is at fault and this block is open
-abbrev pub fault_advice : LineFault → Culprit → List (List ℕ) → Option Opened → List ℕ
+abbrev pub fault_advice : LineFault → TextCulprit → List (List ℕ) → Option Opened → List ℕ
 fault_advice fault.NotPrintable culprit line opened =
     codes "use spaces, and no other bytes than those from space to ~; end each line with a line feed alone"
 fault_advice fault.UnknownWord culprit line opened = hint_of line
@@ -40,10 +40,10 @@ fault_advice fault.NoRegisters culprit line opened = codes "begin with a line re
 fault_advice fault.NoClause culprit line opened = wanted_form line
 
 -- the same where the line is refused so
-abbrev pub advice_words : LineRefusal → Culprit → List (List ℕ) → Option Opened → List ℕ
+abbrev pub advice_words : LineRefusal → TextCulprit → List (List ℕ) → Option Opened → List ℕ
 advice_words (Fault fault) culprit line opened = fault_advice fault culprit line opened
 advice_words Memory culprit line opened = codes "try again with more memory"
 
 -- what to change
-abbrev pub advice_text : LineRefusal → Culprit → List ℕ → Option Opened → List ℕ
+abbrev pub advice_text : LineRefusal → TextCulprit → List ℕ → Option Opened → List ℕ
 advice_text refusal culprit line opened = advice_words refusal culprit (words line) opened

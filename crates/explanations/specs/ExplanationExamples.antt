@@ -7,7 +7,7 @@ use Rattle.explanations.specs.Misfits.{word_at_fault}
 use Rattle.explanations.specs.Misplaced.{place_words}
 use Rattle.explanations.specs.Nearest.{nearest}
 use Rattle.explanations.specs.OpenBlocks.{innermost, open_after}
-use Rattle.explanations.specs.declared.open_blocks.Block.TheVariants as block
+use Rattle.explanations.specs.declared.open_blocks.BlockKind.TheVariants as block
 use Rattle.reglang.specs.Lines.{words}
 use Rattle.reglang.specs.declared.refusals.LineFault.{LineFault}
 use Rattle.reglang.specs.declared.refusals.LineFault.TheVariants as fault

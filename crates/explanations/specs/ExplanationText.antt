@@ -7,8 +7,8 @@ use Rattle.explanations.specs.Origins.{line_told, path_told}
 use Rattle.explanations.specs.Wording.{wrong_text}
 use Rattle.explanations.specs.declared.open_blocks.Opened.{Opened}
 use Rattle.explanations.specs.Misfits.{word_at_fault}
-use Rattle.explanations.specs.declared.wording.Culprit.{Culprit}
-use Rattle.explanations.specs.declared.wording.Culprit.TheVariants.{End, Line, Word}
+use Rattle.explanations.specs.declared.wording.TextCulprit.{TextCulprit}
+use Rattle.explanations.specs.declared.wording.TextCulprit.TheVariants.{End, Line, Word}
 use Rattle.reglang.specs.Checks.{line_at}
 use Rattle.reglang.specs.declared.refusals.LineFault.TheVariants as fault
 use Rattle.reglang.specs.declared.refusals.LineRefusal.{LineRefusal}
@@ -18,7 +18,7 @@ use Rattle.explanations.specs.Shown.{is_shown, printable_text, shown}
 
 -- what is at fault: the end of the text where it is told to be, else a word of the line where there
 -- is one, else the line
-abbrev pub culprit_of : Rejection → List ℕ → Culprit
+abbrev pub culprit_of : Rejection → List ℕ → TextCulprit
 culprit_of rejection line =
     if rejection.is_of_end then End
     else (if is_some (word_at_fault rejection.refusal line) then Word else Line)

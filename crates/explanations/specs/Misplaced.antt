@@ -1,9 +1,9 @@
 -- What to change in a line that cannot stand where it is, and where a text ends within a process.
 use Rattle.std.specs.Prelude.{ℕ, List, [], ◌++◌, Option, Some, None, codes, decimal}
-use Rattle.explanations.specs.declared.misplaced.Place.{Place}
-use Rattle.explanations.specs.declared.misplaced.Place.TheVariants as place
-use Rattle.explanations.specs.declared.open_blocks.Block.{Block}
-use Rattle.explanations.specs.declared.open_blocks.Block.TheVariants as block
+use Rattle.explanations.specs.declared.misplaced.MisplacedLine.{MisplacedLine}
+use Rattle.explanations.specs.declared.misplaced.MisplacedLine.TheVariants as place
+use Rattle.explanations.specs.declared.open_blocks.BlockKind.{BlockKind}
+use Rattle.explanations.specs.declared.open_blocks.BlockKind.TheVariants as block
 use Rattle.explanations.specs.declared.open_blocks.Opened.{Opened}
 use Rattle.reglang.specs.Spelling.{keyword_text}
 use Rattle.reglang.specs.declared.vocabulary.Keyword.{Keyword}
@@ -12,13 +12,13 @@ use Rattle.reglang.specs.declared.words.Word.{Word}
 use Rattle.reglang.specs.declared.words.Word.TheVariants as word
 
 -- the first word of the line that opens a block
-abbrev pub opener : Block → Keyword
+abbrev pub opener : BlockKind → Keyword
 opener block.Process = keyword.Process
 opener block.If = keyword.If
 opener block.Repeat = keyword.Repeat
 
 -- the first word of the line that closes it
-abbrev pub closer : Block → Keyword
+abbrev pub closer : BlockKind → Keyword
 closer block.Process = keyword.End
 closer block.If = keyword.Fi
 closer block.Repeat = keyword.Done
@@ -30,7 +30,7 @@ open_text opened =
     ++ codes " is open here, and " ++ keyword_text (closer opened.block) ++ codes " closes it"
 
 -- that no such block is open
-abbrev pub no_block_text : Block → List ℕ
+abbrev pub no_block_text : BlockKind → List ℕ
 no_block_text block = codes "no " ++ keyword_text (opener block) ++ codes " is open here"
 
 -- that an if has an else, at this line
@@ -43,21 +43,21 @@ maybe_else_text (Some line) = else_text line
 maybe_else_text None = []
 
 -- a place, in words
-abbrev pub place_text : Place → List ℕ
+abbrev pub place_text : MisplacedLine → List ℕ
 place_text (place.Words words) = words.now
 place_text (place.Close opened) = open_text opened
 place_text (place.NoBlock block) = no_block_text block
 place_text (place.SecondElse line) = else_text line
 
 -- of a line that closes a block of the first kind, or parts it, where one of the second is open
-abbrev pub closing_in : Block → Block → Opened → List ℕ
+abbrev pub closing_in : BlockKind → BlockKind → Opened → List ℕ
 closing_in block.If block.If opened = maybe_else_text opened.else_line
 closing_in block.If block.Process opened = no_block_text block.If
 closing_in block.Repeat block.Process opened = no_block_text block.Repeat
 closing_in closed block opened = open_text opened
 
 -- the same where this block is open, or none is
-abbrev pub closing_words : Block → Option Opened → List ℕ
+abbrev pub closing_words : BlockKind → Option Opened → List ℕ
 closing_words closed (Some opened) = closing_in closed opened.block opened
 closing_words closed None = no_block_text closed
 

@@ -1,6 +1,6 @@
 -- The blocks that are open where a line stands.
 use Rattle.std.specs.Prelude.{ℕ, suc, ◌-◌, if◌then◌else◌, List, [], ◌∷◌, ◌++◌, Option, Some, None, Result, Ok, length, nat_lt, slice_get, take}
-use Rattle.explanations.specs.declared.open_blocks.Block.TheVariants as block
+use Rattle.explanations.specs.declared.open_blocks.BlockKind.TheVariants as block
 use Rattle.explanations.specs.declared.open_blocks.Opened.{Opened}
 use Rattle.explanations.specs.declared.open_blocks.TheConstants.{MOST_OPEN}
 use Rattle.reglang.specs.Lines.{lines}

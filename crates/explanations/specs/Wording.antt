@@ -5,25 +5,25 @@ use Rattle.explanations.specs.Misplaced.{place_text}
 use Rattle.explanations.specs.Nearest.{meant_text}
 use Rattle.explanations.specs.declared.wording.Change.{Change}
 use Rattle.explanations.specs.declared.wording.Change.TheVariants.{Words, Form, Own, Meant, Move}
-use Rattle.explanations.specs.declared.wording.Culprit.{Culprit}
-use Rattle.explanations.specs.declared.wording.Culprit.TheVariants as culprit
+use Rattle.explanations.specs.declared.wording.TextCulprit.{TextCulprit}
+use Rattle.explanations.specs.declared.wording.TextCulprit.TheVariants as culprit
 use Rattle.reglang.specs.declared.refusals.LineFault.{LineFault}
 use Rattle.reglang.specs.declared.refusals.LineFault.TheVariants as fault
 use Rattle.reglang.specs.declared.refusals.LineRefusal.{LineRefusal}
 use Rattle.reglang.specs.declared.refusals.LineRefusal.TheVariants.{Fault, Memory}
 
 -- whether a word is at fault
-abbrev pub is_word : Culprit → Bool
+abbrev pub is_word : TextCulprit → Bool
 is_word culprit.Word = true
 is_word _ = false
 
 -- whether the line is
-abbrev pub is_line : Culprit → Bool
+abbrev pub is_line : TextCulprit → Bool
 is_line culprit.Line = true
 is_line _ = false
 
 -- whether the end of the text is
-abbrev pub is_end : Culprit → Bool
+abbrev pub is_end : TextCulprit → Bool
 is_end culprit.End = true
 is_end _ = false
 
@@ -36,7 +36,7 @@ told_text (Meant near) = meant_text near.0
 told_text (Move place) = place_text place
 
 -- what is wrong with a line or an end that has this fault, where this is at fault
-abbrev pub fault_words : LineFault → Culprit → List ℕ
+abbrev pub fault_words : LineFault → TextCulprit → List ℕ
 fault_words fault.NotPrintable culprit =
     codes "a byte that is not printable ASCII, such as a tab or the carriage return of a Windows line end"
 fault_words fault.UnknownWord culprit = codes "an unknown word"
@@ -57,6 +57,6 @@ fault_words fault.NoClause culprit =
     else codes "a word is missing at the end of the clause"
 
 -- what is wrong with a text that is refused so
-abbrev pub wrong_text : LineRefusal → Culprit → List ℕ
+abbrev pub wrong_text : LineRefusal → TextCulprit → List ℕ
 wrong_text (Fault fault) culprit = fault_words fault culprit
 wrong_text Memory culprit = codes "memory ran out at this line"

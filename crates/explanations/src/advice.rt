@@ -7,16 +7,16 @@ ghost use Rattle.reglang.specs.Lines.{words};
 
 use crate::hints::hint_of;
 use crate::line_forms::{first_of, form_of};
-use crate::misplaced::{Place, end_place, place_of};
+use crate::misplaced::{MisplacedLine, end_place, place_of};
 use crate::open_blocks::Opened;
 use crate::passed_limits::limit_of;
-use crate::wording::{Change, Culprit};
+use crate::wording::{Change, TextCulprit};
 use reglang::{LineFault, LineRefusal, Word};
 use std::io::Write;
 use texts::{Block, Text, WriteFault};
 
 /// What to change where the end of a text is misplaced, or a line with this first word.
-fn move_of(culprit: Culprit, first: Word, opened: Option<Opened>) -> Place
+fn move_of(culprit: TextCulprit, first: Word, opened: Option<Opened>) -> MisplacedLine
     ensures { place_text result ≡ spec.move_words culprit first opened }
 {
     if culprit.is_end() {
@@ -27,7 +27,7 @@ fn move_of(culprit: Culprit, first: Word, opened: Option<Opened>) -> Place
 }
 
 /// What to change where a limit is passed.
-fn stay_words(culprit: Culprit, line: &[u8]) -> &'static str
+fn stay_words(culprit: TextCulprit, line: &[u8]) -> &'static str
     ensures { result.now ≡ spec.stay_words culprit (words line.now) }
 {
     if culprit.is_line() {
@@ -43,7 +43,7 @@ fn stay_words(culprit: Culprit, line: &[u8]) -> &'static str
 #[derive(Clone, Copy)]
 pub(crate) struct Advice<'a> {
     pub(crate) refusal: LineRefusal,
-    pub(crate) culprit: Culprit,
+    pub(crate) culprit: TextCulprit,
     pub(crate) line: &'a [u8],
     pub(crate) opened: Option<Opened>,
 }

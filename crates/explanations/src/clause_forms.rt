@@ -62,9 +62,9 @@ fn put_clauses<W: Write>(
 
 /// The clauses of these properties.
 #[derive(Clone, Copy)]
-struct Clauses<'a>(&'a [Property]);
+struct ClausesText<'a>(&'a [Property]);
 
-impl Text for Clauses<'_> {
+impl Text for ClausesText<'_> {
     ghost text = { λ clauses. spec.clauses_listed clauses.0.now };
 
     fn put<W: Write>(&self, out: &mut W, block: &mut Block) -> Result<(), WriteFault> {
@@ -86,7 +86,7 @@ impl Text for CheckForm {
                 let (_, ranges) = numbers_after(property);
                 ("check ", clause, ranges).put(out, block)
             }
-            None => ("check CLAUSE; the clauses are ", Clauses(&PROPERTIES)).put(out, block),
+            None => ("check CLAUSE; the clauses are ", ClausesText(&PROPERTIES)).put(out, block),
         }
     }
 }

@@ -1,4 +1,4 @@
-//! The form of a line, in words.
+//! The form of a line, in words, and lines as examples.
 
 ghost use Rattle.std.specs.Prelude.{◌≡◌};
 ghost use Rattle.explanations.specs.LineForms as spec;

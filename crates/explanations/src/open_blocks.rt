@@ -12,7 +12,7 @@ pub(crate) const MOST_OPEN: usize = 17;
 
 /// What a line opens.
 #[derive(Clone, Copy, PartialEq, Eq, Debug, Default)]
-pub(crate) enum Block {
+pub(crate) enum BlockKind {
     #[default]
     Process,
     If,
@@ -23,7 +23,7 @@ pub(crate) enum Block {
 #[derive(Clone, Copy, PartialEq, Eq, Debug, Default)]
 pub(crate) struct Opened {
     /// What it is.
-    pub(crate) block: Block,
+    pub(crate) block: BlockKind,
     /// The number of the line that opened it, counted from 1.
     pub(crate) line: u64,
     /// The number of the line of its `else`, where it has one.
@@ -31,17 +31,17 @@ pub(crate) struct Opened {
 }
 
 /// The blocks that are open, the innermost one last.
-type Open = ArrayVec<Opened, MOST_OPEN>;
+type OpenedBlocks = ArrayVec<Opened, MOST_OPEN>;
 
 /// Opens one more block.
-fn open_one(blocks: &mut Open, opened: Opened)
+fn open_one(blocks: &mut OpenedBlocks, opened: Opened)
     ensures { blocks.new.items ≡ spec.with_one blocks.old.items opened }
 {
     let _ = blocks.try_push(opened);
 }
 
 /// A block that a line with this number opens.
-fn opened_at(block: Block, line: u64) -> Opened
+fn opened_at(block: BlockKind, line: u64) -> Opened
     ensures { result ≡ record { block = block; line = line; else_line = None } }
 {
     Opened {
@@ -52,7 +52,7 @@ fn opened_at(block: Block, line: u64) -> Opened
 }
 
 /// Notes that the innermost block has its `else` at the line with this number.
-fn note_else(blocks: &mut Open, number: u64)
+fn note_else(blocks: &mut OpenedBlocks, number: u64)
     ensures { blocks.new.items
         ≡ spec.past_else number (spec.innermost blocks.old.items) blocks.old.items }
 {
@@ -71,20 +71,20 @@ fn note_else(blocks: &mut Open, number: u64)
 }
 
 /// Closes the innermost block.
-fn close_one(blocks: &mut Open)
+fn close_one(blocks: &mut OpenedBlocks)
     ensures { blocks.new.items ≡ spec.without_one blocks.old.items }
 {
     let _ = blocks.pop();
 }
 
 /// Goes on past the line with this number.
-fn go_past(blocks: &mut Open, number: u64, line: &[u8])
+fn go_past(blocks: &mut OpenedBlocks, number: u64, line: &[u8])
     ensures { blocks.new.items ≡ spec.open_past number (read_line line.now) blocks.old.items }
 {
     match read_line(line) {
-        Ok(Some(Line::Process)) => open_one(blocks, opened_at(Block::Process, number)),
-        Ok(Some(Line::If(_))) => open_one(blocks, opened_at(Block::If, number)),
-        Ok(Some(Line::Repeat(_))) => open_one(blocks, opened_at(Block::Repeat, number)),
+        Ok(Some(Line::Process)) => open_one(blocks, opened_at(BlockKind::Process, number)),
+        Ok(Some(Line::If(_))) => open_one(blocks, opened_at(BlockKind::If, number)),
+        Ok(Some(Line::Repeat(_))) => open_one(blocks, opened_at(BlockKind::Repeat, number)),
         Ok(Some(Line::Else)) => note_else(blocks, number),
         Ok(Some(Line::End | Line::Fi | Line::Done)) => close_one(blocks),
         _ => {}
@@ -95,7 +95,7 @@ fn go_past(blocks: &mut Open, number: u64, line: &[u8])
 pub(crate) fn open_block(text: &[u8], count: u64) -> Option<Opened>
     ensures { result ≡ spec.innermost (spec.open_after count text.now) }
 {
-    let mut blocks = Open::new();
+    let mut blocks = OpenedBlocks::new();
     let mut number = 0;
     let mut rest = text;
     while let Some((line, after)) = split_line(rest) {

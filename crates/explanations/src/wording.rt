@@ -1,10 +1,10 @@
-//! The words in which a refused source is explained.
+//! In words, what is at fault in a refused source, what is wrong with it, and what to change.
 
 ghost use Rattle.std.specs.Prelude.{◌≡◌};
 ghost use Rattle.explanations.specs.Wording.{fault_words, wrong_text};
 
 use crate::line_forms::{FORM_LEAD, Form, OwnLine};
-use crate::misplaced::Place;
+use crate::misplaced::MisplacedLine;
 use crate::nearest::Meant;
 use reglang::{LineFault, LineRefusal};
 use std::io::Write;
@@ -12,7 +12,7 @@ use texts::{Block, Text, WriteFault};
 
 /// What is at fault in a refused text.
 #[derive(Clone, Copy, PartialEq, Eq, Debug)]
-pub(crate) enum Culprit {
+pub(crate) enum TextCulprit {
     /// A word of the line.
     Word,
     /// The line, and none of its words.
@@ -21,28 +21,28 @@ pub(crate) enum Culprit {
     End,
 }
 
-impl Culprit {
+impl TextCulprit {
     ghost use Rattle.explanations.specs.Wording as spec;
 
     /// Whether it is a word.
     fn is_word(self) -> bool
         ensures { result ≡ spec.is_word self }
     {
-        matches!(self, Culprit::Word)
+        matches!(self, TextCulprit::Word)
     }
 
     /// Whether it is the line.
     pub(crate) fn is_line(self) -> bool
         ensures { result ≡ spec.is_line self }
     {
-        matches!(self, Culprit::Line)
+        matches!(self, TextCulprit::Line)
     }
 
     /// Whether it is the end of the text.
     pub(crate) fn is_end(self) -> bool
         ensures { result ≡ spec.is_end self }
     {
-        matches!(self, Culprit::End)
+        matches!(self, TextCulprit::End)
     }
 }
 
@@ -58,7 +58,7 @@ pub(crate) enum Change {
     /// This first word may be meant.
     Meant(Meant),
     /// It cannot stand where it is.
-    Move(Place),
+    Move(MisplacedLine),
 }
 
 impl Text for Change {
@@ -78,7 +78,7 @@ impl Text for Change {
 }
 
 /// What is wrong with a text that is refused so.
-pub(crate) fn what_is_wrong(refusal: LineRefusal, culprit: Culprit) -> &'static str
+pub(crate) fn what_is_wrong(refusal: LineRefusal, culprit: TextCulprit) -> &'static str
     ensures { result.now ≡ wrong_text refusal culprit }
 {
     match refusal {
@@ -88,7 +88,7 @@ pub(crate) fn what_is_wrong(refusal: LineRefusal, culprit: Culprit) -> &'static 
 }
 
 /// What is wrong with a line or an end that has this fault.
-fn fault_words(fault: LineFault, culprit: Culprit) -> &'static str
+fn fault_words(fault: LineFault, culprit: TextCulprit) -> &'static str
     ensures { result.now ≡ fault_words fault culprit }
 {
     let named = culprit.is_word();

@@ -1,4 +1,4 @@
-//! What is wrong with a source that is refused, in words for a person. No call takes memory.
+//! The whole explanation of a source that is refused, line by line. No call takes memory.
 
 ghost use Rattle.std.specs.Prelude.{◌≡◌, ◌<◌, IfSome, length, not};
 ghost use Rattle.std.specs.List.{position};
@@ -13,7 +13,7 @@ use crate::lines::shown_line;
 use crate::misfits::word_at_fault;
 use crate::open_blocks::{Opened, open_block};
 use crate::origins::origin_of;
-use crate::wording::{Culprit, what_is_wrong};
+use crate::wording::{TextCulprit, what_is_wrong};
 use reglang::{LineFault, LineRefusal, Rejection};
 use std::io::Write;
 use texts::{Block, Text, WriteFault, write};
@@ -162,15 +162,15 @@ fn first_unshown(line: &[u8]) -> Option<usize>
 
 /// What is at fault: the end of the text where it is told to be, else a word of the line where
 /// there is one, else the line.
-fn culprit_of(rejection: &Rejection, line: &[u8]) -> Culprit
+fn culprit_of(rejection: &Rejection, line: &[u8]) -> TextCulprit
     ensures { result ≡ spec.culprit_of rejection.now line.now }
 {
     if rejection.is_of_end {
-        return Culprit::End;
+        return TextCulprit::End;
     }
     match word_at_fault(line, rejection.refusal) {
-        Some(_) => Culprit::Word,
-        None => Culprit::Line,
+        Some(_) => TextCulprit::Word,
+        None => TextCulprit::Line,
     }
 }
 

@@ -15,8 +15,8 @@ use Rattle.machine.specs.Stores.{reply_stored}
 use Rattle.machine.specs.declared.run.Arm.{Arm}
 use Rattle.machine.specs.declared.run.BlockExit.{BlockExit}
 use Rattle.machine.specs.declared.run.Frame.{Frame}
-use Rattle.machine.specs.declared.run.Part.{Part}
-use Rattle.machine.specs.declared.run.Part.TheVariants.{At, Turn, Within}
+use Rattle.machine.specs.declared.run.StmtPart.{StmtPart}
+use Rattle.machine.specs.declared.run.StmtPart.TheVariants.{At, Turn, Within}
 use Rattle.machine.specs.declared.run.StmtExit.{StmtExit}
 use Rattle.machine.specs.declared.values.Destination.{Destination}
 use Rattle.machine.specs.declared.run.StmtExit.TheVariants as stmt
@@ -33,7 +33,7 @@ resume-ended n depth body x frames fs d old new replies s rest result ended shor
     ∙ ap (λ r. stmt_flow (Ok r) n fs (with_stmt x rest) rest new s) is
 
 -- past an access whose reply was stored the statements behind it are run
-pub access_ended : (part : Part) (access : Access) (to : Destination) (n : ℕ) (older fs : List Frame) (x : Stmt) (rest : Block) (old new : Env) (reply : Reply) → part ≡ At access to → reply_stored to old reply ≡ new
+pub access_ended : (part : StmtPart) (access : Access) (to : Destination) (n : ℕ) (older fs : List Frame) (x : Stmt) (rest : Block) (old new : Env) (reply : Reply) → part ≡ At access to → reply_stored to old reply ≡ new
     → StmtRunsTo (λ s. part_flow part n (with_stmt x rest) (resume n older) old (reply ∷ s)) (Ok stmt.GoesOn) n fs (with_stmt x rest) rest new
 access_ended part access to n older fs x rest old new reply is same = record {
   flow = λ s.
@@ -44,7 +44,7 @@ access_ended part access to n older fs x rest old new reply is same = record {
 }
 
 -- a turn of a `repeat` that was resumed, by how it ended, and the turns and statements behind it
-pub turn_ended : (part : Part) (left n : ℕ) (older fs : List Frame) (x : Stmt) (count : Expr) (row rest : Block) (old new : Env) (replies s : Replies) (result ended : BlockExit) → part ≡ Turn left → with_stmt x rest ≡ program.Repeat count row rest
+pub turn_ended : (part : StmtPart) (left n : ℕ) (older fs : List Frame) (x : Stmt) (count : Expr) (row rest : Block) (old new : Env) (replies s : Replies) (result ended : BlockExit) → part ≡ Turn left → with_stmt x rest ≡ program.Repeat count row rest
     → resume n older row old replies ≡ block_flow (Ok result) n fs row new s → result ≡ ended
     → part_flow part n (with_stmt x rest) (resume n older) old replies ≡ then_do (then_do (block_flow (Ok ended) n fs row new s) (times left (exec row n))) (exec rest n)
 turn_ended part left n older fs x count row rest old new replies s result ended here seen flow is =

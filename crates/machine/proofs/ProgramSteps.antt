@@ -13,8 +13,8 @@ use Rattle.regmodel.specs.Limits.{open_blocks}
 use Rattle.regmodel.specs.Program as program
 use Rattle.machine.specs.declared.run.Arm.{Arm}
 use Rattle.machine.specs.declared.run.Arm.TheVariants as arm
-use Rattle.machine.specs.declared.run.Part.{Part}
-use Rattle.machine.specs.declared.run.Part.TheVariants.{At, Within, Turn}
+use Rattle.machine.specs.declared.run.StmtPart.{StmtPart}
+use Rattle.machine.specs.declared.run.StmtPart.TheVariants.{At, Within, Turn}
 use Rattle.machine.specs.declared.run.Frame.{Frame}
 use Rattle.machine.specs.declared.run.BlockExit.{BlockExit}
 use Rattle.machine.specs.declared.run.BlockExit.TheVariants as block
@@ -24,19 +24,19 @@ use Rattle.regmodel.proofs.Blocks.{block_of-drop}
 use Rattle.machine.proofs.Places.{skip-block_of, skip-past}
 
 -- a frame that was just written leads to the statement at its place
-pub resume-set : (n depth : ℕ) (body : List Stmt) (i : ℕ) (x : Stmt) (frames : List Frame) (part : Part) (env : Env) (s : Replies) → i < length body → x ≡ get_or body i x → depth < length frames → resume n (drop depth (slice_set frames depth (record { at = i; part = part }))) (block_of body) env s ≡ part_flow part n (with_stmt x (block_of (drop (i + 1) body))) (resume n (drop (depth + 1) frames)) env s
+pub resume-set : (n depth : ℕ) (body : List Stmt) (i : ℕ) (x : Stmt) (frames : List Frame) (part : StmtPart) (env : Env) (s : Replies) → i < length body → x ≡ get_or body i x → depth < length frames → resume n (drop depth (slice_set frames depth (record { at = i; part = part }))) (block_of body) env s ≡ part_flow part n (with_stmt x (block_of (drop (i + 1) body))) (resume n (drop (depth + 1) frames)) env s
 resume-set n depth body i x frames part env s h e d =
     ap (λ fs. resume n fs (block_of body) env s) (drop-set frames depth (record { at = i; part = part }) d)
     ∙ ap (λ b. part_flow part n b (resume n (drop (depth + 1) frames)) env s) (skip-block_of i body ∙ block_of-drop body i x h e)
 
 -- a part that was left, and then what follows the statement
-pub then_exit : (exit : Result BlockExit ℕ) (part : Part) (n : ℕ) (fs : List Frame) (b whole rest : Block) (env : Env) (s : Replies) → (part_flow part n whole (resume n fs) env s ≡ then_do (resume n fs b env s) (exec rest n)) → then_do (block_flow exit n fs b env s) (exec rest n) ≡ stmt_flow (exit_through exit part) n fs whole rest env s
+pub then_exit : (exit : Result BlockExit ℕ) (part : StmtPart) (n : ℕ) (fs : List Frame) (b whole rest : Block) (env : Env) (s : Replies) → (part_flow part n whole (resume n fs) env s ≡ then_do (resume n fs b env s) (exec rest n)) → then_do (block_flow exit n fs b env s) (exec rest n) ≡ stmt_flow (exit_through exit part) n fs whole rest env s
 then_exit (Ok block.GoesOn) part n fs b whole rest env s h = refl
 then_exit (Ok (block.Wants a)) part n fs b whole rest env s h = sym h
 then_exit (Ok block.Halts) part n fs b whole rest env s h = refl
 then_exit (Err code) part n fs b whole rest env s h = refl
 
-pub exit_asks : (exit : Result BlockExit ℕ) (part : Part) (n : ℕ) (fs : List Frame) (b whole rest : Block) (env : Env) → (part_flow part n whole (resume n fs) env [] ≡ then_do (resume n fs b env []) (exec rest n)) → BlockAsks exit n fs b env → StmtAsks (exit_through exit part) n fs whole env
+pub exit_asks : (exit : Result BlockExit ℕ) (part : StmtPart) (n : ℕ) (fs : List Frame) (b whole rest : Block) (env : Env) → (part_flow part n whole (resume n fs) env [] ≡ then_do (resume n fs b env []) (exec rest n)) → BlockAsks exit n fs b env → StmtAsks (exit_through exit part) n fs whole env
 exit_asks (Ok block.GoesOn) part n fs b whole rest env h k = tt
 exit_asks (Ok (block.Wants a)) part n fs b whole rest env h k = h ∙ ap (λ f. then_do f (exec rest n)) k
 exit_asks (Ok block.Halts) part n fs b whole rest env h k = tt
@@ -83,7 +83,7 @@ resume-at n depth body x frames d env s h k e =
     resume-drop n depth (block_of body) frames d env s h
     ∙ ap (λ b. part_flow f.part n b (resume n (drop (depth + 1) frames)) env s) (skip-block_of f.at body ∙ block_of-drop body f.at x k e)
 
-part_flow-Stop : (part : Part) (n : ℕ) (go : Block → Env → Replies → Flow) (env : Env) (s : Replies) → part_flow part n program.Stop go env s ≡ Faults 0
+part_flow-Stop : (part : StmtPart) (n : ℕ) (go : Block → Env → Replies → Flow) (env : Env) (s : Replies) → part_flow part n program.Stop go env s ≡ Faults 0
 part_flow-Stop (At access to) n go env s = refl
 part_flow-Stop (Within x) n go env s = refl
 part_flow-Stop (Turn left) n go env s = refl
@@ -101,13 +101,13 @@ access_flow-with_stmt (stmt.Assign t e) n rest f = refl
 access_flow-with_stmt _ n rest f = refl
 
 -- a program within an arm, or within a turn
-pub arm_part : (part : Part) (x : Arm) (n : ℕ) (whole : Block) (e : Expr) (b first second rest : Block) (go : Block → Env → Replies → Flow) (env : Env) (s : Replies) (f : Flow) → part ≡ Within x → whole ≡ program.If e first second rest → b ≡ of_arm x first second → go b env s ≡ f → part_flow part n whole go env s ≡ then_do f (exec rest n)
+pub arm_part : (part : StmtPart) (x : Arm) (n : ℕ) (whole : Block) (e : Expr) (b first second rest : Block) (go : Block → Env → Replies → Flow) (env : Env) (s : Replies) (f : Flow) → part ≡ Within x → whole ≡ program.If e first second rest → b ≡ of_arm x first second → go b env s ≡ f → part_flow part n whole go env s ≡ then_do f (exec rest n)
 arm_part part x n whole e b first second rest go env s f h k l m =
     ap (λ p. part_flow p n whole go env s) h
     ∙ ap (λ y. part_flow (Within x) n y go env s) k
     ∙ ap (λ g. then_do g (exec rest n)) (ap (λ y. go y env s) (sym l) ∙ m)
 
-pub turn_part : (part : Part) (left n : ℕ) (whole : Block) (e : Expr) (b rest : Block) (go : Block → Env → Replies → Flow) (env : Env) (s : Replies) (f : Flow) → part ≡ Turn left → whole ≡ program.Repeat e b rest → go b env s ≡ f → part_flow part n whole go env s ≡ then_do (then_do f (times left (exec b n))) (exec rest n)
+pub turn_part : (part : StmtPart) (left n : ℕ) (whole : Block) (e : Expr) (b rest : Block) (go : Block → Env → Replies → Flow) (env : Env) (s : Replies) (f : Flow) → part ≡ Turn left → whole ≡ program.Repeat e b rest → go b env s ≡ f → part_flow part n whole go env s ≡ then_do (then_do f (times left (exec b n))) (exec rest n)
 turn_part part left n whole e b rest go env s f h k m =
     ap (λ p. part_flow p n whole go env s) h
     ∙ ap (λ y. part_flow (Turn left) n y go env s) k

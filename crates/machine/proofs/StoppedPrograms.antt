@@ -3,8 +3,8 @@ use Rattle.std.proofs.Common.{ℕ, List, [], ◌∷◌}
 use Rattle.regmodel.specs.Prelude.{Replies, Env, Flow, then_do, Block}
 use Rattle.regmodel.specs.Act.{GoesOn, Wants, Ends, Faults}
 use Rattle.regmodel.specs.Program as program
-use Rattle.machine.specs.declared.run.Part.{Part}
-use Rattle.machine.specs.declared.run.Part.TheVariants.{At, Within, Turn}
+use Rattle.machine.specs.declared.run.StmtPart.{StmtPart}
+use Rattle.machine.specs.declared.run.StmtPart.TheVariants.{At, Within, Turn}
 use Rattle.machine.specs.declared.run.Frame.{Frame}
 use Rattle.machine.specs.Paths.{access_flow, part_flow, resume, skip, of_arm}
 use Rattle.machine.specs.Exits.{IsWanting}
@@ -25,7 +25,7 @@ access_over : (n : ℕ) (b : Block) (f : Flow) → IsOver f → IsOver (access_f
 access_over n program.Stop f h = tt
 access_over n _ f h = then_over f _ h
 
-part_over : (part : Part) (n : ℕ) (b : Block) (go : Block → Env → Replies → Flow) (env : Env) → ((b : Block) → IsOver (go b env [])) → IsOver (part_flow part n b go env [])
+part_over : (part : StmtPart) (n : ℕ) (b : Block) (go : Block → Env → Replies → Flow) (env : Env) → ((b : Block) → IsOver (go b env [])) → IsOver (part_flow part n b go env [])
 part_over (At access to) n b go env h = access_over n b _ tt
 part_over (Within arm) n (program.If e first second rest) go env h = then_over _ _ (h (of_arm arm first second))
 part_over (Within arm) n _ go env h = tt

@@ -11,19 +11,19 @@ use Rattle.regmodel.specs.Reply.{Replies, one}
 use Rattle.regmodel.specs.Values.{Env, InVar, start_env, store}
 use Rattle.machine.specs.declared.run.BlockExit.TheVariants as block
 use Rattle.machine.specs.declared.run.Frame.{Frame}
-use Rattle.machine.specs.declared.run.Part.TheVariants.{At, Turn}
+use Rattle.machine.specs.declared.run.StmtPart.TheVariants.{At, Turn}
 use Rattle.machine.specs.declared.values.Destination.TheVariants.{Nowhere, InPlace, InCells}
 use Rattle.machine.specs.declared.values.Place.{Place}
 use Rattle.machine.specs.declared.values.Place.TheVariants as place
 use Rattle.machine.specs.declared.values.Store.{Store}
-use Rattle.machine.specs.declared.states.Kept.{Kept}
+use Rattle.machine.specs.declared.states.KeptState.{KeptState}
 use Rattle.machine.specs.Rest.{Asks, from_place, rest_from}
 use Rattle.machine.specs.Forgetting.{forgotten}
 use Rattle.machine.specs.Keeping.{IsStart, LeadsTo, state_at}
 use Rattle.machine.specs.Lasts.{accesses_of, last_write}
 use Rattle.machine.specs.Sparse.{past_sparse, sparse, spread}
 use Rattle.machine.specs.Paths.{answer_at}
-use Rattle.machine.specs.Standings.{access_numbers, resumed_by}
+use Rattle.machine.specs.StateNumbers.{access_numbers, resumed_by}
 use Rattle.machine.specs.Stores.{as_place}
 
 -- ---- register 0 is written, read into variable 0, and that is emitted
@@ -138,7 +138,7 @@ empty_store = record {
 abbrev pub at_the_write : List Frame
 at_the_write = record { at = 0; part = At (access.Write 0 5) Nowhere } ∷ []
 
-abbrev pub kept_at_the_read : List Kept
+abbrev pub kept_at_the_read : List KeptState
 kept_at_the_read =
     record {
       reply = record { places = []; count = 0 };

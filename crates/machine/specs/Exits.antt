@@ -6,7 +6,7 @@ use Rattle.regmodel.specs.Act.{Flow, exec, then_do, times}
 use Rattle.regmodel.specs.Act as flow
 use Rattle.regmodel.specs.Program.{Block}
 use Rattle.machine.specs.declared.run.Frame.{Frame}
-use Rattle.machine.specs.declared.run.Part.{Part}
+use Rattle.machine.specs.declared.run.StmtPart.{StmtPart}
 use Rattle.machine.specs.declared.run.StmtExit.{StmtExit}
 use Rattle.machine.specs.declared.run.StmtExit.TheVariants as stmt
 use Rattle.machine.specs.declared.run.BlockExit.{BlockExit}
@@ -45,7 +45,7 @@ BlockAsks (Ok block.Halts) n fs b env = Unit {0}
 BlockAsks (Err code) n fs b env = Unit {0}
 
 -- a statement one of whose parts was left so
-abbrev pub exit_through : Result BlockExit ℕ → Part → Result StmtExit ℕ
+abbrev pub exit_through : Result BlockExit ℕ → StmtPart → Result StmtExit ℕ
 exit_through (Ok block.GoesOn) part = Ok stmt.GoesOn
 exit_through (Ok (block.Wants a)) part = Ok (stmt.Wants a part)
 exit_through (Ok block.Halts) part = Ok stmt.Halts

@@ -12,7 +12,7 @@ pub mod Rest
 pub mod Runs
 pub mod Same
 pub mod Sparse
-pub mod Standings
+pub mod StateNumbers
 pub mod StopExamples
 pub mod Stops
 pub mod Stores

@@ -7,8 +7,8 @@ use Rattle.regmodel.specs.declared.accesses.Access.{Access}
 use Rattle.regmodel.specs.Program.{Block, Stop, Do, If, Repeat, Halt}
 use Rattle.machine.specs.declared.run.Arm.{Arm}
 use Rattle.machine.specs.declared.run.Arm.TheVariants.{First, Second}
-use Rattle.machine.specs.declared.run.Part.{Part}
-use Rattle.machine.specs.declared.run.Part.TheVariants.{At, Within, Turn}
+use Rattle.machine.specs.declared.run.StmtPart.{StmtPart}
+use Rattle.machine.specs.declared.run.StmtPart.TheVariants.{At, Within, Turn}
 use Rattle.machine.specs.declared.run.Frame.{Frame}
 use Rattle.machine.specs.declared.values.Destination.{Destination}
 use Rattle.machine.specs.Stores.{reply_stored}
@@ -60,7 +60,7 @@ turn_flow left n (Repeat e body rest) go env s =
 turn_flow left n _ go env s = Faults 0
 
 -- from a part of a block's first statement
-abbrev pub part_flow : Part → ℕ → Block → (Block → Env → Replies → Flow) → Env → Replies → Flow
+abbrev pub part_flow : StmtPart → ℕ → Block → (Block → Env → Replies → Flow) → Env → Replies → Flow
 part_flow (At access destination) n b go env s =
     access_flow n b (answer_at access destination env s)
 part_flow (Within arm) n b go env s = arm_flow arm n b go env s

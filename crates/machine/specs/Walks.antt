@@ -7,7 +7,7 @@ use Rattle.regmodel.specs.Act.{Flow, exec}
 use Rattle.regmodel.specs.Program.{Block, Stop}
 use Rattle.regmodel.specs.Limits.{operands_fit, statements}
 use Rattle.regmodel.specs.declared.limits.TheConstants.{MOST_REGISTERS, MOST_STATEMENTS}
-use Rattle.machine.specs.declared.run.Part.{Part}
+use Rattle.machine.specs.declared.run.StmtPart.{StmtPart}
 use Rattle.machine.specs.declared.run.StmtExit.{StmtExit}
 use Rattle.machine.specs.declared.stops.Stopped.{Stopped}
 use Rattle.machine.specs.declared.stops.Walk.{Walk}
@@ -58,7 +58,7 @@ ExitWalks result exit n stopped whole old new =
     result new
 
 -- past its access
-abbrev pub AccessWalks : Result (Unit {0}) Stopped → Part → (n : ℕ) → Stopped → Block
+abbrev pub AccessWalks : Result (Unit {0}) Stopped → StmtPart → (n : ℕ) → Stopped → Block
     → (old new : Walk) → Type 0
 AccessWalks result part n stopped whole old new =
     WalksPast (part_flow part n whole (resume n []) (env_of old.store) (replies_of old))

@@ -11,7 +11,7 @@ ghost use Rattle.machine.specs.Lasts.{AreWrittenBy, EndsBy};
 ghost use Rattle.machine.specs.Rest.{Asks, pending_in};
 
 use crate::lasts::{REGISTERS, accesses_of, last_writes};
-use crate::states::{Kept, State};
+use crate::states::{KeptState, State};
 use crate::{Machine, Told};
 use regmodel::limits::MOST_LETTERS;
 use regmodel::{OutOfMemory, Pending, Prog, Reply};
@@ -26,7 +26,7 @@ const PLACES: usize = MOST_LETTERS as usize + 1;
 #[derive(Drop)]
 pub struct Interp {
     prog: Prog,
-    kept: Vec<Kept>,
+    kept: Vec<KeptState>,
     /// The place of the present state.
     at: usize,
     /// How many places are known, from the start on. None is after an end, and the last one is not
@@ -55,7 +55,7 @@ impl Interp {
         ensures starts { IfOk result
             (λ m. IsAtStart (program_of prog) (⟦<Interp as Machine>⟧.rest m)) }
     {
-        let blank = Kept {
+        let blank = KeptState {
             reply: Reply::none(),
             state: State::over(),
         };
@@ -122,7 +122,7 @@ impl Interp {
 
 /// Runs on past the reply from the state at a place, and keeps the reply and the state to which it
 /// leads at the next place.
-fn run_past(kept: &mut [Kept], at: usize, prog: &Prog, reply: &[u32])
+fn run_past(kept: &mut [KeptState], at: usize, prog: &Prog, reply: &[u32])
     requires room { at + 1 < length kept.old }
     requires asks { Asks (program_of prog.now) (state_at kept.old at) }
     requires wanted { IsReplyTo (pending_in (state_at kept.old at)) reply.now }
@@ -138,7 +138,7 @@ impl Machine for Interp {
     ghost use Rattle.regmodel.specs.Prelude.{program_of};
     ghost use Rattle.machine.specs.Interps.{state_of};
     ghost use Rattle.machine.specs.Rest.{rest_in};
-    ghost use Rattle.machine.specs.Standings.{resumed_by};
+    ghost use Rattle.machine.specs.StateNumbers.{resumed_by};
 
     ghost program = { λ m. program_of m.prog };
 

@@ -21,7 +21,7 @@ mod numbering;
 mod resume;
 mod run;
 mod sparse;
-mod standings;
+mod state_numbers;
 mod states;
 mod stops;
 mod values;

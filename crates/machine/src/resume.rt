@@ -9,14 +9,14 @@ ghost use Rattle.machine.specs.Exits.{IsWanting};
 ghost use Rattle.machine.specs.Runs.{CanRun, StmtRunsTo, BlockRunsTo};
 
 use crate::run::{
-    BlockExit, Frame, Level, Part, StmtExit, block_of_arm, run_block, run_turns, stmt_exit,
+    BlockExit, Frame, Level, StmtExit, StmtPart, block_of_arm, run_block, run_turns, stmt_exit,
 };
 use crate::values::Store;
 use regmodel::Stmt;
 
 /// A reply, and the frames that lead to the access to which it came.
 #[derive(Clone, Copy)]
-pub struct Answer<'a> {
+pub struct ReplyPath<'a> {
     pub reply: &'a [u32],
     pub frames: &'a [Frame],
 }
@@ -26,8 +26,8 @@ pub struct Answer<'a> {
 #[cycle(resume)]
 fn resume_stmt(
     stmt: &Stmt,
-    part: Part,
-    answer: &Answer,
+    part: StmtPart,
+    answer: &ReplyPath,
     level: Level,
     store: &mut Store,
     frames: &mut [Frame],
@@ -51,11 +51,11 @@ fn resume_stmt(
         ..level
     };
     match part {
-        Part::At(_, destination) => {
+        StmtPart::At(_, destination) => {
             store.put_reply(destination, answer.reply);
             Ok(StmtExit::GoesOn)
         }
-        Part::Within(arm) => {
+        StmtPart::Within(arm) => {
             let Stmt::If(_, first, second) = stmt else {
                 unreachable!()
             };
@@ -63,7 +63,7 @@ fn resume_stmt(
             let exit = resume_block(block, answer, inner, store, frames);
             stmt_exit(exit, part)
         }
-        Part::Turn(turns) => {
+        StmtPart::Turn(turns) => {
             let Stmt::Repeat(_, body) = stmt else {
                 unreachable!()
             };
@@ -82,7 +82,7 @@ fn resume_stmt(
 #[cycle(resume)]
 pub fn resume_block(
     block: &[Stmt],
-    answer: &Answer,
+    answer: &ReplyPath,
     level: Level,
     store: &mut Store,
     frames: &mut [Frame],

@@ -8,7 +8,7 @@ ghost use Rattle.regmodel.specs.Program.{Stop, Do, Assign, Read, Write, Scan, Re
 ghost use Rattle.regmodel.specs.Values.{operand_value, and_then, below_or_fault};
 ghost use Rattle.regmodel.specs.Limits.{scan_fits};
 ghost use Rattle.machine.specs.declared.run.Frame.{Frame};
-ghost use Rattle.machine.specs.declared.run.Part.TheVariants.{At};
+ghost use Rattle.machine.specs.declared.run.StmtPart.TheVariants.{At};
 ghost use Rattle.machine.specs.declared.run.StmtExit.TheVariants.{Wants};
 ghost use Rattle.machine.specs.Stores.{env_of};
 ghost use Rattle.machine.specs.Paths.{of_arm, arm_at};
@@ -30,7 +30,7 @@ pub enum Arm {
 /// The part of a statement in which a program stands. What a statement found before its access is
 /// kept.
 #[derive(Clone, Copy)]
-pub enum Part {
+pub enum StmtPart {
     /// At an access, whose reply is stored there.
     At(Access, Destination),
     /// In an arm of an `if`.
@@ -43,7 +43,7 @@ pub enum Part {
 #[derive(Clone, Copy)]
 pub struct Frame {
     pub at: usize,
-    pub part: Part,
+    pub part: StmtPart,
 }
 
 /// How many registers there are, and how deep in the program a block or a statement lies.
@@ -58,7 +58,7 @@ pub struct Level {
 #[derive(Clone, Copy)]
 pub enum StmtExit {
     GoesOn,
-    Wants(Access, Part),
+    Wants(Access, StmtPart),
     Halts,
 }
 
@@ -100,7 +100,7 @@ fn register(operand: Operand, registers: u32, store: &Store) -> Result<u8, u8>
 fn wants(access: Access, destination: Destination) -> StmtExit
     ensures { result ≡ Wants access (At access destination) }
 {
-    StmtExit::Wants(access, Part::At(access, destination))
+    StmtExit::Wants(access, StmtPart::At(access, destination))
 }
 
 /// A read up to its access: first the register, then the place where the reply is to be stored.
@@ -164,7 +164,7 @@ pub fn block_of_arm<'a>(arm: Arm, first: &'a [Stmt], second: &'a [Stmt]) -> &'a 
 }
 
 /// How a statement is left whose part was left so.
-pub fn stmt_exit(exit: Result<BlockExit, u8>, part: Part) -> Result<StmtExit, u8>
+pub fn stmt_exit(exit: Result<BlockExit, u8>, part: StmtPart) -> Result<StmtExit, u8>
     ensures { result ≡ exit_through exit part }
 {
     match exit? {
@@ -200,7 +200,7 @@ fn run_stmt(
             let arm = arm_at(store.expr(test)?);
             let block = block_of_arm(arm, first.as_slice(), second.as_slice());
             let exit = run_block(block, 0, inner, store, frames);
-            stmt_exit(exit, Part::Within(arm))
+            stmt_exit(exit, StmtPart::Within(arm))
         }
         Stmt::Repeat(count, body) => {
             let turns = store.expr(count)?;
@@ -239,7 +239,7 @@ pub fn run_turns(
         left -= 1;
         match run_block(body, 0, inner, store, frames)? {
             BlockExit::GoesOn => {}
-            BlockExit::Wants(access) => return Ok(StmtExit::Wants(access, Part::Turn(left))),
+            BlockExit::Wants(access) => return Ok(StmtExit::Wants(access, StmtPart::Turn(left))),
             BlockExit::Halts => return Ok(StmtExit::Halts),
         }
     }

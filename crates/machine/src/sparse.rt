@@ -3,7 +3,7 @@
 ghost use Rattle.std.specs.Prelude.{◌≡◌, ◌<◌, ◌≤◌, ◌++◌, IfSome, IsSome, IsTrue, length};
 ghost use Rattle.told.specs.Bytes.{size_of};
 ghost use Rattle.told.specs.Numbers.{numbers_in};
-ghost use Rattle.told.specs.declared.limits.TheConstants.{MOST_BYTES};
+ghost use Rattle.told.specs.declared.numbers.TheConstants.{MOST_BYTES};
 ghost use Rattle.machine.specs.Sparse.{AreZero, sparse};
 
 use told::Told;

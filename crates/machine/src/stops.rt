@@ -10,7 +10,7 @@ ghost use Rattle.machine.specs.Walks.{CanWalk, AccessWalks, BlockWalks, ExitWalk
 
 use crate::culprits::{Culprit, culprit_of};
 use crate::numbering::{behind, behind_stmt};
-use crate::run::{Part, StmtExit, assign, emit, read, scan, write};
+use crate::run::{StmtExit, StmtPart, assign, emit, read, scan, write};
 use crate::states::empty_store;
 use crate::values::Store;
 use regmodel::limits::MOST_TURNS;
@@ -177,7 +177,7 @@ fn past_exit(exit: Result<StmtExit, u8>, stopped: Stopped, walk: &mut Walk) -> R
 }
 
 /// Goes on past an access, where a reply is left for it, or stops there so. To a block comes none.
-fn past_access(part: Part, stopped: Stopped, walk: &mut Walk) -> Result<(), Stopped>
+fn past_access(part: StmtPart, stopped: Stopped, walk: &mut Walk) -> Result<(), Stopped>
     ensures { (s : Simple) (n : ℕ)
         → AccessWalks result part n stopped (Do s Stop) walk.old walk.new }
 {
@@ -185,8 +185,8 @@ fn past_access(part: Part, stopped: Stopped, walk: &mut Walk) -> Result<(), Stop
         return Err(stopped);
     };
     match part {
-        Part::At(_, destination) => walk.store.put_reply(destination, reply.values()),
-        Part::Within(_) | Part::Turn(_) => return Err(stopped),
+        StmtPart::At(_, destination) => walk.store.put_reply(destination, reply.values()),
+        StmtPart::Within(_) | StmtPart::Turn(_) => return Err(stopped),
     }
     walk.replies = others;
     Ok(())

@@ -10,8 +10,8 @@ use Rattle.part_texts.specs.Causes.{IsOutward, IsOutwardAt, IsUnreadOnlyIf}
 use Rattle.part_texts.specs.FitsPart.{FitsPart}
 use Rattle.part_texts.specs.PartText.{part_text}
 use Rattle.part_texts.specs.declared.faults.BadPart.{BadPart}
-use Rattle.part_texts.specs.declared.faults.Cause.{Cause}
-use Rattle.part_texts.specs.declared.faults.Cause.TheVariants.{Unreadable}
+use Rattle.part_texts.specs.declared.faults.PartCause.{PartCause}
+use Rattle.part_texts.specs.declared.faults.PartCause.TheVariants.{Unreadable}
 use Rattle.part_texts.specs.declared.parts.PartReport.{PartReport}
 use Rattle.merging.specs.Joined.{GoesWith, Holds, numbers_marked}
 use Rattle.merging.specs.Merged.{AreAllParts, AreMergeable, IsNoFaultOfParts, all_tried, tried_of}
@@ -21,7 +21,7 @@ use Rattle.merging.specs.Unjoined.{IsUnjoined, IsUnjoinedBehind, IsUnjoinedTo}
 use Rattle.merging.specs.Unmerged.{AreIncomplete, AreUnjoinedIn, BeginWith, IsUnread, IsUnreadBy}
 use Rattle.merging.specs.declared.faults.MergeFault.{MergeFault}
 use Rattle.merging.specs.declared.faults.MergeFault.TheVariants.{Misfit, Missing, NoMemory, Nothing, Sought, Text, TooMany, Twice}
-use Rattle.merging.specs.declared.joined.Joined.{Joined}
+use Rattle.merging.specs.declared.merged_parts.MergedParts.{MergedParts}
 use Rattle.merging.specs.declared.missing.Missing as missings
 use Rattle.merging.specs.declared.mergers.Merger.{Merger}
 use Rattle.merging.proofs.AllParts.{all_read, behind, goes_with, next-sum, no_fault_of_more, same_first}
@@ -33,7 +33,7 @@ use Rattle.merging.proofs.TextParts.{ahead, all_consumed, no_texts, none_at_end,
 pub order_of_more : (parts : List PartReport) (first : PartReport) (others : List PartReport) (part : PartReport) → parts ≡ first ∷ reverse others → parts ++ part ∷ [] ≡ first ∷ reverse (part ∷ others)
 order_of_more parts first others part order = ap (λ xs. xs ++ part ∷ []) order ∙ ap (λ xs. first ∷ xs) (sym (reverse-append (part ∷ []) others))
 
-pub kept_more : (parts : List PartReport) (part : PartReport) (old new : Joined) → AreKept parts old → ((first : PartReport) (others : List PartReport) → Holds first others old → Holds first (part ∷ others) new) → AreKept (parts ++ part ∷ []) new
+pub kept_more : (parts : List PartReport) (part : PartReport) (old new : MergedParts) → AreKept parts old → ((first : PartReport) (others : List PartReport) → Holds first others old → Holds first (part ∷ others) new) → AreKept (parts ++ part ∷ []) new
 kept_more parts part old new h more = record {
   first = h.first;
   others = part ∷ h.others;
@@ -42,7 +42,7 @@ kept_more parts part old new h more = record {
 }
 
 -- how many numbers are not marked
-abbrev pub unmarked_of : Option Joined → ℕ
+abbrev pub unmarked_of : Option MergedParts → ℕ
 unmarked_of None = 0
 unmarked_of (Some joined) = length joined.there.items - length (numbers_marked 1 joined.there.items)
 
@@ -51,7 +51,7 @@ no_parts [] part e = cc
 no_parts (p ∷ parts) part e = cc
 
 -- with each part behind the first fewer are not
-pub fewer_unmarked : (parts : List PartReport) (part : PartReport) (old new : Option Joined) → 1 ≤ length parts → AreHeld parts old → AreHeld (parts ++ part ∷ []) new → unmarked_of new < unmarked_of old
+pub fewer_unmarked : (parts : List PartReport) (part : PartReport) (old new : Option MergedParts) → 1 ≤ length parts → AreHeld parts old → AreHeld (parts ++ part ∷ []) new → unmarked_of new < unmarked_of old
 fewer_unmarked parts part None new some h k = absurd (omega (arith, some, ap (λ (xs : List PartReport). length xs) h))
 fewer_unmarked parts part (Some old) None some h k = absurd (no_parts parts part k)
 fewer_unmarked parts part (Some old) (Some new) some h k =
@@ -95,12 +95,12 @@ refused_part parts part fault first others order why whole = record {
 }
 
 -- what is held with one part more
-pub more_held : (part : PartReport) (now : Option Joined) (old new : Joined) (result : Result (Unit {0}) MergeFault) → now ≡ Some old → OnOk result ((first : PartReport) (others : List PartReport) → Holds first others old → Holds first (part ∷ others) new) → OnOk result ((parts : List PartReport) → AreHeld parts now → AreKept (parts ++ part ∷ []) new)
+pub more_held : (part : PartReport) (now : Option MergedParts) (old new : MergedParts) (result : Result (Unit {0}) MergeFault) → now ≡ Some old → OnOk result ((first : PartReport) (others : List PartReport) → Holds first others old → Holds first (part ∷ others) new) → OnOk result ((parts : List PartReport) → AreHeld parts now → AreKept (parts ++ part ∷ []) new)
 more_held part now old new (Ok done) e more = λ parts h. kept_more parts part old new (subst (AreHeld parts) e h) more
 more_held part now old new (Err fault) e more = tt
 
 -- why it is not held
-pub more_unjoined : (part : PartReport) (now : Option Joined) (old : Joined) (result : Result (Unit {0}) MergeFault) → now ≡ Some old → IfErr result (λ fault. (first : PartReport) (others : List PartReport) → Holds first others old → GoesWith first others part → IsNoFaultOfParts (all_tried (part ∷ first ∷ others)) fault) → IfErr result (λ fault. (first : PartReport) (others : List PartReport) → Holds first others old → IsUnjoined first others part fault) → IfErr result (λ fault. (parts : List PartReport) → AreHeld parts now → IsUnjoinedFrom parts part fault)
+pub more_unjoined : (part : PartReport) (now : Option MergedParts) (old : MergedParts) (result : Result (Unit {0}) MergeFault) → now ≡ Some old → IfErr result (λ fault. (first : PartReport) (others : List PartReport) → Holds first others old → GoesWith first others part → IsNoFaultOfParts (all_tried (part ∷ first ∷ others)) fault) → IfErr result (λ fault. (first : PartReport) (others : List PartReport) → Holds first others old → IsUnjoined first others part fault) → IfErr result (λ fault. (parts : List PartReport) → AreHeld parts now → IsUnjoinedFrom parts part fault)
 more_unjoined part now old (Ok done) e whole why = tt
 more_unjoined part now old (Err fault) e whole why = λ parts h.
     let kept : AreKept parts old = subst (AreHeld parts) e h in
@@ -140,18 +140,18 @@ unread may_fail before last middle left least merger part fault kept taken fits 
 
 -- ---- no part is read
 
-outward : (left : Option (List ℕ)) (read tail more all : List PartReport) (cause : Cause) → read ++ (tail ++ more) ≡ all → All FitsPart all → left ≡ Some (flat_map part_text tail) → (left ≡ Some [] → cause ≡ Unreadable) → IsOutwardAt FitsPart part_text left cause → IsOutward cause
+outward : (left : Option (List ℕ)) (read tail more all : List PartReport) (cause : PartCause) → read ++ (tail ++ more) ≡ all → All FitsPart all → left ≡ Some (flat_map part_text tail) → (left ≡ Some [] → cause ≡ Unreadable) → IsOutwardAt FitsPart part_text left cause → IsOutward cause
 outward left read [] more all cause order fit known end whole = inr (end known)
 outward left read (p ∷ tail) more all cause order fit known end whole = whole p (flat_map part_text tail) (behind FitsPart read p (tail ++ more) (subst (All FitsPart) (sym order) fit)) known
 
 -- where what is left of a text of parts is refused, the text is not at fault
-at_its_parts : (before : List (Option (List ℕ))) (last left : Option (List ℕ)) (least : ℕ) (merger : Merger) (cause : Cause) (parts : List PartReport) → HoldsRead before last left least merger → All FitsPart parts → last ≡ Some (flat_map part_text parts) → (left ≡ Some [] → cause ≡ Unreadable) → IsOutwardAt FitsPart part_text left cause → IsOutward cause
+at_its_parts : (before : List (Option (List ℕ))) (last left : Option (List ℕ)) (least : ℕ) (merger : Merger) (cause : PartCause) (parts : List PartReport) → HoldsRead before last left least merger → All FitsPart parts → last ≡ Some (flat_map part_text parts) → (left ≡ Some [] → cause ≡ Unreadable) → IsOutwardAt FitsPart part_text left cause → IsOutward cause
 at_its_parts before last left least merger cause parts kept fit known end whole =
     let rest = rest_left last left kept.own parts kept.fit fit kept.bytes known in
     outward left kept.own rest.tail [] parts cause (ap (λ xs. kept.own ++ xs) (append-nil rest.tail) ∙ rest.parts) fit rest.known end whole
 
 -- so it is where it is one of those that tell parts of one exploration
-not_at_fault : (before : List (Option (List ℕ))) (last left : Option (List ℕ)) (least : ℕ) (merger : Merger) (cause : Cause) (first : PartReport) (others : List PartReport) → HoldsRead before last left least merger → BeginWith (before ++ last ∷ []) first others → (left ≡ Some [] → cause ≡ Unreadable) → IsOutwardAt FitsPart part_text left cause → IsOutward cause
+not_at_fault : (before : List (Option (List ℕ))) (last left : Option (List ℕ)) (least : ℕ) (merger : Merger) (cause : PartCause) (first : PartReport) (others : List PartReport) → HoldsRead before last left least merger → BeginWith (before ++ last ∷ []) first others → (left ≡ Some [] → cause ≡ Unreadable) → IsOutwardAt FitsPart part_text left cause → IsOutward cause
 not_at_fault before last left least merger cause first others kept b end whole =
     let next = ahead before last left kept.earlier kept.own first others kept.of_texts kept.bytes kept.fit b in
     outward left (kept.earlier ++ kept.own) next.tail next.more (first ∷ others) cause next.order b.all.fit next.known end whole
@@ -210,7 +210,7 @@ no_part may_fail before last end = record { told = end; whole = λ first others 
 -- ---- at the end
 
 -- parts are missing
-pub incomplete : (texts : List (Option (List ℕ))) (parts : List PartReport) (joined : Joined) (missing : missings.Missing) → AreOfTexts IsTextOf texts parts → (kept : AreKept parts joined) → missing.there.items ≡ joined.there.items → (AreAllParts kept.first.head (kept.first ∷ kept.others) → ⊥) → AreIncomplete texts (Missing missing)
+pub incomplete : (texts : List (Option (List ℕ))) (parts : List PartReport) (joined : MergedParts) (missing : missings.Missing) → AreOfTexts IsTextOf texts parts → (kept : AreKept parts joined) → missing.there.items ≡ joined.there.items → (AreAllParts kept.first.head (kept.first ∷ kept.others) → ⊥) → AreIncomplete texts (Missing missing)
 incomplete texts parts joined missing of_texts kept there never = record {
   told = record {
     first = kept.first;

@@ -4,7 +4,7 @@ use Rattle.std.specs.List.{flat_map}
 use Rattle.regmodel.specs.declared.schedules.Letter.TheVariants.{Run}
 use Rattle.regmodel.specs.Examples.{started}
 use Rattle.part_texts.specs.PartText.{part_text}
-use Rattle.part_texts.specs.declared.parts.Found.TheVariants as found
+use Rattle.part_texts.specs.declared.parts.PartFound.TheVariants as found
 use Rattle.part_texts.specs.declared.parts.PartReport.{PartReport}
 use Rattle.merging.specs.Merged.{AreJoined, IsToldBy}
 use Rattle.merging.specs.Joined.{numbers_marked}

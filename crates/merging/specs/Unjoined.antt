@@ -1,7 +1,7 @@
 -- Why one part more is not joined to others.
 use Rattle.std.specs.Prelude.{◌≡◌, ◌≢◌, ◌+◌, ◌<◌, ◌≤◌, ◌^◌, ◌++◌, List, [], ◌∷◌, Contains, map, reverse}
 use Rattle.part_texts.specs.PlainHead.{PlainHead}
-use Rattle.part_texts.specs.declared.parts.Found.{Found}
+use Rattle.part_texts.specs.declared.parts.PartFound.{PartFound}
 use Rattle.part_texts.specs.declared.parts.PartReport.{PartReport}
 use Rattle.merging.specs.Merged.{AreSoughtAlike, all_tried, tried_of}
 use Rattle.merging.specs.declared.faults.MergeFault.{MergeFault}
@@ -18,7 +18,7 @@ DifferIn misfit.Cut head other = head.cut ≢ other.cut
 
 -- why what was found in two parts is not joined: the same was not sought; or it was, and there are
 -- more schedules than can be counted, or memory was refused where there are not
-abbrev pub AreUnjoined : Found → Found → MergeFault → Type 0
+abbrev pub AreUnjoined : PartFound → PartFound → MergeFault → Type 0
 AreUnjoined first second fault.Sought = AreSoughtAlike first second → ⊥
 AreUnjoined first second fault.TooMany = 2 ^ 64 ≤ tried_of first + tried_of second
 AreUnjoined first second fault.NoMemory =

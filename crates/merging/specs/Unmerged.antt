@@ -6,7 +6,7 @@ use Rattle.lists.specs.Balance.{AreInBalance}
 use Rattle.part_texts.specs.Causes.{IsOutward, IsUnreadOnlyIf}
 use Rattle.part_texts.specs.FitsPart.{FitsPart}
 use Rattle.part_texts.specs.PartText.{part_text}
-use Rattle.part_texts.specs.declared.faults.Cause.{Cause}
+use Rattle.part_texts.specs.declared.faults.PartCause.{PartCause}
 use Rattle.part_texts.specs.declared.parts.PartReport.{PartReport}
 use Rattle.merging.specs.Joined.{numbers_marked}
 use Rattle.merging.specs.Merged.{AreAllParts, AreMergeable, IsNoFaultOfParts, all_tried}
@@ -31,7 +31,7 @@ pub record AreUnjoinedIn (before : List (Option (List ℕ))) (last : Option (Lis
 
 -- why a line of a text is refused as no part's: its reader is at fault only if it may be; and where
 -- the text is that of parts, one behind another, each of which can be read, it is not at fault
-pub record IsLineRefused (may_fail : Type 0) (text : Option (List ℕ)) (cause : Cause) : Type 0 where
+pub record IsLineRefused (may_fail : Type 0) (text : Option (List ℕ)) (cause : PartCause) : Type 0 where
   pub reader : IsUnreadOnlyIf may_fail cause
   pub whole : (parts : List PartReport) → All FitsPart parts
       → text ≡ Some (flat_map part_text parts) → IsOutward cause

@@ -2,7 +2,7 @@
 #![tactic(auto)]
 
 mod faults;
-mod joined;
+mod merged_parts;
 mod mergers;
 mod missing;
 

@@ -7,9 +7,9 @@ use Rattle.regmodel.specs.Reply.{Reply, value_of}
 use Rattle.machine.specs.Sparse.{sparse, spread}
 use Rattle.natives.specs.declared.name.NameSlots.{NameSlots}
 use Rattle.natives.specs.declared.rounds.Reading.{Reading}
-use Rattle.natives.specs.declared.rounds.Slots.{Slots}
-use Rattle.natives.specs.declared.rounds.Stage.{Stage}
-use Rattle.natives.specs.declared.rounds.Stage.TheVariants.{Proposes, Looks, Named, Over}
+use Rattle.natives.specs.declared.rounds.RoundSlots.{RoundSlots}
+use Rattle.natives.specs.declared.rounds.RoundStage.{RoundStage}
+use Rattle.natives.specs.declared.rounds.RoundStage.TheVariants.{Proposes, Looks, Named, Over}
 use Rattle.machine.specs.Bits.{bit}
 use Rattle.natives.specs.Rounds.{after_slot, first_slot, at_slot, cells_of, from_after, reading_number, seen_numbers, stage_rest}
 use Rattle.natives.specs.NameSlots.{IsRead, from_round, from_reading, from_slot, name_numbers, name_resumed, reading_rest, round_rest, rounds_from}
@@ -17,11 +17,11 @@ use Rattle.natives.proofs.NextNames.{rank_after, clash-past, rank-past}
 use Rattle.natives.proofs.RoundEnds.{AreRounds, choice, told-whole}
 use Rattle.natives.proofs.RoundTurns.{alike, read-own, read-other, round-read}
 
-pub are-rounds : (slots : Slots) → AreRounds slots (rounds_from slots.base slots.count slots.own slots.registers)
+pub are-rounds : (slots : RoundSlots) → AreRounds slots (rounds_from slots.base slots.count slots.own slots.registers)
 are-rounds slots = record { none = λ env s. refl; alike = alike slots.base slots.count slots.own slots.registers (choice slots) }
 
 module _ (m : NameSlots) where
-  abbrev pub rest_at : Stage Reading → Replies → Pending
+  abbrev pub rest_at : RoundStage Reading → Replies → Pending
   rest_at = stage_rest (round_rest m.round) (reading_rest m.round) m.round.proposal
 
   abbrev reads_on : Reading → Replies → Pending
@@ -56,7 +56,7 @@ module _ (m : NameSlots) where
   reading-told at rank false held same s = ap (λ seen. from_reading m.round.slots.base m.round.slots.count m.round.slots.own m.round.slots.registers m.round.later m.round.proposal seen (record { at = at; clash = false; rank = rank }) s) (sym same)
 
   -- a stage, with what the slots held
-  pub stage-told : (stage : Stage Reading) (s : Replies) → rest_at stage s ≡ name_resumed m.round.slots.base m.round.slots.count m.round.slots.own m.round.slots.registers (name_numbers m.round.later m.round.proposal stage ++ seen_numbers stage m.round.seen) s
+  pub stage-told : (stage : RoundStage Reading) (s : Replies) → rest_at stage s ≡ name_resumed m.round.slots.base m.round.slots.count m.round.slots.own m.round.slots.registers (name_numbers m.round.later m.round.proposal stage ++ seen_numbers stage m.round.seen) s
   stage-told Proposes s = ap (λ seen. from_round m.round.slots.base m.round.slots.count m.round.slots.own m.round.slots.registers (suc m.round.later) m.round.proposal (cells_of seen) s) (sym (told-whole m.round.seen m.round.eight))
   stage-told (Looks reading) s = reading-told reading.at reading.rank reading.clash (sparse m.round.seen) (told-whole m.round.seen m.round.eight) s
   stage-told Named s = refl

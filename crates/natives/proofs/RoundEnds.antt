@@ -12,31 +12,31 @@ use Rattle.machine.proofs.SparseValues.{spread-all}
 use Rattle.machine.proofs.StandingNumbers.{where_some}
 use Rattle.natives.specs.declared.rounds.Reading.{Reading}
 use Rattle.natives.specs.declared.rounds.Round.{Round}
-use Rattle.natives.specs.declared.rounds.Slots.{Slots}
-use Rattle.natives.specs.declared.rounds.Stage.{Stage}
-use Rattle.natives.specs.declared.rounds.Stage.TheVariants.{Proposes}
+use Rattle.natives.specs.declared.rounds.RoundSlots.{RoundSlots}
+use Rattle.natives.specs.declared.rounds.RoundStage.{RoundStage}
+use Rattle.natives.specs.declared.rounds.RoundStage.TheVariants.{Proposes}
 use Rattle.natives.specs.declared.rounds.TheConstants.{LATER}
 use Rattle.natives.specs.Rounds.{at_slot, cells_of, from_after, later_after, number_from, proposal_after, stage_after, stage_rest}
 use Rattle.natives.proofs.NextNames.{AreAlike, IsChoice, finish-next}
 use Rattle.natives.proofs.StepEnds.{then_stop}
 
-pub choice : (slots : Slots) → IsChoice slots.base slots.count slots.own slots.registers
+pub choice : (slots : RoundSlots) → IsChoice slots.base slots.count slots.own slots.registers
 choice slots = record { own_in = slots.own_in; few_slots = slots.few_slots; room = slots.room; few = slots.few }
 
 -- rounds of which none ends at once, and that depend on the proposal and the cells alone
-pub record AreRounds (slots : Slots) (rounds : ℕ → Env → Replies → Flow) : Type 0 where
+pub record AreRounds (slots : RoundSlots) (rounds : ℕ → Env → Replies → Flow) : Type 0 where
   pub none : (env : Env) (s : Replies) → rounds 0 env s ≡ GoesOn env s
   pub alike : (n : ℕ) → AreAlike slots.count slots.registers slots.few_slots (rounds n)
 
-module _ {L : Type 0} {rounds : Slots → ℕ → Env → Replies → Flow} (are : (slots : Slots) → AreRounds slots (rounds slots)) (look : L → Replies → Pending) where
-  abbrev begins : Slots → ℕ → ℕ → List ℕ → Replies → Pending
+module _ {L : Type 0} {rounds : RoundSlots → ℕ → Env → Replies → Flow} (are : (slots : RoundSlots) → AreRounds slots (rounds slots)) (look : L → Replies → Pending) where
+  abbrev begins : RoundSlots → ℕ → ℕ → List ℕ → Replies → Pending
   begins slots later proposal seen s = flow_pending (rounds slots (suc later) (at_slot proposal 0 0 0 (cells_of seen)) s)
 
   -- where the process stands
-  abbrev stands : Slots → Stage L → ℕ → ℕ → List ℕ → Replies → Pending
+  abbrev stands : RoundSlots → RoundStage L → ℕ → ℕ → List ℕ → Replies → Pending
   stands slots stage later proposal seen = stage_rest (begins slots later proposal seen) look proposal stage
 
-  module _ (slots : Slots) (seen : List ℕ) (eight : length seen ≡ 8) (proposal rank at : ℕ) (s : Replies) where
+  module _ (slots : RoundSlots) (seen : List ℕ) (eight : length seen ≡ 8) (proposal rank at : ℕ) (s : Replies) where
     by_clash : (clash : Bool) (later : ℕ) → stands slots (stage_after clash later) (later_after clash later) (proposal_after clash later slots.count rank seen proposal) seen s ≡ from_after slots.count slots.registers (rounds slots later) (at_slot proposal (bit clash) rank at (cells_of seen)) s
     by_clash false later = refl
     by_clash true zero =
@@ -48,7 +48,7 @@ module _ {L : Type 0} {rounds : Slots → ℕ → Env → Replies → Flow} (are
         ap (λ n. begins slots n number seen s) left ∙ sym (finish-next slots.count slots.registers slots.few_slots (rounds slots (suc later)) ((are slots).alike (suc later)) seen eight proposal rank at s)
 
   -- once it has ended, by what the machine's step gave
-  pub ends : {slots : Slots} {seen : List ℕ} (later proposal : ℕ) (new : Round L) (reading : Reading) (s : Replies) → new.slots ≡ slots → new.stage ≡ stage_after reading.clash later → new.later ≡ later_after reading.clash later → new.proposal ≡ proposal_after reading.clash later slots.count reading.rank seen proposal → new.seen ≡ seen → stands new.slots new.stage new.later new.proposal new.seen s ≡ from_after slots.count slots.registers (rounds slots later) (at_slot proposal (bit reading.clash) reading.rank reading.at (cells_of seen)) s
+  pub ends : {slots : RoundSlots} {seen : List ℕ} (later proposal : ℕ) (new : Round L) (reading : Reading) (s : Replies) → new.slots ≡ slots → new.stage ≡ stage_after reading.clash later → new.later ≡ later_after reading.clash later → new.proposal ≡ proposal_after reading.clash later slots.count reading.rank seen proposal → new.seen ≡ seen → stands new.slots new.stage new.later new.proposal new.seen s ≡ from_after slots.count slots.registers (rounds slots later) (at_slot proposal (bit reading.clash) reading.rank reading.at (cells_of seen)) s
   ends {slots} {seen} later proposal new reading s d e f g h =
       ap (λ x. stands x new.stage new.later new.proposal new.seen s) d
       ∙ ap (λ x. stands slots x new.later new.proposal new.seen s) e

@@ -7,9 +7,9 @@ use Rattle.regmodel.specs.Prelude.{Replies}
 use Rattle.regmodel.specs.Reply.{Reply, one}
 use Rattle.natives.specs.declared.names.Names.{Names}
 use Rattle.natives.specs.declared.names.Scan.{Scan}
-use Rattle.natives.specs.declared.rounds.Stage.{Stage}
-use Rattle.natives.specs.declared.rounds.Stage.TheVariants.{Proposes, Looks, Named, Over}
-use Rattle.natives.specs.declared.rounds.Slots.{Slots}
+use Rattle.natives.specs.declared.rounds.RoundStage.{RoundStage}
+use Rattle.natives.specs.declared.rounds.RoundStage.TheVariants.{Proposes, Looks, Named, Over}
+use Rattle.natives.specs.declared.rounds.RoundSlots.{RoundSlots}
 use Rattle.natives.specs.declared.rounds.Reading.{Reading}
 use Rattle.machine.specs.Bits.{bit}
 use Rattle.natives.specs.Rounds.{after_slots, first_slot, at_slot, cells_of, from_after, seen_numbers, stage_rest}
@@ -18,11 +18,11 @@ use Rattle.natives.proofs.NextNames.{long_cells, taken}
 use Rattle.natives.proofs.RoundEnds.{AreRounds, choice, told-whole}
 use Rattle.natives.proofs.ScanRounds.{alike, scan-ends, scanned-seen}
 
-pub are-rounds : (slots : Slots) → AreRounds slots (scan_rounds slots.base slots.count slots.own slots.registers)
+pub are-rounds : (slots : RoundSlots) → AreRounds slots (scan_rounds slots.base slots.count slots.own slots.registers)
 are-rounds slots = record { none = λ env s. refl; alike = alike slots.base slots.count slots.own slots.registers (choice slots) }
 
 module _ (m : Names) where
-  abbrev pub rest_at : Stage Scan → Replies → Pending
+  abbrev pub rest_at : RoundStage Scan → Replies → Pending
   rest_at = stage_rest (scan_round_rest m.round) (scan_rest m.round) m.round.proposal
 
   abbrev pub ends_with : List ℕ → Reading → Replies → Pending
@@ -61,7 +61,7 @@ module _ (m : Names) where
       ∙ ap (λ r. ends_round (seen_after r) (reading_after (seen_after r)) s) g
 
   -- a stage, with what the slots held
-  pub stage-told : (stage : Stage Scan) (s : Replies) → rest_at stage s ≡ names_resumed m.round.slots.base m.round.slots.count m.round.slots.own m.round.slots.registers (names_numbers m.round.later m.round.proposal stage ++ seen_numbers stage m.round.seen) s
+  pub stage-told : (stage : RoundStage Scan) (s : Replies) → rest_at stage s ≡ names_resumed m.round.slots.base m.round.slots.count m.round.slots.own m.round.slots.registers (names_numbers m.round.later m.round.proposal stage ++ seen_numbers stage m.round.seen) s
   stage-told Proposes s = ap (λ seen. from_scan_round m.round.slots.base m.round.slots.count m.round.slots.own m.round.slots.registers (suc m.round.later) m.round.proposal (cells_of seen) s) (sym (told-whole m.round.seen m.round.eight))
   stage-told (Looks scan) s = ap (λ seen. from_scan_round m.round.slots.base m.round.slots.count m.round.slots.own m.round.slots.registers (suc m.round.later) m.round.proposal (cells_of seen) (one 0 ∷ s)) (sym (told-whole m.round.seen m.round.eight))
   stage-told Named s = refl

@@ -5,10 +5,10 @@ use Rattle.regmodel.specs.Prelude.{Replies}
 use Rattle.regmodel.specs.declared.accesses.Pending.TheVariants.{Fault}
 use Rattle.regmodel.specs.Reply.{Reply, value_of, one}
 use Rattle.natives.specs.declared.trees.Tree.{Tree}
-use Rattle.natives.specs.declared.trees.Stage.{Stage}
-use Rattle.natives.specs.declared.trees.Stage.TheVariants.{Marks, At, Leaves, Sees, Takes, Collected, Overfull, Over}
-use Rattle.natives.specs.declared.splitters.Step.TheVariants as step
-use Rattle.natives.specs.declared.splitters.Step.TheVariants.{Tries, Closes, Looks}
+use Rattle.natives.specs.declared.trees.TreeStage.{TreeStage}
+use Rattle.natives.specs.declared.trees.TreeStage.TheVariants.{Marks, At, Leaves, Sees, Takes, Collected, Overfull, Over}
+use Rattle.natives.specs.declared.splitters.SplitterStep.TheVariants as step
+use Rattle.natives.specs.declared.splitters.SplitterStep.TheVariants.{Tries, Closes, Looks}
 use Rattle.machine.specs.Bits.{packed, unpacked}
 use Rattle.natives.specs.Trees.{IsIn, below_reached, from_vertex, from_stop, from_past, from_at, tree_numbers, tree_rest, tree_resumed}
 use Rattle.natives.proofs.TreeCollects.{IsTree, sees-unmarked, sees-marked, takes-empty, takes-value, takes-ninth}
@@ -30,7 +30,7 @@ module _ (m : Tree) where
   pub below : (next : ℕ) → 1 ≤ next → next ≤ m.vertex * 2 + 1 → 0 < m.levels → IsNode m.base m.registers next
   below next some h more = node next some (within_last next (m.levels - 1) m.last (below_within next m.vertex m.levels m.last more h m.within))
 
-  abbrev pub rest_at : Stage → Replies → Pending
+  abbrev pub rest_at : TreeStage → Replies → Pending
   rest_at stage s = tree_rest (from_vertex m.base m.registers m.depth m.id m.value (suc m.levels) m.vertex) (from_stop m.base m.registers m.depth m.value m.vertex) (from_at m.base m.registers m.last m.reached m.numbers.items) m.numbers.items stage s
 
   -- ---- on the way down
@@ -96,7 +96,7 @@ module _ (m : Tree) where
   reached-told = sym (subst (λ n. unpacked n (packed m.reached) ≡ m.reached) m.long (unpacked-packed m.reached))
 
   -- from the numbers of a stage follows what comes of it
-  pub stage-told : (stage : Stage) (s : Replies) → rest_at stage s ≡ tree_resumed m.base m.registers m.depth m.last m.id m.value (tree_numbers m.vertex m.levels m.reached m.numbers.items stage) s
+  pub stage-told : (stage : TreeStage) (s : Replies) → rest_at stage s ≡ tree_resumed m.base m.registers m.depth m.last m.id m.value (tree_numbers m.vertex m.levels m.reached m.numbers.items stage) s
   stage-told Marks s = refl
   stage-told (At step.Marks) s = refl
   stage-told (At Tries) s = refl

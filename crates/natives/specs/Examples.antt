@@ -5,8 +5,8 @@ use Rattle.regmodel.specs.declared.accesses.Pending.TheVariants.{Wants, Done, Fa
 use Rattle.regmodel.specs.Reply.{one}
 use Rattle.uses.specs.Expansions.{split_program}
 use Rattle.uses.specs.declared.kinds.Use.TheVariants as kind
-use Rattle.natives.specs.declared.split.Stage.TheVariants.{At}
-use Rattle.natives.specs.declared.splitters.Step.TheVariants.{Looks}
+use Rattle.natives.specs.declared.split.SplitStage.TheVariants.{At}
+use Rattle.natives.specs.declared.splitters.SplitterStep.TheVariants.{Looks}
 use Rattle.natives.specs.Splits.{split_rest, split_resumed}
 use Rattle.machine.specs.Bits.{packed, unpacked}
 use Rattle.natives.specs.Grids.{grid_from, grid_resumed}

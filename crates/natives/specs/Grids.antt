@@ -6,8 +6,8 @@ use Rattle.regmodel.specs.Values.{Env}
 use Rattle.regmodel.specs.Act.{exec, times, flow_pending}
 use Rattle.regmodel.specs.Reply.{Replies}
 use Rattle.uses.specs.Expansions.{grid_visit}
-use Rattle.natives.specs.declared.grid.Stage.{Stage}
-use Rattle.natives.specs.declared.grid.Stage.TheVariants.{At, Stopped, Over}
+use Rattle.natives.specs.declared.grid.GridStage.{GridStage}
+use Rattle.natives.specs.declared.grid.GridStage.TheVariants.{At, Stopped, Over}
 use Rattle.natives.specs.Splitters.{since_first, step_number, told_step}
 
 -- at a vertex, with its row and column added up and its name
@@ -24,13 +24,13 @@ grid_from base id registers turns level vertex s =
     flow_pending (times turns (exec (grid_visit base id) registers) (at_vertex level vertex) s)
 
 -- at an access the value from the vertex on, after the replies since then
-abbrev pub grid_rest : (Replies → Pending) → ℕ → Stage → Replies → Pending
+abbrev pub grid_rest : (Replies → Pending) → ℕ → GridStage → Replies → Pending
 grid_rest from vertex (At step) s = from (since_first step s)
 grid_rest from vertex Stopped s = Done (record { items = vertex ∷ [] })
 grid_rest from vertex Over s = Done (record { items = [] })
 
 -- how a stage is told: a number for what it is, and what it holds
-abbrev pub grid_numbers : ℕ → ℕ → Stage → List ℕ
+abbrev pub grid_numbers : ℕ → ℕ → GridStage → List ℕ
 grid_numbers level vertex (At step) = step_number step ∷ level ∷ vertex ∷ []
 grid_numbers level vertex Stopped = 4 ∷ vertex ∷ []
 grid_numbers level vertex Over = 5 ∷ []

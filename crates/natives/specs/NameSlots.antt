@@ -11,8 +11,8 @@ use Rattle.machine.specs.Bits.{bit}
 use Rattle.natives.specs.Rounds.{at_slot, cells_of, reading_number}
 use Rattle.natives.specs.declared.rounds.Reading.{Reading}
 use Rattle.natives.specs.declared.rounds.Round.{Round}
-use Rattle.natives.specs.declared.rounds.Stage.{Stage}
-use Rattle.natives.specs.declared.rounds.Stage.TheVariants.{Proposes, Looks, Named, Over}
+use Rattle.natives.specs.declared.rounds.RoundStage.{RoundStage}
+use Rattle.natives.specs.declared.rounds.RoundStage.TheVariants.{Proposes, Looks, Named, Over}
 
 -- a slot that may be read: not the own one, with a rank that rose by at most one a slot
 pub record IsRead (slots own : ℕ) (reading : Reading) : Type 0 where
@@ -61,7 +61,7 @@ reading_rest round =
     round.later round.proposal round.seen
 
 -- how a stage is told: a number for what it is, and what it holds
-abbrev pub name_numbers : ℕ → ℕ → Stage Reading → List ℕ
+abbrev pub name_numbers : ℕ → ℕ → RoundStage Reading → List ℕ
 name_numbers later proposal Proposes = 0 ∷ later ∷ proposal ∷ []
 name_numbers later proposal (Looks reading) =
     reading_number reading.clash ∷ later ∷ proposal ∷ reading.at ∷ reading.rank ∷ []

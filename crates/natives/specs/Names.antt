@@ -9,8 +9,8 @@ use Rattle.uses.specs.Expansions.{names_round}
 use Rattle.machine.specs.Sparse.{spread}
 use Rattle.natives.specs.Rounds.{at_slot, cells_of}
 use Rattle.natives.specs.declared.rounds.Round.{Round}
-use Rattle.natives.specs.declared.rounds.Stage.{Stage}
-use Rattle.natives.specs.declared.rounds.Stage.TheVariants.{Proposes, Looks, Named, Over}
+use Rattle.natives.specs.declared.rounds.RoundStage.{RoundStage}
+use Rattle.natives.specs.declared.rounds.RoundStage.TheVariants.{Proposes, Looks, Named, Over}
 use Rattle.natives.specs.declared.names.Scan.{Scan}
 
 module _ (base slots own registers : ℕ) where
@@ -34,7 +34,7 @@ abbrev pub scan_rest : Round Scan → Scan → Replies → Pending
 scan_rest round scan s = scan_round_rest round (one 0 ∷ s)
 
 -- how a stage is told: a number for what it is, and what it holds
-abbrev pub names_numbers : ℕ → ℕ → Stage Scan → List ℕ
+abbrev pub names_numbers : ℕ → ℕ → RoundStage Scan → List ℕ
 names_numbers later proposal Proposes = 0 ∷ later ∷ proposal ∷ []
 names_numbers later proposal (Looks scan) = 1 ∷ later ∷ proposal ∷ []
 names_numbers later proposal Named = 2 ∷ proposal ∷ []

@@ -8,8 +8,8 @@ use Rattle.regmodel.specs.Reply.{Replies}
 use Rattle.uses.specs.Expansions.{name_after}
 use Rattle.machine.specs.Sparse.{sparse}
 use Rattle.natives.specs.declared.rounds.Reading.{Reading}
-use Rattle.natives.specs.declared.rounds.Stage.{Stage}
-use Rattle.natives.specs.declared.rounds.Stage.TheVariants.{Proposes, Looks, Named, Over}
+use Rattle.natives.specs.declared.rounds.RoundStage.{RoundStage}
+use Rattle.natives.specs.declared.rounds.RoundStage.TheVariants.{Proposes, Looks, Named, Over}
 
 -- before the first slot
 abbrev pub first_slot : Reading
@@ -67,7 +67,7 @@ number_from held (suc turns) (suc rank) number =
 -- ---- the stages
 
 -- at a write of the proposal the value from the round on, at a look that from the look on
-abbrev pub stage_rest : {L : Type 0} → (Replies → Pending) → (L → Replies → Pending) → ℕ → Stage L
+abbrev pub stage_rest : {L : Type 0} → (Replies → Pending) → (L → Replies → Pending) → ℕ → RoundStage L
     → Replies → Pending
 stage_rest round look proposal Proposes s = round s
 stage_rest round look proposal (Looks at) s = look at s
@@ -76,7 +76,7 @@ stage_rest round look proposal Over s = Done (record { items = [] })
 
 -- once a round has ended, by whether there was a clash and by how many rounds are left: where
 -- the process stands,
-abbrev pub stage_after : {L : Type 0} → Bool → ℕ → Stage L
+abbrev pub stage_after : {L : Type 0} → Bool → ℕ → RoundStage L
 stage_after false later = Named
 stage_after true zero = Over
 stage_after true (suc later) = Proposes
@@ -95,7 +95,7 @@ proposal_after true (suc later) slots rank seen proposal =
 
 -- what is told of the slots behind a stage: what they held, by a mask and what is not 0, where
 -- it is one in a round
-abbrev pub seen_numbers : {L : Type 0} → Stage L → List ℕ → List ℕ
+abbrev pub seen_numbers : {L : Type 0} → RoundStage L → List ℕ → List ℕ
 seen_numbers Proposes seen = sparse seen
 seen_numbers (Looks at) seen = sparse seen
 seen_numbers Named seen = []

@@ -5,13 +5,13 @@ use Rattle.regmodel.specs.declared.accesses.Pending.TheVariants.{Done}
 use Rattle.regmodel.specs.Program.{Program}
 use Rattle.regmodel.specs.Act.{act_of}
 use Rattle.regmodel.specs.Reply.{Replies}
-use Rattle.natives.specs.declared.split.Stage.{Stage}
-use Rattle.natives.specs.declared.split.Stage.TheVariants.{At, Stopped, Right, Down, Ended}
-use Rattle.natives.specs.declared.splitters.Step.TheVariants.{Marks, Tries, Closes, Looks}
+use Rattle.natives.specs.declared.split.SplitStage.{SplitStage}
+use Rattle.natives.specs.declared.split.SplitStage.TheVariants.{At, Stopped, Right, Down, Ended}
+use Rattle.natives.specs.declared.splitters.SplitterStep.TheVariants.{Marks, Tries, Closes, Looks}
 use Rattle.natives.specs.Splitters.{since_first}
 
 -- at an access the program's value from its start, after the replies since then
-abbrev pub split_rest : Program → Stage → Replies → Pending
+abbrev pub split_rest : Program → SplitStage → Replies → Pending
 split_rest program (At step) s = act_of program (since_first step s)
 split_rest program Stopped s = Done (record { items = 1 ∷ [] })
 split_rest program Right s = Done (record { items = 2 ∷ [] })
@@ -19,7 +19,7 @@ split_rest program Down s = Done (record { items = 3 ∷ [] })
 split_rest program Ended s = Done (record { items = [] })
 
 -- the stage that a number tells
-abbrev pub split_stage : ℕ → Stage
+abbrev pub split_stage : ℕ → SplitStage
 split_stage zero = At Marks
 split_stage (suc zero) = At Tries
 split_stage (suc (suc zero)) = At Closes

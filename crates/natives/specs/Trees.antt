@@ -7,8 +7,8 @@ use Rattle.regmodel.specs.Act.{Flow, exec, times, then_do, flow_pending}
 use Rattle.regmodel.specs.Reply.{Replies, one}
 use Rattle.uses.specs.Expansions.{tree_leave, tree_after, tree_descend, tree_collect, tree_look}
 use Rattle.machine.specs.Bits.{bit, packed, unpacked}
-use Rattle.natives.specs.declared.trees.Stage.{Stage}
-use Rattle.natives.specs.declared.trees.Stage.TheVariants.{Marks, At, Leaves, Sees, Takes, Collected, Overfull, Over}
+use Rattle.natives.specs.declared.trees.TreeStage.{TreeStage}
+use Rattle.natives.specs.declared.trees.TreeStage.TheVariants.{Marks, At, Leaves, Sees, Takes, Collected, Overfull, Over}
 use Rattle.natives.specs.Splitters.{since_first, step_number}
 
 -- on the way down: the vertex, and whether the process stopped at it
@@ -78,7 +78,7 @@ below_reached vertex reached = slice_set (slice_set reached (vertex * 2) true) (
 -- on the way down the value from the vertex on, in the collect that from the vertex looked at,
 -- after the replies since then
 abbrev pub tree_rest : (Replies → Pending) → (Replies → Pending) → (ℕ → Replies → Pending) → List ℕ
-    → Stage → Replies → Pending
+    → TreeStage → Replies → Pending
 tree_rest vertex stop look numbers Marks s = vertex s
 tree_rest vertex stop look numbers (At step) s = vertex (one 0 ∷ since_first step s)
 tree_rest vertex stop look numbers Leaves s = stop s
@@ -94,7 +94,7 @@ abbrev pub collect_numbers : List Bool → List ℕ → ℕ → ℕ → List ℕ
 collect_numbers reached numbers stage at = stage ∷ at ∷ packed reached ∷ numbers
 
 -- how a stage is told: a number for what it is, and what it holds
-abbrev pub tree_numbers : ℕ → ℕ → List Bool → List ℕ → Stage → List ℕ
+abbrev pub tree_numbers : ℕ → ℕ → List Bool → List ℕ → TreeStage → List ℕ
 tree_numbers vertex levels reached numbers Marks = 0 ∷ vertex ∷ levels ∷ []
 tree_numbers vertex levels reached numbers (At step) = (step_number step + 1) ∷ vertex ∷ levels ∷ []
 tree_numbers vertex levels reached numbers Leaves = 5 ∷ vertex ∷ []

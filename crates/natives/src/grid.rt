@@ -12,16 +12,16 @@ ghost use Rattle.natives.specs.Turns.{GoesOnAs};
 use crate::MakeFault;
 use crate::limits::check_fits;
 use crate::numbers::{done, done_with};
-use crate::splitters::Step;
+use crate::splitters::SplitterStep;
 use machine::{Machine, Told, value_of};
 use regmodel::Pending;
 use uses::Use;
 
 /// Where a process stands in the grid.
 #[derive(Clone, Copy)]
-enum Stage {
+enum GridStage {
     /// It is at the splitter of a vertex.
-    At(Step),
+    At(SplitterStep),
     /// It stopped at the vertex.
     Stopped,
     /// It left the grid, or was ended.
@@ -39,7 +39,7 @@ pub struct Grid {
     registers: u32,
     level: u8,
     vertex: u8,
-    stage: Stage,
+    stage: GridStage,
     ghost few: { registers ≤ MOST_REGISTERS },
     ghost room: { base + side * (side + 1) ≤ registers },
     ghost sides: { side ≤ MOST_ROWS },
@@ -63,7 +63,7 @@ impl Grid {
             registers,
             level: 0,
             vertex: 1,
-            stage: Stage::At(Step::Marks),
+            stage: GridStage::At(SplitterStep::Marks),
         })
     }
 
@@ -84,11 +84,11 @@ impl Grid {
             (self.old.side - (self.old.level + 1)) (self.old.level + 1) vertex) }
     {
         if self.level + 1 == self.side {
-            self.stage = Stage::Over;
+            self.stage = GridStage::Over;
         } else {
             self.level += 1;
             self.vertex = vertex;
-            self.stage = Stage::At(Step::Marks);
+            self.stage = GridStage::At(SplitterStep::Marks);
         }
     }
 
@@ -100,9 +100,9 @@ impl Grid {
         let level = u32::from(self.level);
         let vertex = u32::from(self.vertex);
         match self.stage {
-            Stage::At(step) => numbers.put_all(&[step.number(), level, vertex]),
-            Stage::Stopped => numbers.put_all(&[4, vertex]),
-            Stage::Over => numbers.put(5),
+            GridStage::At(step) => numbers.put_all(&[step.number(), level, vertex]),
+            GridStage::Stopped => numbers.put_all(&[4, vertex]),
+            GridStage::Over => numbers.put(5),
         }
     }
 }
@@ -122,34 +122,34 @@ impl Machine for Grid {
     fn reset(&mut self) {
         self.level = 0;
         self.vertex = 1;
-        self.stage = Stage::At(Step::Marks);
+        self.stage = GridStage::At(SplitterStep::Marks);
     }
 
     fn pending(&self) -> Pending {
         match self.stage {
-            Stage::At(step) => Pending::Wants(step.access(self.last(), self.id)),
-            Stage::Stopped => done_with(u32::from(self.vertex)),
-            Stage::Over => done(),
+            GridStage::At(step) => Pending::Wants(step.access(self.last(), self.id)),
+            GridStage::Stopped => done_with(u32::from(self.vertex)),
+            GridStage::Over => done(),
         }
     }
 
     fn feed(&mut self, reply: &[u32]) {
-        let Stage::At(step) = self.stage else {
+        let GridStage::At(step) = self.stage else {
             return;
         };
         let value = value_of(reply);
         match step {
-            Step::Marks => self.stage = Stage::At(Step::Tries),
-            Step::Tries if value != 0 => self.go_to(self.vertex + self.level + 2),
-            Step::Tries => self.stage = Stage::At(Step::Closes),
-            Step::Closes => self.stage = Stage::At(Step::Looks),
-            Step::Looks if value == self.id => self.stage = Stage::Stopped,
-            Step::Looks => self.go_to(self.vertex + self.level + 1),
+            SplitterStep::Marks => self.stage = GridStage::At(SplitterStep::Tries),
+            SplitterStep::Tries if value != 0 => self.go_to(self.vertex + self.level + 2),
+            SplitterStep::Tries => self.stage = GridStage::At(SplitterStep::Closes),
+            SplitterStep::Closes => self.stage = GridStage::At(SplitterStep::Looks),
+            SplitterStep::Looks if value == self.id => self.stage = GridStage::Stopped,
+            SplitterStep::Looks => self.go_to(self.vertex + self.level + 1),
         }
     }
 
     fn end(&mut self) {
-        self.stage = Stage::Over;
+        self.stage = GridStage::Over;
     }
 
     fn tell(&self, numbers: &mut Told) -> bool {

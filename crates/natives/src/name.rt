@@ -4,7 +4,7 @@ ghost use Rattle.std.specs.Prelude.{◌≡◌, ◌+◌, ◌≤◌, ◌∷◌, sl
 ghost use Rattle.uses.specs.declared.kinds.Use.TheVariants as kind;
 ghost use Rattle.natives.specs.Makes.{IsMadeFor};
 ghost use Rattle.natives.specs.declared.rounds.Reading.{Reading};
-ghost use Rattle.natives.specs.declared.rounds.Stage.TheVariants.{Looks};
+ghost use Rattle.natives.specs.declared.rounds.RoundStage.TheVariants.{Looks};
 ghost use Rattle.natives.specs.Puts.{ArePut};
 ghost use Rattle.natives.specs.NameSlots.{IsRead, name_numbers, reading_rest};
 ghost use Rattle.natives.specs.Turns.{GoesOnAs};
@@ -12,7 +12,7 @@ ghost use Rattle.natives.specs.Turns.{GoesOnAs};
 use crate::MakeFault;
 use crate::limits::check_fits;
 use crate::numbers::{done, done_with};
-use crate::rounds::{Reading, Round, Slots, Stage};
+use crate::rounds::{Reading, Round, RoundSlots, RoundStage};
 use machine::{Machine, Told, value_of};
 use regmodel::{Access, Pending};
 use uses::Use;
@@ -36,7 +36,7 @@ impl NameSlots {
     {
         check_fits(Use::Name(base, slots, slot), registers)?;
         Ok(NameSlots {
-            round: Round::first(Slots::of(base, slots, slot, registers)),
+            round: Round::first(RoundSlots::of(base, slots, slot, registers)),
         })
     }
 
@@ -57,7 +57,7 @@ impl NameSlots {
             reading
         };
         if next.at < self.round.slots.count {
-            self.round.stage = Stage::Looks(next);
+            self.round.stage = RoundStage::Looks(next);
         } else {
             self.round.finish(next);
         }
@@ -82,13 +82,13 @@ impl NameSlots {
             numbers.old numbers.new result }
     {
         match self.round.stage {
-            Stage::Proposes => self.round.put_stage(0, numbers),
-            Stage::Looks(reading) => {
+            RoundStage::Proposes => self.round.put_stage(0, numbers),
+            RoundStage::Looks(reading) => {
                 self.round.put_stage(reading.number(), numbers)?;
                 numbers.put_all(&[u32::from(reading.at), u32::from(reading.rank)])
             }
-            Stage::Named => numbers.put_all(&[3, self.round.proposal]),
-            Stage::Over => numbers.put(4),
+            RoundStage::Named => numbers.put_all(&[3, self.round.proposal]),
+            RoundStage::Over => numbers.put(4),
         }
     }
 }
@@ -111,25 +111,25 @@ impl Machine for NameSlots {
 
     fn pending(&self) -> Pending {
         match self.round.stage {
-            Stage::Proposes => Pending::Wants(self.round.write()),
-            Stage::Looks(reading) => Pending::Wants(Access::Read(
+            RoundStage::Proposes => Pending::Wants(self.round.write()),
+            RoundStage::Looks(reading) => Pending::Wants(Access::Read(
                 reading.at + self.round.slots.base,
             )),
-            Stage::Named => done_with(self.round.proposal),
-            Stage::Over => done(),
+            RoundStage::Named => done_with(self.round.proposal),
+            RoundStage::Over => done(),
         }
     }
 
     fn feed(&mut self, reply: &[u32]) {
         match self.round.stage {
-            Stage::Proposes => self.go_on(Reading::first()),
-            Stage::Looks(reading) => self.take(reading, reply),
-            Stage::Named | Stage::Over => {}
+            RoundStage::Proposes => self.go_on(Reading::first()),
+            RoundStage::Looks(reading) => self.take(reading, reply),
+            RoundStage::Named | RoundStage::Over => {}
         }
     }
 
     fn end(&mut self) {
-        self.round.stage = Stage::Over;
+        self.round.stage = RoundStage::Over;
     }
 
     fn tell(&self, numbers: &mut Told) -> bool {

@@ -12,7 +12,7 @@ ghost use Rattle.natives.specs.Turns.{GoesOnAs};
 use crate::MakeFault;
 use crate::limits::check_fits;
 use crate::numbers::{done, done_with};
-use crate::rounds::{Reading, Round, Slots, Stage};
+use crate::rounds::{Reading, Round, RoundSlots, RoundStage};
 use machine::{Machine, Told};
 use regmodel::{Access, Pending};
 use uses::Use;
@@ -37,7 +37,7 @@ impl Names {
     {
         check_fits(Use::Names(base, slots, slot), registers)?;
         Ok(Names {
-            round: Round::first(Slots::of(base, slots, slot, registers)),
+            round: Round::first(RoundSlots::of(base, slots, slot, registers)),
         })
     }
 
@@ -69,10 +69,10 @@ impl Names {
             numbers.old numbers.new result }
     {
         match self.round.stage {
-            Stage::Proposes => self.round.put_stage(0, numbers),
-            Stage::Looks(_) => self.round.put_stage(1, numbers),
-            Stage::Named => numbers.put_all(&[2, self.round.proposal]),
-            Stage::Over => numbers.put(3),
+            RoundStage::Proposes => self.round.put_stage(0, numbers),
+            RoundStage::Looks(_) => self.round.put_stage(1, numbers),
+            RoundStage::Named => numbers.put_all(&[2, self.round.proposal]),
+            RoundStage::Over => numbers.put(3),
         }
     }
 }
@@ -95,26 +95,26 @@ impl Machine for Names {
 
     fn pending(&self) -> Pending {
         match self.round.stage {
-            Stage::Proposes => Pending::Wants(self.round.write()),
-            Stage::Looks(_) => Pending::Wants(Access::Scan(
+            RoundStage::Proposes => Pending::Wants(self.round.write()),
+            RoundStage::Looks(_) => Pending::Wants(Access::Scan(
                 self.round.slots.base,
                 self.round.slots.count,
             )),
-            Stage::Named => done_with(self.round.proposal),
-            Stage::Over => done(),
+            RoundStage::Named => done_with(self.round.proposal),
+            RoundStage::Over => done(),
         }
     }
 
     fn feed(&mut self, reply: &[u32]) {
         match self.round.stage {
-            Stage::Proposes => self.round.stage = Stage::Looks(Scan),
-            Stage::Looks(_) => self.take(reply),
-            Stage::Named | Stage::Over => {}
+            RoundStage::Proposes => self.round.stage = RoundStage::Looks(Scan),
+            RoundStage::Looks(_) => self.take(reply),
+            RoundStage::Named | RoundStage::Over => {}
         }
     }
 
     fn end(&mut self) {
-        self.round.stage = Stage::Over;
+        self.round.stage = RoundStage::Over;
     }
 
     fn tell(&self, numbers: &mut Told) -> bool {

@@ -4,7 +4,7 @@ ghost use Rattle.std.specs.Prelude.{◌≡◌, ◌+◌, ◌-◌, ◌*◌, ◌<�
 ghost use Rattle.natives.specs.Puts.{ArePut};
 ghost use Rattle.regmodel.specs.declared.limits.TheConstants.{MOST_SLOTS, MOST_REGISTERS};
 ghost use Rattle.natives.specs.declared.rounds.TheConstants.{LATER};
-ghost use Rattle.natives.specs.declared.rounds.Stage.TheVariants.{Proposes};
+ghost use Rattle.natives.specs.declared.rounds.RoundStage.TheVariants.{Proposes};
 ghost use Rattle.natives.specs.Rounds.{first_slot, after_slot, after_slots, number_from, reading_number, stage_after, later_after, proposal_after, seen_numbers};
 ghost use Rattle.uses.specs.Uses.{use_fits};
 ghost use Rattle.uses.specs.declared.kinds.Use.TheVariants.{Name};
@@ -19,7 +19,7 @@ const LATER: u8 = MOST_TURNS as u8 - 1;
 
 /// The slots of a renaming, a register each for the proposal of its process.
 #[derive(Clone, Copy)]
-pub struct Slots {
+pub struct RoundSlots {
     /// The register of the first one.
     pub base: u8,
     /// How many there are.
@@ -34,16 +34,16 @@ pub struct Slots {
     ghost own_in: { own < count },
 }
 
-impl Slots {
+impl RoundSlots {
     /// Those of a use line that is within its limits.
-    pub fn of(base: u32, slots: u32, slot: u32, registers: u32) -> Slots
+    pub fn of(base: u32, slots: u32, slot: u32, registers: u32) -> RoundSlots
         requires { use_fits (Name base slots slot) registers ≡ true }
         ensures base { result.base ≡ base }
         ensures count { result.count ≡ slots }
         ensures own { result.own ≡ slot }
         ensures registers { result.registers ≡ registers }
     {
-        Slots {
+        RoundSlots {
             base: base as u8,
             count: slots as u8,
             own: slot as u8,
@@ -54,7 +54,7 @@ impl Slots {
 
 /// Where a process stands in a round, with what it is about to look at where it looks.
 #[derive(Clone, Copy)]
-pub enum Stage<L> {
+pub enum RoundStage<L> {
     /// It writes its proposal into its slot.
     Proposes,
     /// It looks at slots.
@@ -69,9 +69,9 @@ pub enum Stage<L> {
 #[derive(Drop)]
 pub struct Round<L> {
     /// The slots.
-    pub slots: Slots,
+    pub slots: RoundSlots,
     /// Where the process stands.
-    pub stage: Stage<L>,
+    pub stage: RoundStage<L>,
     /// How many rounds there are after this one.
     pub later: u8,
     /// The name that the process proposes.
@@ -83,7 +83,7 @@ pub struct Round<L> {
 
 impl<L: Copy> Round<L> {
     /// The first one, which proposes 1.
-    pub fn first(slots: Slots) -> Round<L>
+    pub fn first(slots: RoundSlots) -> Round<L>
         ensures slots { result.slots ≡ slots }
         ensures stage { result.stage ≡ Proposes }
         ensures later { result.later ≡ LATER }
@@ -92,7 +92,7 @@ impl<L: Copy> Round<L> {
     {
         Round {
             slots,
-            stage: Stage::Proposes,
+            stage: RoundStage::Proposes,
             later: LATER,
             proposal: 1,
             seen: [0; 8],
@@ -119,11 +119,11 @@ impl<L: Copy> Round<L> {
         ensures seen { self.new.seen ≡ self.old.seen }
     {
         if !reading.clash {
-            self.stage = Stage::Named;
+            self.stage = RoundStage::Named;
         } else if self.later == 0 {
-            self.stage = Stage::Over;
+            self.stage = RoundStage::Over;
         } else {
-            self.stage = Stage::Proposes;
+            self.stage = RoundStage::Proposes;
             self.later -= 1;
             self.proposal = free_number(&self.seen[..usize::from(self.slots.count)], reading.rank);
         }
@@ -144,8 +144,8 @@ impl<L: Copy> Round<L> {
             result }
     {
         match self.stage {
-            Stage::Proposes | Stage::Looks(_) => put_sparse(&self.seen, numbers),
-            Stage::Named | Stage::Over => Some(()),
+            RoundStage::Proposes | RoundStage::Looks(_) => put_sparse(&self.seen, numbers),
+            RoundStage::Named | RoundStage::Over => Some(()),
         }
     }
 }

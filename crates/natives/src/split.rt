@@ -10,7 +10,7 @@ ghost use Rattle.natives.specs.Splits.{split_stage};
 use crate::MakeFault;
 use crate::limits::check_fits;
 use crate::numbers::{done, done_with};
-use crate::splitters::Step;
+use crate::splitters::SplitterStep;
 use machine::{Machine, Told, value_of};
 use regmodel::Pending;
 use uses::Use;
@@ -26,9 +26,9 @@ const CLOSED: u32 = 3;
 
 /// Where a splitter stands.
 #[derive(Clone, Copy)]
-enum Stage {
+enum SplitStage {
     /// It is on its way.
-    At(Step),
+    At(SplitterStep),
     /// It found itself last.
     Stopped,
     /// It found the door closed.
@@ -39,17 +39,17 @@ enum Stage {
     Ended,
 }
 
-impl Stage {
+impl SplitStage {
     /// The number that tells the stage.
     fn number(self) -> u32
         ensures { split_stage result ≡ self }
     {
         match self {
-            Stage::At(step) => step.number(),
-            Stage::Stopped => 4,
-            Stage::Right => 5,
-            Stage::Down => 6,
-            Stage::Ended => 7,
+            SplitStage::At(step) => step.number(),
+            SplitStage::Stopped => 4,
+            SplitStage::Right => 5,
+            SplitStage::Down => 6,
+            SplitStage::Ended => 7,
         }
     }
 }
@@ -61,7 +61,7 @@ pub struct Split {
     base: u8,
     id: u32,
     registers: u32,
-    stage: Stage,
+    stage: SplitStage,
     ghost few: { registers ≤ MOST_REGISTERS },
     ghost room: { base + 2 ≤ registers },
 }
@@ -78,7 +78,7 @@ impl Split {
             base: base as u8,
             id,
             registers,
-            stage: Stage::At(Step::Marks),
+            stage: SplitStage::At(SplitterStep::Marks),
         })
     }
 }
@@ -95,28 +95,28 @@ impl Machine for Split {
     ghost resumed = { λ m. split_resumed (expansion (kind.Split m.base m.id) m.registers) };
 
     fn reset(&mut self) {
-        self.stage = Stage::At(Step::Marks);
+        self.stage = SplitStage::At(SplitterStep::Marks);
     }
 
     fn pending(&self) -> Pending {
         match self.stage {
-            Stage::At(step) => Pending::Wants(step.access(self.base, self.id)),
-            Stage::Stopped => done_with(1),
-            Stage::Right => done_with(2),
-            Stage::Down => done_with(3),
-            Stage::Ended => done(),
+            SplitStage::At(step) => Pending::Wants(step.access(self.base, self.id)),
+            SplitStage::Stopped => done_with(1),
+            SplitStage::Right => done_with(2),
+            SplitStage::Down => done_with(3),
+            SplitStage::Ended => done(),
         }
     }
 
     fn feed(&mut self, reply: &[u32]) {
         let value = value_of(reply);
         self.stage = match self.stage {
-            Stage::At(Step::Marks) => Stage::At(Step::Tries),
-            Stage::At(Step::Tries) if value != 0 => Stage::Right,
-            Stage::At(Step::Tries) => Stage::At(Step::Closes),
-            Stage::At(Step::Closes) => Stage::At(Step::Looks),
-            Stage::At(Step::Looks) if value == self.id => Stage::Stopped,
-            Stage::At(Step::Looks) => Stage::Down,
+            SplitStage::At(SplitterStep::Marks) => SplitStage::At(SplitterStep::Tries),
+            SplitStage::At(SplitterStep::Tries) if value != 0 => SplitStage::Right,
+            SplitStage::At(SplitterStep::Tries) => SplitStage::At(SplitterStep::Closes),
+            SplitStage::At(SplitterStep::Closes) => SplitStage::At(SplitterStep::Looks),
+            SplitStage::At(SplitterStep::Looks) if value == self.id => SplitStage::Stopped,
+            SplitStage::At(SplitterStep::Looks) => SplitStage::Down,
             over => over,
         };
     }
@@ -136,7 +136,7 @@ impl Machine for Split {
     }
 
     fn end(&mut self) {
-        self.stage = Stage::Ended;
+        self.stage = SplitStage::Ended;
     }
 
     fn tell(&self, numbers: &mut Told) -> bool {

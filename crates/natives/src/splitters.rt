@@ -8,7 +8,7 @@ use regmodel::Access;
 
 /// Where a process stands at a splitter.
 #[derive(Clone, Copy)]
-pub enum Step {
+pub enum SplitterStep {
     /// It writes its number.
     Marks,
     /// It reads the door.
@@ -19,7 +19,7 @@ pub enum Step {
     Looks,
 }
 
-impl Step {
+impl SplitterStep {
     /// The access of the step, by the register that tells who came last; the next one is the door,
     /// 0 where it is open.
     pub fn access(self, last: u8, id: u32) -> Access
@@ -27,10 +27,10 @@ impl Step {
         ensures { result ≡ step_access last id self }
     {
         match self {
-            Step::Marks => Access::Write(last, id),
-            Step::Tries => Access::Read(last + 1),
-            Step::Closes => Access::Write(last + 1, 1),
-            Step::Looks => Access::Read(last),
+            SplitterStep::Marks => Access::Write(last, id),
+            SplitterStep::Tries => Access::Read(last + 1),
+            SplitterStep::Closes => Access::Write(last + 1, 1),
+            SplitterStep::Looks => Access::Read(last),
         }
     }
 
@@ -39,10 +39,10 @@ impl Step {
         ensures { result ≡ step_number self }
     {
         match self {
-            Step::Marks => 0,
-            Step::Tries => 1,
-            Step::Closes => 2,
-            Step::Looks => 3,
+            SplitterStep::Marks => 0,
+            SplitterStep::Tries => 1,
+            SplitterStep::Closes => 2,
+            SplitterStep::Looks => 3,
         }
     }
 }

@@ -8,7 +8,7 @@ ghost use Rattle.uses.specs.declared.kinds.Use.TheVariants as kind;
 ghost use Rattle.natives.specs.Makes.{IsMadeFor};
 ghost use Rattle.natives.specs.Puts.{ArePut};
 ghost use Rattle.regmodel.specs.declared.limits.TheConstants.{MOST_LEVELS, MOST_REGISTERS};
-ghost use Rattle.natives.specs.declared.trees.Stage.TheVariants.{Sees, Takes};
+ghost use Rattle.natives.specs.declared.trees.TreeStage.TheVariants.{Sees, Takes};
 ghost use Rattle.natives.specs.Trees.{IsIn, collect_numbers, tree_numbers, below_reached, from_vertex, from_past, from_at, from_next};
 ghost use Rattle.natives.specs.Turns.{GoesOnAs};
 
@@ -16,18 +16,18 @@ use crate::MakeFault;
 use crate::limits::check_fits;
 use crate::numbers::done;
 use crate::packing::packed;
-use crate::splitters::Step;
+use crate::splitters::SplitterStep;
 use machine::{Machine, Told, value_of};
 use regmodel::{Access, Numbers, Pending};
 use uses::{Use, vertices};
 
 /// Where a process stands in the tree.
 #[derive(Clone, Copy)]
-enum Stage {
+enum TreeStage {
     /// It marks a vertex.
     Marks,
     /// It is at the vertex's splitter.
-    At(Step),
+    At(SplitterStep),
     /// It writes its value at the vertex where it stopped.
     Leaves,
     /// It reads the mark of this vertex, whose parent was marked.
@@ -57,7 +57,7 @@ pub struct Tree {
     levels: u8,
     reached: [bool; 32],
     numbers: Numbers,
-    stage: Stage,
+    stage: TreeStage,
     ghost few: { registers ≤ MOST_REGISTERS },
     ghost some_level: { 1 ≤ depth },
     ghost small: { depth ≤ MOST_LEVELS },
@@ -98,7 +98,7 @@ impl Tree {
             levels: depth - 1,
             reached: [false; 32],
             numbers: Numbers::new(),
-            stage: Stage::Marks,
+            stage: TreeStage::Marks,
         })
     }
 
@@ -120,11 +120,11 @@ impl Tree {
             self.old.levels vertex) }
     {
         if self.levels == 0 {
-            self.stage = Stage::Over;
+            self.stage = TreeStage::Over;
         } else {
             self.levels -= 1;
             self.vertex = vertex;
-            self.stage = Stage::Marks;
+            self.stage = TreeStage::Marks;
         }
     }
 
@@ -167,8 +167,8 @@ impl Tree {
             self.old.reached self.old.numbers.items) }
     {
         match self.next_reached(vertex) {
-            Some(next) => self.stage = Stage::Sees(next),
-            None => self.stage = Stage::Collected,
+            Some(next) => self.stage = TreeStage::Sees(next),
+            None => self.stage = TreeStage::Collected,
         }
     }
 
@@ -195,7 +195,7 @@ impl Tree {
         if value == 0 {
             self.reach(vertex);
         } else if self.numbers.is_full() {
-            self.stage = Stage::Overfull;
+            self.stage = TreeStage::Overfull;
         } else {
             self.numbers.push(value);
             self.reach(vertex);
@@ -222,17 +222,17 @@ impl Tree {
         let vertex = u32::from(self.vertex);
         let levels = u32::from(self.levels);
         match self.stage {
-            Stage::Marks => numbers.put_all(&[0, vertex, levels]),
-            Stage::At(step) => numbers.put_all(&[step.number() + 1, vertex, levels]),
-            Stage::Leaves => numbers.put_all(&[5, vertex]),
-            Stage::Sees(seen) => self.put_collect(6, seen, numbers),
-            Stage::Takes(taken) => self.put_collect(7, taken, numbers),
-            Stage::Collected => {
+            TreeStage::Marks => numbers.put_all(&[0, vertex, levels]),
+            TreeStage::At(step) => numbers.put_all(&[step.number() + 1, vertex, levels]),
+            TreeStage::Leaves => numbers.put_all(&[5, vertex]),
+            TreeStage::Sees(seen) => self.put_collect(6, seen, numbers),
+            TreeStage::Takes(taken) => self.put_collect(7, taken, numbers),
+            TreeStage::Collected => {
                 numbers.put(8)?;
                 numbers.put_all(&self.numbers)
             }
-            Stage::Overfull => numbers.put(9),
-            Stage::Over => numbers.put(10),
+            TreeStage::Overfull => numbers.put(9),
+            TreeStage::Over => numbers.put(10),
         }
     }
 }
@@ -252,44 +252,47 @@ impl Machine for Tree {
     fn reset(&mut self) {
         self.vertex = 1;
         self.levels = self.depth - 1;
-        self.stage = Stage::Marks;
+        self.stage = TreeStage::Marks;
     }
 
     fn pending(&self) -> Pending {
         match self.stage {
-            Stage::Marks => Pending::Wants(Access::Write(self.mark(self.vertex), 1)),
-            Stage::At(step) => Pending::Wants(step.access(self.mark(self.vertex) + 1, self.id)),
-            Stage::Leaves => Pending::Wants(Access::Write(self.mark(self.vertex) + 3, self.value)),
-            Stage::Sees(vertex) => Pending::Wants(Access::Read(self.mark(vertex))),
-            Stage::Takes(vertex) => Pending::Wants(Access::Read(self.mark(vertex) + 3)),
-            Stage::Collected => Pending::Done(self.numbers.clone().unwrap()),
-            Stage::Overfull => Pending::Fault(4),
-            Stage::Over => done(),
+            TreeStage::Marks => Pending::Wants(Access::Write(self.mark(self.vertex), 1)),
+            TreeStage::At(step) => Pending::Wants(step.access(self.mark(self.vertex) + 1, self.id)),
+            TreeStage::Leaves => Pending::Wants(Access::Write(
+                self.mark(self.vertex) + 3,
+                self.value,
+            )),
+            TreeStage::Sees(vertex) => Pending::Wants(Access::Read(self.mark(vertex))),
+            TreeStage::Takes(vertex) => Pending::Wants(Access::Read(self.mark(vertex) + 3)),
+            TreeStage::Collected => Pending::Done(self.numbers.clone().unwrap()),
+            TreeStage::Overfull => Pending::Fault(4),
+            TreeStage::Over => done(),
         }
     }
 
     fn feed(&mut self, reply: &[u32]) {
         let value = value_of(reply);
         match self.stage {
-            Stage::Marks => self.stage = Stage::At(Step::Marks),
-            Stage::At(step) => match step {
-                Step::Marks => self.stage = Stage::At(Step::Tries),
-                Step::Tries if value != 0 => self.go_to(self.vertex * 2 + 1),
-                Step::Tries => self.stage = Stage::At(Step::Closes),
-                Step::Closes => self.stage = Stage::At(Step::Looks),
-                Step::Looks if value == self.id => self.stage = Stage::Leaves,
-                Step::Looks => self.go_to(self.vertex * 2),
+            TreeStage::Marks => self.stage = TreeStage::At(SplitterStep::Marks),
+            TreeStage::At(step) => match step {
+                SplitterStep::Marks => self.stage = TreeStage::At(SplitterStep::Tries),
+                SplitterStep::Tries if value != 0 => self.go_to(self.vertex * 2 + 1),
+                SplitterStep::Tries => self.stage = TreeStage::At(SplitterStep::Closes),
+                SplitterStep::Closes => self.stage = TreeStage::At(SplitterStep::Looks),
+                SplitterStep::Looks if value == self.id => self.stage = TreeStage::Leaves,
+                SplitterStep::Looks => self.go_to(self.vertex * 2),
             },
-            Stage::Leaves => self.collect(),
-            Stage::Sees(vertex) if value != 0 => self.stage = Stage::Takes(vertex),
-            Stage::Sees(vertex) => self.go_past(vertex),
-            Stage::Takes(vertex) => self.take(vertex, reply),
-            Stage::Collected | Stage::Overfull | Stage::Over => {}
+            TreeStage::Leaves => self.collect(),
+            TreeStage::Sees(vertex) if value != 0 => self.stage = TreeStage::Takes(vertex),
+            TreeStage::Sees(vertex) => self.go_past(vertex),
+            TreeStage::Takes(vertex) => self.take(vertex, reply),
+            TreeStage::Collected | TreeStage::Overfull | TreeStage::Over => {}
         }
     }
 
     fn end(&mut self) {
-        self.stage = Stage::Over;
+        self.stage = TreeStage::Over;
     }
 
     fn tell(&self, numbers: &mut Told) -> bool {

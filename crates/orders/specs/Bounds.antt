@@ -12,14 +12,14 @@ use Rattle.drawing.specs.declared.breadths.Room.TheVariants.{Chosen, Places, Usu
 use Rattle.orders.specs.Flags.{IsFlagTold}
 use Rattle.orders.specs.NumberTexts.{IsNumberText}
 use Rattle.orders.specs.declared.bounds.TheConstants.{CACHE}
-use Rattle.orders.specs.declared.ranges.TheConstants.{MOST_CACHE, MOST_WIDTH}
-use Rattle.orders.specs.declared.ranges.Bound.{Bound}
-use Rattle.orders.specs.declared.ranges.Bound.TheVariants.{Length, Crashes, Workers, Cache, Width}
+use Rattle.orders.specs.declared.option_bounds.TheConstants.{MOST_CACHE, MOST_WIDTH}
+use Rattle.orders.specs.declared.option_bounds.OptionBound.{OptionBound}
+use Rattle.orders.specs.declared.option_bounds.OptionBound.TheVariants.{Length, Crashes, Workers, Cache, Width}
 use Rattle.orders.specs.declared.refusals.Refusal.{Refusal}
 use Rattle.orders.specs.declared.refusals.Refusal.TheVariants as refusal
 
 -- the option that gives a bound
-abbrev pub name_of : Bound → List ℕ
+abbrev pub name_of : OptionBound → List ℕ
 name_of Length = codes "length"
 name_of Crashes = codes "crashes"
 name_of Workers = codes "workers"
@@ -27,13 +27,13 @@ name_of Cache = codes "cache"
 name_of Width = codes "width"
 
 -- the least number of a bound
-abbrev pub least_of : Bound → ℕ
+abbrev pub least_of : OptionBound → ℕ
 least_of Workers = 1
 least_of Width = 1
 least_of other = 0
 
 -- the greatest number of a bound
-abbrev pub most_of : Bound → ℕ
+abbrev pub most_of : OptionBound → ℕ
 most_of Length = MOST_LETTERS
 most_of Crashes = MOST_CRASHES
 most_of Workers = MOST_WORKERS
@@ -49,13 +49,13 @@ IsBoundTold (Some text) other n =
 
 -- no number that the text tells, or the other one where there is no such option, is one
 -- that the bound takes
-abbrev pub IsNoBound : Option (List ℕ) → Bound → ℕ → Type 0
+abbrev pub IsNoBound : Option (List ℕ) → OptionBound → ℕ → Type 0
 IsNoBound told bound other =
     (number : ℕ) → IsBoundTold told other number → least_of bound ≤ number → number ≤ most_of bound
     → ⊥
 
 -- the number of a bound of which the words tell nothing, where there are so many workers then
-abbrev pub default_of : ℕ → Bound → ℕ
+abbrev pub default_of : ℕ → OptionBound → ℕ
 default_of workers Length = MOST_LETTERS
 default_of workers Crashes = 0
 default_of workers Workers = workers
@@ -65,12 +65,12 @@ default_of workers Width = MOST_WIDTH
 -- the refusal of a bound, of which the words tell no number that it takes
 pub record IsBoundRefused (told : List ℕ → Option (List ℕ)) (workers : ℕ)
     (r : Refusal) : Type 0 where
-  pub bound : Bound
-  pub told_is : r ≡ refusal.Bound bound
+  pub bound : OptionBound
+  pub told_is : r ≡ refusal.OptionBound bound
   pub none : IsNoBound (told (name_of bound)) bound (default_of workers bound)
 
 -- the bound of a line of a drawing
-abbrev pub width : Bound
+abbrev pub width : OptionBound
 width = Width
 
 -- how broad a text for the width allows a drawing to be: as usual where there is none, or so many
@@ -110,7 +110,7 @@ pub record AreNoRegisters (found : Found) (r : Refusal) : Type 0 where
 
 -- the words tell no width that may be
 pub record IsNoWidth (found : Found) (r : Refusal) : Type 0 where
-  pub told_is : r ≡ refusal.Bound width
+  pub told_is : r ≡ refusal.OptionBound width
   pub none : IsNoBound (one_text found (name_of width)) width MOST_WIDTH
 
 -- why no drawing can be so broad

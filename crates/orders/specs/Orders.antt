@@ -6,7 +6,7 @@ use Rattle.clap.specs.Matches.{first_value}
 use Rattle.clap.specs.Words.{matched_of, one_text, raw_values}
 use Rattle.clap.specs.declared.parser.matches.Found.{Found}
 use Rattle.patterns.specs.PatternText.{pattern_text}
-use Rattle.regmodel.specs.Settings.{AreSettingsWithin, Bounds, setting_fault}
+use Rattle.regmodel.specs.Settings.{AreSettingsWithin, Settings, setting_fault}
 use Rattle.regmodel.specs.declared.limits.TheConstants.{MOST_LETTERS}
 use Rattle.regmodel.specs.declared.effort.Effort.{Effort}
 use Rattle.regmodel.specs.declared.parts.Part.{Part}
@@ -19,7 +19,7 @@ use Rattle.orders.specs.PatternTexts.{AreNoTexts, AreTextsOf, are_standard}
 use Rattle.orders.specs.declared.tasks.Task.{Task}
 use Rattle.orders.specs.declared.bounds.TheConstants.{CACHE, PART_SETTING, ROOM, SHARED_CUT}
 use Rattle.orders.specs.declared.orders.TheConstants.{CACHE_SETTING}
-use Rattle.orders.specs.declared.ranges.TheConstants.{MOST_CACHE}
+use Rattle.orders.specs.declared.option_bounds.TheConstants.{MOST_CACHE}
 use Rattle.orders.specs.declared.refusals.Refusal.{Refusal}
 use Rattle.orders.specs.declared.refusals.Refusal.TheVariants as refusal
 use Rattle.orders.specs.declared.tasks.Task.TheVariants.{Check, Explore, Find, Replay, Show}
@@ -45,7 +45,7 @@ IsNumberTold None other n = n ≡ other
 IsNumberTold (Some text) other n = IsNumberIn text other n
 
 -- the settings of an exploration are those of its words; `told` gives the text of each
-pub record AreSettingsTold (told : List ℕ → Option (List ℕ)) (settings : Bounds) : Type 0 where
+pub record AreSettingsTold (told : List ℕ → Option (List ℕ)) (settings : Settings) : Type 0 where
   pub length : IsNumberTold (told (codes "length")) 0 settings.length
   pub crashes : IsNumberTold (told (codes "crashes")) 0 settings.crashes
   pub workers : IsNumberTold (told (codes "workers")) 0 settings.workers
@@ -59,7 +59,7 @@ cut_for workers = if nat_lt 1 workers then SHARED_CUT else 0
 -- the bounds of a check or a search are those of its words: without them the greatest length, no
 -- crash, and so many workers
 pub record AreBoundsTold (told : List ℕ → Option (List ℕ)) (otherwise : ℕ)
-    (settings : Bounds) : Type 0 where
+    (settings : Settings) : Type 0 where
   pub length : IsBoundTold (told (codes "length")) MOST_LETTERS settings.length
   pub crashes : IsBoundTold (told (codes "crashes")) 0 settings.crashes
   pub workers : IsBoundTold (told (codes "workers")) otherwise settings.workers
@@ -98,7 +98,7 @@ word_told found = first_value found (codes "part")
 
 -- the lowest of the settings that the words tell past their limits is that of this number
 pub record IsSettingPast (told : List ℕ → Option (List ℕ)) (number : ℕ) : Type 0 where
-  pub settings : Bounds
+  pub settings : Settings
   pub told_are : AreSettingsTold told settings
   pub past : AreSettingsWithin settings → ⊥
   pub lowest : number ≡ setting_fault settings

@@ -2,7 +2,7 @@
 use Rattle.std.specs.Prelude.{◌≡◌, ◌≢◌, ◌⊎◌, ⊤, ℕ, Bool, true, false, if◌then◌else◌, List, [], ◌∷◌, ◌++◌, length, map, drop, Option, None, Some, codes, nat_eq}
 use Rattle.std.specs.List.{starts_with}
 use Rattle.patterns.specs.PatternText.{FitsPattern, IsBadAt, pattern_text}
-use Rattle.patterns.specs.declared.standings.Standing.{Standing}
+use Rattle.patterns.specs.declared.patterns.StandingPattern.{StandingPattern}
 use Rattle.reglang.specs.Lines.{lines}
 use Rattle.orders.specs.Inputs.{IsNoFile, IsUnreadable, is_standard}
 use Rattle.orders.specs.declared.refusals.Refusal.{Refusal}
@@ -42,12 +42,12 @@ pub record IsStandardUnread {R : Type 0} (opens : List ℕ → Option R → Type
 
 -- the first of some texts that no pattern has: its place, and that of its first standing at fault
 pub record IsFirstBad (texts : List (List ℕ)) (place standing : ℕ) : Type 0 where
-  pub patterns : List (List Standing)
+  pub patterns : List (List StandingPattern)
   pub text : List ℕ
   pub others : List (List ℕ)
   pub parts : texts ≡ map pattern_text patterns ++ text ∷ others
   pub place_is : place ≡ length patterns
-  pub none : (standings : List Standing) → FitsPattern standings → pattern_text standings ≢ text
+  pub none : (standings : List StandingPattern) → FitsPattern standings → pattern_text standings ≢ text
   pub standing_is : IsBadAt text standing
 
 -- the refusal of words of which one is the text of no pattern; or of memory, which may be

@@ -1,4 +1,5 @@
-//! How far the words ask to go: the bounds of a check or a search, and the part of an exploration.
+//! How far the words ask to go: the bounds of a check or a search, and the part of an exploration;
+//! and how broad a drawing may be.
 
 ghost use Rattle.std.specs.Prelude.{◌≡◌, ◌≢◌, ◌<◌, ◌≤◌, ◌++◌, ℕ, IfErr, IfNone, IfOk, IfSome, Option, Some, codes, decimal};
 ghost use Rattle.clap.specs.Words.{found_of, one_text};
@@ -9,7 +10,7 @@ ghost use Rattle.orders.specs.Bounds.{IsBoundTold, IsNoBound};
 ghost use Rattle.orders.specs.Orders.{AreBoundsTold, IsPartTold, part_word, word_told};
 ghost use Rattle.orders.specs.declared.bounds.TheConstants.{PART_SETTING};
 
-use crate::ranges::{Bound, MOST_WIDTH};
+use crate::option_bounds::{MOST_WIDTH, OptionBound};
 use crate::refusals::Refusal;
 use crate::words::has_flag;
 use clap::ArgMatches;
@@ -64,14 +65,11 @@ pub(crate) fn bounds_of(
     ensures err { IfErr result
         (spec.IsBoundRefused (one_text (found_of words.now)) processors.number) }
 {
-    let length = bound_of(words, Bound::Length, MOST_LETTERS)?;
-    let crashes = bound_of(words, Bound::Crashes, 0)?;
-    let workers = bound_of(words, Bound::Workers, processors.number)?;
+    let length = bound_of(words, OptionBound::Length, MOST_LETTERS)?;
+    let crashes = bound_of(words, OptionBound::Crashes, 0)?;
+    let workers = bound_of(words, OptionBound::Workers, processors.number)?;
     let cut = if workers > 1 { SHARED_CUT } else { 0 };
-    match Settings::new(length, crashes, workers, cut, ROOM) {
-        Ok(settings) => Ok(settings),
-        Err(_) => unreachable!(),
-    }
+    Ok(Settings::new(length, crashes, workers, cut, ROOM).unwrap())
 }
 
 /// How broad the words allow a drawing to be, and which columns they ask for.
@@ -112,12 +110,16 @@ fn width_of<'a>(words: &ArgMatches<'a>) -> Result<Room<'a>, Refusal>
     match words.try_get_one::<u32>("width") {
         Ok(Some(places)) if 1 <= places && places <= MOST_WIDTH => Ok(Room::Places(places)),
         Ok(None) => Ok(Room::Usual),
-        _ => Err(Refusal::Bound(Bound::Width)),
+        _ => Err(Refusal::OptionBound(OptionBound::Width)),
     }
 }
 
 /// The number that the words give for a bound, or another one where they give none.
-pub(crate) fn bound_of(words: &ArgMatches<'_>, bound: Bound, other: u32) -> Result<u32, Refusal>
+pub(crate) fn bound_of(
+    words: &ArgMatches<'_>,
+    bound: OptionBound,
+    other: u32,
+) -> Result<u32, Refusal>
     requires { (spec.least_of bound ≤ other) × (other ≤ spec.most_of bound) }
     ensures told { IfOk result
         (IsBoundTold (one_text (found_of words.now) (spec.name_of bound)) other) }
@@ -125,12 +127,12 @@ pub(crate) fn bound_of(words: &ArgMatches<'_>, bound: Bound, other: u32) -> Resu
         (λ number. (spec.least_of bound ≤ number) × (number ≤ spec.most_of bound)) }
     ensures refused { IfErr result
         (λ refusal. IsNoBound (one_text (found_of words.now) (spec.name_of bound)) bound other) }
-    ensures err { IfErr result (λ refusal. refusal ≡ Refusal.Bound bound) }
+    ensures err { IfErr result (λ refusal. refusal ≡ Refusal.OptionBound bound) }
 {
     match words.try_get_one::<u32>(bound.name()) {
         Ok(Some(number)) if bound.least() <= number && number <= bound.most() => Ok(number),
         Ok(None) => Ok(other),
-        _ => Err(Refusal::Bound(bound)),
+        _ => Err(Refusal::OptionBound(bound)),
     }
 }
 

@@ -1,4 +1,4 @@
-//! Where a source and patterns are read from: a file, or standard input.
+//! Where a source and patterns are read from, a file or standard input: who opens it, its bytes.
 
 ghost use Rattle.std.specs.Prelude.{◌≡◌, IfErr, IfOk, List, Ok, Option, Result, Some, false, true, ℕ};
 ghost use Rattle.std.specs.Fn.{FnOnceReturnsAt};

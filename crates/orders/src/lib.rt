@@ -3,9 +3,9 @@
 
 mod bounds;
 mod inputs;
+mod option_bounds;
 mod orders;
 mod patterns_told;
-mod ranges;
 mod reasons;
 mod refusals;
 mod standing_forms;
@@ -14,8 +14,8 @@ mod tips;
 mod words;
 
 pub use inputs::{Input, Opener, Readable, bytes_of, input_of};
+pub use option_bounds::OptionBound;
 pub use orders::{Order, Request, command};
-pub use ranges::Bound;
 pub use reasons::{Reason, refuse, worse};
 pub use refusals::{FileFault, Refusal};
 pub use tasks::{Question, Task};

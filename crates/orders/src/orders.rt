@@ -15,8 +15,8 @@ use crate::bounds::{
     CACHE, ProcessorCount, bound_of, bounds_of, breadth_of, part_told, processors,
 };
 use crate::inputs::{Opener, STANDARD_INPUT, is_standard};
+use crate::option_bounds::{MOST_CACHE, OptionBound};
 use crate::patterns_told::{are_standard, patterns_told};
-use crate::ranges::{Bound, MOST_CACHE};
 use crate::reasons::refuse;
 use crate::refusals::Refusal;
 use crate::standing_forms::standing_at;
@@ -210,7 +210,7 @@ fn task_of<O: Opener>(
 /// pattern, or standard input, of which patterns are read.
 fn subject_of<'a>(words: &ArgMatches<'a>, refusal: &Refusal) -> &'a str {
     match refusal {
-        Refusal::Bound(bound) => word_at(words, bound.name()),
+        Refusal::OptionBound(bound) => word_at(words, bound.name()),
         Refusal::Registers => word_at(words, "registers"),
         Refusal::Pattern(place, standing) => {
             match words.get_strs("PATTERN").unwrap_or(&[]).get(*place) {
@@ -251,7 +251,7 @@ fn effort_of(words: &ArgMatches<'_>, processors: ProcessorCount) -> Result<Effor
         (IsBoundRefused (one_text (found_of words.now)) processors.number) }
 {
     let settings = bounds_of(words, processors)?;
-    let cache = bound_of(words, Bound::Cache, CACHE)?;
+    let cache = bound_of(words, OptionBound::Cache, CACHE)?;
     Ok(Effort { settings, cache })
 }
 

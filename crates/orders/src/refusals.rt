@@ -3,7 +3,7 @@
 ghost use Rattle.std.specs.Prelude.{◌≡◌};
 ghost use Rattle.orders.specs.declared.refusals.Refusal.TheVariants.{Memory};
 
-use crate::ranges::Bound;
+use crate::option_bounds::OptionBound;
 use crate::reasons::Reason;
 use crate::standing_forms::form_for;
 use std::alloc::AllocFailed;
@@ -68,7 +68,7 @@ pub enum Refusal {
     Setting(u8),
     /// A bound whose text is no number, or not one that it takes.
     #[error("bound")]
-    Bound(Bound),
+    OptionBound(OptionBound),
     /// A text that tells no registers.
     #[error("registers")]
     Registers,
@@ -106,7 +106,7 @@ impl Reason for Refusal {
         match self {
             Refusal::Words
             | Refusal::Setting(_)
-            | Refusal::Bound(_)
+            | Refusal::OptionBound(_)
             | Refusal::Registers
             | Refusal::Schedule
             | Refusal::Pattern(_, _)
@@ -122,7 +122,7 @@ impl Reason for Refusal {
         match self {
             Refusal::Words => write_line("", "a word of the command line is not UTF-8", err),
             Refusal::Setting(code) => writeln!(err, "setting {code} is past its limit"),
-            Refusal::Bound(bound) => writeln!(
+            Refusal::OptionBound(bound) => writeln!(
                 err,
                 "--{} takes a number from {} to {}, not '{subject}'",
                 bound.name(),

@@ -4,7 +4,7 @@ use Rattle.std.specs.List.{flat_map, range_with_len}
 use Rattle.std.proofs.lemmas.List.Elements.{All-head, All-tail}
 use Rattle.std.proofs.lemmas.List.Sums.{sum_by-append, sum_by-cons}
 use Rattle.lists.specs.Balance.{AreInBalance}
-use Rattle.regmodel.specs.Settings.{Bounds}
+use Rattle.regmodel.specs.Settings.{Settings}
 use Rattle.regmodel.specs.declared.schedules.Letter.{Letter}
 use Rattle.regmodel.specs.declared.outcomes.ProcEnd.{ProcEnd}
 use Rattle.regmodel.specs.Prelude.{Summary}
@@ -12,8 +12,8 @@ use Rattle.reglang.specs.declared.source.Source.{Source}
 use Rattle.report.specs.PlainReport.{Findings, LeastFinding}
 use Rattle.part_texts.specs.PlainHead.{AreOfOne}
 use Rattle.tallies.specs.Merging.{Merges, lower_of}
-use Rattle.part_texts.specs.declared.parts.Found.{Found}
-use Rattle.part_texts.specs.declared.parts.Found.TheVariants.{Explored, Least}
+use Rattle.part_texts.specs.declared.parts.PartFound.{PartFound}
+use Rattle.part_texts.specs.declared.parts.PartFound.TheVariants.{Explored, Least}
 use Rattle.part_texts.specs.declared.parts.PartReport.{PartReport}
 use Rattle.merging.specs.Merged.{AreJoined, IsJoined, IsToldBy}
 use Rattle.report.specs.declared.explored.Yield.{Yield}
@@ -48,7 +48,7 @@ gathered-balanced members first (last ∷ others) weight =
     )
 
 module _ (search : Search) (merges : (first second : List (List Letter)) (s t whole : Summary) → Tells search first s → Tells search second t → Merges s t whole → Tells search (first ++ second) whole) (lower : (first second : List (List Letter)) (a b : Option (List Letter × List ProcEnd)) → IsLowestRefused search first a → IsLowestRefused search second b → IsLowestRefused search (first ++ second) (lower_of a b)) where
-  both_found : (xs ys : List (List Letter)) (a b whole : Found) → IsFoundIn search xs a → IsFoundIn search ys b → IsJoined a b whole → IsFoundIn search (xs ++ ys) whole
+  both_found : (xs ys : List (List Letter)) (a b whole : PartFound) → IsFoundIn search xs a → IsFoundIn search ys b → IsJoined a b whole → IsFoundIn search (xs ++ ys) whole
   both_found xs ys (Explored s) (Explored t) (Explored whole) p q j = merges xs ys s t whole p q j
   both_found xs ys (Least a) (Least b) (Least whole) p q j = subst (IsLowestRefused search (xs ++ ys)) (sym j) (lower xs ys a b p q)
   both_found xs ys (Explored s) (Explored t) (Least whole) p q j = absurd j
@@ -56,13 +56,13 @@ module _ (search : Search) (merges : (first second : List (List Letter)) (s t wh
   both_found xs ys (Least a) (Explored t) whole p q j = absurd j
   both_found xs ys (Least a) (Least b) (Explored whole) p q j = absurd j
 
-  pub all_found : (members : ℕ → List (List Letter)) (first : PartReport) (others : List PartReport) (whole : Found) → IsFoundIn search (members first.head.number) first.found → All (λ part. IsFoundIn search (members part.head.number) part.found) others → AreJoined first.found (map (λ part. part.found) others) whole → IsFoundIn search (gathered members first others) whole
+  pub all_found : (members : ℕ → List (List Letter)) (first : PartReport) (others : List PartReport) (whole : PartFound) → IsFoundIn search (members first.head.number) first.found → All (λ part. IsFoundIn search (members part.head.number) part.found) others → AreJoined first.found (map (λ part. part.found) others) whole → IsFoundIn search (gathered members first others) whole
   all_found members first [] whole p each j = subst (IsFoundIn search (members first.head.number)) (sym j) p
   all_found members first (last ∷ others) whole p each j =
       let told : PartReport → Type 0 = λ part. IsFoundIn search (members part.head.number) part.found in
       both_found (gathered members first others) (members last.head.number) j.0 last.found whole (all_found members first others j.0 p (All-tail told last others each) j.1) (All-head told last others each) j.2
 
-module _ (source : Source) (settings : Bounds) (accepts : List ProcEnd → Bool) where
+module _ (source : Source) (settings : Settings) (accepts : List ProcEnd → Bool) where
   abbrev search : Search
   search = search_of source settings accepts
 
@@ -73,7 +73,7 @@ module _ (source : Source) (settings : Bounds) (accepts : List ProcEnd → Bool)
       subst (λ count. IsFoundIn search (members_of_part search settings.cut count part.head.number) part.found) (sym (of_one k d lt).count) (parts k d lt).found
 
   module _ (explored : ReportsWhole) (lowest : LeastOfWhole) where
-    pub whole_found : (part : PartReport) (whole : Found) (merged : Yield Summary) (schedules : List (List Letter)) → IsPartOfSource source settings accepts part → AreInBalance schedules (reduced_of search) → IsFoundIn search schedules whole → IsToldBy part.head whole merged → IsWholeOf source settings accepts merged
+    pub whole_found : (part : PartReport) (whole : PartFound) (merged : Yield Summary) (schedules : List (List Letter)) → IsPartOfSource source settings accepts part → AreInBalance schedules (reduced_of search) → IsFoundIn search schedules whole → IsToldBy part.head whole merged → IsWholeOf source settings accepts merged
     whole_found part (Explored s) (merged.Report f) schedules own balance told e =
         explored search schedules f balance (record {
           bounds = ap (λ (f : Findings). f.bounds) e ∙ own.bounds;

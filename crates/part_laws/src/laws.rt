@@ -2,7 +2,7 @@
 //! contracts of functions that do nothing.
 
 ghost use Rattle.std.specs.Prelude.{◌≡◌, ◌^◌, ◌<◌, ◌∷◌, All, Bool, List, length};
-ghost use Rattle.regmodel.specs.Settings.{Bounds};
+ghost use Rattle.regmodel.specs.Settings.{Settings};
 ghost use Rattle.regmodel.specs.declared.outcomes.ProcEnd.{ProcEnd};
 ghost use Rattle.regmodel.specs.Prelude.{Summary};
 ghost use Rattle.regmodel.specs.declared.parts.Part.{Part};
@@ -25,13 +25,13 @@ use regmodel::laws::{outcomes_are_in_a_total_order, wanted_accesses_are_within};
 /// What exploring a part of a source finds fits its text, behind a head that fits and tells of as
 /// many processes and letters. So the text that is written of it is one that can be read.
 pub fn parts_can_be_read(source: &Source)
-    ensures explored { (settings : Bounds) (accepts : List ProcEnd → Bool) (part : Part)
+    ensures explored { (settings : Settings) (accepts : List ProcEnd → Bool) (part : Part)
         (head : PlainHead) (findings : Findings)
         → FitsHead head → head.processes ≡ length (source_programs source.now)
         → head.length ≡ settings.length
         → IsPartExplored source.now settings accepts part findings
         → findings.found.tried < 2 ^ 64 → FitsPart (explored_part head findings) }
-    ensures least { (settings : Bounds) (accepts : List ProcEnd → Bool) (part : Part)
+    ensures least { (settings : Settings) (accepts : List ProcEnd → Bool) (part : Part)
         (head : PlainHead) (finding : LeastFinding)
         → FitsHead head → head.processes ≡ length (source_programs source.now)
         → head.length ≡ settings.length
@@ -46,7 +46,7 @@ pub fn parts_can_be_read(source: &Source)
 /// Where each of the parts that were merged is what was found of that part of one source, by the
 /// same settings, they tell what is found of the whole source by these settings.
 pub fn merged_parts_are_the_whole()
-    ensures { (source : Source) (settings : Bounds) (accepts : List ProcEnd → Bool)
+    ensures { (source : Source) (settings : Settings) (accepts : List ProcEnd → Bool)
         (first : PartReport) (others : List PartReport) (merged : Yield Summary)
         → IsMerged first others merged
         → All (IsPartOfSource source settings accepts) (first ∷ others)

@@ -8,11 +8,11 @@ use Rattle.std.proofs.lemmas.List.Quantifiers.{all_pairs_push}
 use mathlib.Core.Logic.{⊎_elim}
 use Rattle.regmodel.specs.declared.outcomes.ProcEnd.{ProcEnd}
 use Rattle.regmodel.specs.Prelude.{outcome_cmp}
-use Rattle.patterns.specs.declared.standings.Standing.{Standing}
+use Rattle.patterns.specs.declared.patterns.StandingPattern.{StandingPattern}
 use Rattle.part_texts.specs.FitsPart.{FitsOutcome}
 use Rattle.std.specs.List.{flat_map, list_all}
 use Rattle.texts.specs.OutcomeText.{end_text, outcome_text}
-use Rattle.patterns.specs.declared.standings.Standing.TheVariants.{Just}
+use Rattle.patterns.specs.declared.patterns.StandingPattern.TheVariants.{Just}
 use Rattle.patterns.specs.PatternText.{FitsPattern, end_fits, pattern_text, standing_fits, standing_text}
 use Rattle.part_texts.specs.Standings.{just}
 
@@ -34,15 +34,15 @@ just-snoc [] e = refl
 just-snoc (f ∷ ends) e = ap (λ s. Just f ∷ s) (just-snoc ends e)
 
 -- one more standing says just one
-pub just-more : (standings : List Standing) (ends more : List ProcEnd) (i : ℕ) (e : ProcEnd) (s : Standing) → i < length standings → s ≡ get_or standings i s → s ≡ Just e → take i standings ≡ just ends → more ≡ ends ++ e ∷ [] → take (i + 1) standings ≡ just more
+pub just-more : (standings : List StandingPattern) (ends more : List ProcEnd) (i : ℕ) (e : ProcEnd) (s : StandingPattern) → i < length standings → s ≡ get_or standings i s → s ≡ Just e → take i standings ≡ just ends → more ≡ ends ++ e ∷ [] → take (i + 1) standings ≡ just more
 just-more standings ends more i e s low at is so_far pushed =
     take_more standings i s low ∙ ap (λ x. take i standings ++ x ∷ []) (sym at ∙ is) ∙ ap (λ xs. xs ++ Just e ∷ []) so_far ∙ sym (just-snoc ends e) ∙ ap just (sym pushed)
 
 -- what standings that say just one each tell of their outcome
-pub outcome-read : (standings : List Standing) (ends : List ProcEnd) (text : List ℕ) → standings ≡ just ends → pattern_text standings ≡ text → outcome_text ends ≡ text
+pub outcome-read : (standings : List StandingPattern) (ends : List ProcEnd) (text : List ℕ) → standings ≡ just ends → pattern_text standings ≡ text → outcome_text ends ≡ text
 outcome-read standings ends text e h = sym (text-same ends) ∙ ap pattern_text (sym e) ∙ h
 
-pub outcome-fits : (standings : List Standing) (ends : List ProcEnd) → standings ≡ just ends → FitsPattern standings → FitsOutcome (length ends) ends
+pub outcome-fits : (standings : List StandingPattern) (ends : List ProcEnd) → standings ≡ just ends → FitsPattern standings → FitsOutcome (length ends) ends
 outcome-fits standings ends e h = record {
   count = refl;
   fit = sym (fits-same ends) ∙ ap (λ s. list_all standing_fits s) (sym e) ∙ h.fit;

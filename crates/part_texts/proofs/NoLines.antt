@@ -5,8 +5,8 @@ use Rattle.texts.specs.Cuts.{begins_at, has_no}
 use Rattle.texts.specs.OutcomeText.{outcome_text}
 use Rattle.texts.proofs.Bytes.{cut_same, no_space-decimal}
 use Rattle.patterns.specs.PatternText.{FitsPattern, pattern_text}
-use Rattle.patterns.specs.declared.standings.Standing.{Standing}
-use Rattle.patterns.specs.declared.standings.Standing.TheVariants.{Just}
+use Rattle.patterns.specs.declared.patterns.StandingPattern.{StandingPattern}
+use Rattle.patterns.specs.declared.patterns.StandingPattern.TheVariants.{Just}
 use Rattle.patterns.proofs.JustOneText.{pattern_text-same}
 use Rattle.part_texts.specs.FitsPart.{FitsOutcome}
 use Rattle.part_texts.specs.Standings.{just}
@@ -48,19 +48,19 @@ numbers_cut p q line rest digits after low here cut clean begins e =
 -- ---- outcomes
 
 -- a standing that says more than one end is among standings
-pub not_just : (standings : List Standing) (i : ℕ) (s : Standing) → i < length standings → s ≡ get_or standings i s → ((e : ProcEnd) → s ≢ Just e) → (ends : List ProcEnd) → standings ≢ just ends
+pub not_just : (standings : List StandingPattern) (i : ℕ) (s : StandingPattern) → i < length standings → s ≡ get_or standings i s → ((e : ProcEnd) → s ≢ Just e) → (ends : List ProcEnd) → standings ≢ just ends
 not_just [] i s low at other ends h = omega arith
 not_just (x ∷ xs) i s low at other [] h = cc
 not_just (x ∷ xs) zero s low at other (e ∷ ends) h = let first : x ≡ Just e = cc in other e (at ∙ first)
 not_just (x ∷ xs) (suc i) s low at other (e ∷ ends) h = let rest : xs ≡ just ends = cc in not_just xs i s (omega arith) at other ends rest
 
-pub no_pattern : (processes : ℕ) (ends : List ProcEnd) (text : List ℕ) → 1 ≤ processes → processes ≤ 8 → FitsOutcome processes ends → ((standings : List Standing) → FitsPattern standings → pattern_text standings ≢ text) → outcome_text ends ≢ text
+pub no_pattern : (processes : ℕ) (ends : List ProcEnd) (text : List ℕ) → 1 ≤ processes → processes ≤ 8 → FitsOutcome processes ends → ((standings : List StandingPattern) → FitsPattern standings → pattern_text standings ≢ text) → outcome_text ends ≢ text
 no_pattern processes ends text some few fits none e = none (just ends) (fits-pattern processes ends some few fits) (text-same ends ∙ e)
 
-pub no_ends : (processes : ℕ) (ends : List ProcEnd) (standings : List Standing) (text : List ℕ) → 1 ≤ processes → processes ≤ 8 → FitsOutcome processes ends → FitsPattern standings → pattern_text standings ≡ text → ((v : List ProcEnd) → standings ≢ just v) → outcome_text ends ≢ text
+pub no_ends : (processes : ℕ) (ends : List ProcEnd) (standings : List StandingPattern) (text : List ℕ) → 1 ≤ processes → processes ≤ 8 → FitsOutcome processes ends → FitsPattern standings → pattern_text standings ≡ text → ((v : List ProcEnd) → standings ≢ just v) → outcome_text ends ≢ text
 no_ends processes ends standings text some few fits own here none e = none ends (pattern_text-same standings (just ends) own (fits-pattern processes ends some few fits) (here ∙ sym e ∙ sym (text-same ends)))
 
-pub outcome-count : (standings : List Standing) (ends : List ProcEnd) → standings ≡ just ends → FitsPattern standings → (1 ≤ length ends) × (length ends ≤ 8)
+pub outcome-count : (standings : List StandingPattern) (ends : List ProcEnd) → standings ≡ just ends → FitsPattern standings → (1 ≤ length ends) × (length ends ≤ 8)
 outcome-count standings ends e h =
     let same = ap length e ∙ long ends in
     (omega (arith, h.some, same), omega (arith, h.few, same))

@@ -6,11 +6,11 @@ use Rattle.std.specs.Cmp.Lexicographic.{bytes_decides}
 use Rattle.std.specs.Io.KnownBytes.{Consumes}
 use Rattle.std.specs.List.{flat_map}
 use Rattle.std.proofs.lemmas.Grind.{flat_map-append}
-use Rattle.regmodel.specs.Settings.{Bounds}
+use Rattle.regmodel.specs.Settings.{Settings}
 use Rattle.regmodel.specs.declared.outcomes.ProcEnd.{ProcEnd}
 use Rattle.texts.specs.OutcomeText.{outcome_line}
 use Rattle.part_texts.specs.PlainHead.{PlainHead, head_of}
-use Rattle.part_texts.specs.PartText.{bounds_text, head_text, number_text, source_text}
+use Rattle.part_texts.specs.PartText.{part_bounds_text, head_text, number_text, source_text}
 use Rattle.part_texts.specs.Streams.{ReadsOn}
 use Rattle.std.proofs.KnownBytes.{Consumes-trans}
 use Rattle.std.proofs.lemmas.List.{append-nil, take-append-drop}
@@ -75,10 +75,10 @@ head_read a b c line first bounds source e p q = record {
   taken = Consumes-trans a b c bounds source p q;
 }
 
-pub whole_head : (a b c : Option (List ℕ)) (line : List ℕ) (number count p q processes : ℕ) (bounds : Bounds) (source : List ℕ) (head : PlainHead) → codes "part " ++ decimal number ++ codes " of " ++ decimal count ≡ line → p ≡ number → q ≡ count → Consumes a b (bounds_text processes bounds.length bounds.crashes bounds.cut) → Consumes b c (source_text source) → head ≡ head_of p q processes bounds source → ReadsOn a c line (head_text head)
+pub whole_head : (a b c : Option (List ℕ)) (line : List ℕ) (number count p q processes : ℕ) (bounds : Settings) (source : List ℕ) (head : PlainHead) → codes "part " ++ decimal number ++ codes " of " ++ decimal count ≡ line → p ≡ number → q ≡ count → Consumes a b (part_bounds_text processes bounds.length bounds.crashes bounds.cut) → Consumes b c (source_text source) → head ≡ head_of p q processes bounds source → ReadsOn a c line (head_text head)
 whole_head a b c line number count p q processes bounds source head e hp hq r s same =
     let first : line ++ 10 ∷ [] ≡ number_text p q = ap (λ l. l ++ 10 ∷ []) (sym e) ∙ ap (λ n. number_text n count) (sym hp) ∙ ap (λ n. number_text p n) (sym hq) in
-    subst (λ h. ReadsOn a c line (head_text h)) (sym same) (head_read a b c line (number_text p q) (bounds_text processes bounds.length bounds.crashes bounds.cut) (source_text source) first r s)
+    subst (λ h. ReadsOn a c line (head_text h)) (sym same) (head_read a b c line (number_text p q) (part_bounds_text processes bounds.length bounds.crashes bounds.cut) (source_text source) first r s)
 
 -- ---- the lines of outcomes
 

@@ -15,9 +15,9 @@ use Rattle.texts.specs.Cuts.{has_no}
 use Rattle.texts.specs.NumberText.{number_line}
 use Rattle.texts.specs.OutcomeText.{end_text, outcome_text}
 use Rattle.texts.proofs.Bytes.{cut_same, has_no-append, no_digit}
-use Rattle.patterns.specs.declared.standings.Standing.{Standing}
-use Rattle.patterns.specs.declared.standings.Standing.TheVariants.{Just}
-use Rattle.patterns.specs.declared.standings.Standing.TheVariants as standing
+use Rattle.patterns.specs.declared.patterns.StandingPattern.{StandingPattern}
+use Rattle.patterns.specs.declared.patterns.StandingPattern.TheVariants.{Just}
+use Rattle.patterns.specs.declared.patterns.StandingPattern.TheVariants as standing
 use Rattle.patterns.specs.PatternText.{FitsPattern, end_fits}
 use Rattle.patterns.proofs.EndTexts.{IsOutside, none-end}
 use Rattle.patterns.proofs.JustOneText.{pattern_text-same}
@@ -111,7 +111,7 @@ no_feed-outcome (p ∷ ends) h =
     let parts = and_parts (end_fits p.fate) (list_all (λ end. end_fits end.fate) ends) h in
     has_no-append 10 (end_text p) (flat_map (λ e. codes "; " ++ end_text e) ends) (no_feed-end p parts.0) (no_feed-later ends parts.1)
 
-abbrev end_in : Standing → ProcEnd → ProcEnd
+abbrev end_in : StandingPattern → ProcEnd → ProcEnd
 end_in (Just e) d = e
 end_in standing.Any d = d
 end_in standing.Done d = d

@@ -14,9 +14,9 @@ use Rattle.texts.specs.OutcomeText.{outcome_line, outcome_text}
 use Rattle.texts.proofs.Bytes.{cut_same}
 use Rattle.part_texts.specs.FitsPart.{FitsFound, FitsLeast, FitsOutcome, FitsPart}
 use Rattle.part_texts.specs.PlainHead.{FitsHead, PlainHead}
-use Rattle.part_texts.specs.PartText.{bounds_in, bounds_text, end_text, found_text, head_text, number_text, outcomes_text, part_text, source_text}
-use Rattle.part_texts.specs.declared.parts.Found.{Found}
-use Rattle.part_texts.specs.declared.parts.Found.TheVariants.{Explored, Least}
+use Rattle.part_texts.specs.PartText.{bounds_in, part_bounds_text, end_text, found_text, head_text, number_text, outcomes_text, part_text, source_text}
+use Rattle.part_texts.specs.declared.parts.PartFound.{PartFound}
+use Rattle.part_texts.specs.declared.parts.PartFound.TheVariants.{Explored, Least}
 use Rattle.part_texts.specs.declared.parts.PartReport.{PartReport}
 use Rattle.part_texts.proofs.SameLines.{first-same, front-same, no_feed-schedule, number-same, part_numbers-same, parted, tail-same, told-same}
 
@@ -72,7 +72,7 @@ no_tried : (a : Option (List Letter × List ProcEnd)) (s t : List ℕ) → codes
 no_tried None s t e = omega (arith, first-same 116 108 _ _ e)
 no_tried (Some x) s t e = omega (arith, first-same 116 108 _ _ e)
 
-pub found-same : (n : ℕ) (f g : Found) (s t : List ℕ) → 1 ≤ n → n ≤ 8 → FitsFound n f → FitsFound n g → found_text f ++ s ≡ found_text g ++ t → (f ≡ g) × (s ≡ t)
+pub found-same : (n : ℕ) (f g : PartFound) (s t : List ℕ) → 1 ≤ n → n ≤ 8 → FitsFound n f → FitsFound n g → found_text f ++ s ≡ found_text g ++ t → (f ≡ g) × (s ≡ t)
 found-same n (Least a) (Least b) s t some few hf hg e =
     let same = least-same n a b s t some few hf hg e in
     (ap Least same.0, same.1)
@@ -96,13 +96,13 @@ bytes-same (b ∷ v) (c ∷ w) s t long e =
     let more = bytes-same v w s t (omega (arith, long)) (tail-same b c (v ++ s) (w ++ t) e) in
     (cc (first, more.0), more.1)
 
-pub bounds-parts : (p l c k : ℕ) (s : List ℕ) → bounds_text p l c k ++ s ≡ number_line (codes "processes") p ++ (number_line (codes "length") l ++ (number_line (codes "crashes") c ++ (number_line (codes "cut") k ++ s)))
+pub bounds-parts : (p l c k : ℕ) (s : List ℕ) → part_bounds_text p l c k ++ s ≡ number_line (codes "processes") p ++ (number_line (codes "length") l ++ (number_line (codes "crashes") c ++ (number_line (codes "cut") k ++ s)))
 bounds-parts p l c k s =
     append_assoc ((number_line (codes "processes") p ++ number_line (codes "length") l) ++ number_line (codes "crashes") c) (number_line (codes "cut") k) s
     ∙ append_assoc (number_line (codes "processes") p ++ number_line (codes "length") l) (number_line (codes "crashes") c) (number_line (codes "cut") k ++ s)
     ∙ append_assoc (number_line (codes "processes") p) (number_line (codes "length") l) (number_line (codes "crashes") c ++ (number_line (codes "cut") k ++ s))
 
-pub head-parts : (h : PlainHead) (s : List ℕ) → head_text h ++ s ≡ number_text h.number h.count ++ (bounds_text h.processes h.length h.crashes h.cut ++ (number_line (codes "source") (length h.source) ++ (h.source ++ s)))
+pub head-parts : (h : PlainHead) (s : List ℕ) → head_text h ++ s ≡ number_text h.number h.count ++ (part_bounds_text h.processes h.length h.crashes h.cut ++ (number_line (codes "source") (length h.source) ++ (h.source ++ s)))
 head-parts h s =
     append_assoc (number_text h.number h.count ++ bounds_in h) (source_text h.source) s
     ∙ append_assoc (number_text h.number h.count) (bounds_in h) (source_text h.source ++ s)
@@ -134,7 +134,7 @@ head-same h k s t fh fk e =
 
 -- ---- parts
 
-abbrev report_of : PlainHead → Found → PartReport
+abbrev report_of : PlainHead → PartFound → PartReport
 report_of h f = record { head = h; found = f }
 
 report-same : (p q : PartReport) → p.head ≡ q.head → p.found ≡ q.found → p ≡ q

@@ -13,16 +13,16 @@ use Rattle.regmodel.specs.declared.outcomes.ProcEnd.{ProcEnd}
 use Rattle.regmodel.specs.Prelude.{Schedule, outcome_cmp, Summary}
 use Rattle.regmodel.specs.Prefixes.{FitsPrefix}
 use Rattle.regmodel.specs.ScheduleText.{schedule_text}
-use Rattle.regmodel.specs.Settings.{Bounds}
+use Rattle.regmodel.specs.Settings.{Settings}
 use Rattle.report.specs.ReportText.{least_text}
 use Rattle.texts.specs.NumberText.{number_line}
 use Rattle.texts.specs.OutcomeText.{outcome_line, outcome_text}
 use Rattle.part_texts.specs.FitsPart.{FitsFound, FitsLeast, FitsOutcome, FitsPart}
-use Rattle.part_texts.specs.PartText.{bounds_text, end_text, found_text, head_text, part_text}
+use Rattle.part_texts.specs.PartText.{part_bounds_text, end_text, found_text, head_text, part_text}
 use Rattle.part_texts.specs.PlainHead.{FitsHead, PlainHead, head_of}
 use Rattle.part_texts.specs.Streams.{FitsLine, IsLineOf, ReadsOn}
-use Rattle.part_texts.specs.declared.parts.Found.{Found}
-use Rattle.part_texts.specs.declared.parts.Found.TheVariants.{Explored, Least}
+use Rattle.part_texts.specs.declared.parts.PartFound.{PartFound}
+use Rattle.part_texts.specs.declared.parts.PartFound.TheVariants.{Explored, Least}
 use Rattle.part_texts.specs.declared.parts.PartReport.{PartReport}
 use Rattle.part_texts.proofs.LineSizes.{number-fits, numbers-fit, schedule-fits}
 use Rattle.part_texts.proofs.ReadTexts.{clash}
@@ -143,19 +143,19 @@ failing_wanted n b line word (Some (w, ends)) rest Q fits l here other k =
 
 -- ---- what is found
 
-abbrev pub first_of : Found → List ℕ
+abbrev pub first_of : PartFound → List ℕ
 first_of (Explored s) = (codes "tried" ++ codes " ") ++ decimal s.tried
 first_of (Least least) = codes "least " ++ word_of least
 
-abbrev pub behind_first : Found → List ℕ → List ℕ
+abbrev pub behind_first : PartFound → List ℕ → List ℕ
 behind_first (Explored s) rest = number_line (codes "outcomes") (length s.outcomes) ++ (flat_map outcome_line s.outcomes ++ (least_text s.least ++ rest))
 behind_first (Least least) rest = behind_word least rest
 
-pub found-first : (found : Found) (rest : List ℕ) → found_text found ++ rest ≡ (first_of found ++ 10 ∷ []) ++ behind_first found rest
+pub found-first : (found : PartFound) (rest : List ℕ) → found_text found ++ rest ≡ (first_of found ++ 10 ∷ []) ++ behind_first found rest
 found-first (Explored s) rest = explored_parts s rest
 found-first (Least least) rest = least-first least rest
 
-pub found-fits : (n : ℕ) (found : Found) → FitsFound n found → FitsLine (first_of found)
+pub found-fits : (n : ℕ) (found : PartFound) → FitsFound n found → FitsLine (first_of found)
 found-fits n (Explored s) fits = number-fits (codes "tried") s.tried refl (omega arith) fits.0
 found-fits n (Least least) fits = least-fits n least fits
 
@@ -163,14 +163,14 @@ no_tried : (s t : List ℕ) → 116 ∷ s ≡ 108 ∷ t → ⊥
 no_tried s t e = omega (arith, first-same 116 108 s t e)
 
 -- a line with no number of schedules tells the least failing one alone
-pub least_wanted : (n : ℕ) (b : Option (List ℕ)) (line now : List ℕ) (found : Found) (rest : List ℕ) (Q : Type 0) → FitsFound n found → IsLineOf b line (found_text found ++ rest) → now ≡ line → ((m : ℕ) → m < 2 ^ 64 → (codes "tried" ++ codes " ") ++ decimal m ≢ now) → ((least : Option (Schedule × List ProcEnd)) → FitsLeast n least → IsLineOf b line (least_text least ++ rest) → Q) → Q
+pub least_wanted : (n : ℕ) (b : Option (List ℕ)) (line now : List ℕ) (found : PartFound) (rest : List ℕ) (Q : Type 0) → FitsFound n found → IsLineOf b line (found_text found ++ rest) → now ≡ line → ((m : ℕ) → m < 2 ^ 64 → (codes "tried" ++ codes " ") ++ decimal m ≢ now) → ((least : Option (Schedule × List ProcEnd)) → FitsLeast n least → IsLineOf b line (least_text least ++ rest) → Q) → Q
 least_wanted n b line now (Explored s) rest Q fits l same none k =
     let is = first_is b line (first_of (Explored s)) (found_text (Explored s) ++ rest) (behind_first (Explored s) rest) l (found-fits n (Explored s) fits).one (found-first (Explored s) rest) in
     absurd (none s.tried fits.0 (sym is.0 ∙ sym same))
 least_wanted n b line now (Least least) rest Q fits l same none k = k least fits l
 
 -- a line with that number tells all
-pub explored_wanted : (n : ℕ) (b : Option (List ℕ)) (line now : List ℕ) (tried : ℕ) (found : Found) (rest : List ℕ) (Q : Type 0) → FitsFound n found → IsLineOf b line (found_text found ++ rest) → now ≡ line → (codes "tried" ++ codes " ") ++ decimal tried ≡ now → ((s : Summary) → FitsFound n (Explored s) → b ≡ Some (number_line (codes "outcomes") (length s.outcomes) ++ (flat_map outcome_line s.outcomes ++ (least_text s.least ++ rest))) → Q) → Q
+pub explored_wanted : (n : ℕ) (b : Option (List ℕ)) (line now : List ℕ) (tried : ℕ) (found : PartFound) (rest : List ℕ) (Q : Type 0) → FitsFound n found → IsLineOf b line (found_text found ++ rest) → now ≡ line → (codes "tried" ++ codes " ") ++ decimal tried ≡ now → ((s : Summary) → FitsFound n (Explored s) → b ≡ Some (number_line (codes "outcomes") (length s.outcomes) ++ (flat_map outcome_line s.outcomes ++ (least_text s.least ++ rest))) → Q) → Q
 explored_wanted n b line now tried (Explored s) rest Q fits l same here k =
     let is = first_is b line (first_of (Explored s)) (found_text (Explored s) ++ rest) (behind_first (Explored s) rest) l (found-fits n (Explored s) fits).one (found-first (Explored s) rest) in
     k s fits is.1
@@ -179,7 +179,7 @@ explored_wanted n b line now tried (Least least) rest Q fits l same here k =
     absurd (no_tried _ _ (here ∙ same ∙ is.0))
 
 -- where all was told, the least failing schedule stands behind the outcomes
-pub behind_outcomes : (n : ℕ) (a b : Option (List ℕ)) (line now : List ℕ) (tried : ℕ) (found : Found) (rest : List ℕ) (v : List (List ProcEnd)) (Q : Type 0) → 1 ≤ n → n ≤ 8 → FitsFound n found → IsLineOf a line (found_text found ++ rest) → now ≡ line → (codes "tried" ++ codes " ") ++ decimal tried ≡ now
+pub behind_outcomes : (n : ℕ) (a b : Option (List ℕ)) (line now : List ℕ) (tried : ℕ) (found : PartFound) (rest : List ℕ) (v : List (List ProcEnd)) (Q : Type 0) → 1 ≤ n → n ≤ 8 → FitsFound n found → IsLineOf a line (found_text found ++ rest) → now ≡ line → (codes "tried" ++ codes " ") ++ decimal tried ≡ now
     → length v < 2 ^ 64 → All (FitsOutcome n) v → Consumes a b (number_line (codes "outcomes") (length v) ++ flat_map outcome_line v) → ((least : Option (Schedule × List ProcEnd)) → FitsLeast n least → b ≡ Some (least_text least ++ rest) → Q) → Q
 behind_outcomes n a b line now tried found rest v Q some few fits l same here low each read k =
     explored_wanted n a line now tried found rest Q fits l same here (λ s fs known. k s.least fs.2 (outcomes_are n v s.outcomes a b (least_text s.least ++ rest) some few low fs.1.count each fs.1.fit read known).1)
@@ -197,7 +197,7 @@ pub part_line-fits : (h : PlainHead) → FitsHead h → FitsLine (part_line h.nu
 part_line-fits h fits = subst FitsLine (sym (part_line-parts h.number h.count)) (numbers-fit h.number h.count (omega (arith, fits.there, fits.parts)) (omega (arith, fits.parts)))
 
 abbrev pub behind_line : PlainHead → List ℕ → List ℕ
-behind_line h rest = bounds_text h.processes h.length h.crashes h.cut ++ (number_line (codes "source") (length h.source) ++ (h.source ++ rest))
+behind_line h rest = part_bounds_text h.processes h.length h.crashes h.cut ++ (number_line (codes "source") (length h.source) ++ (h.source ++ rest))
 
 pub head_line_is : (b : Option (List ℕ)) (line : List ℕ) (h : PlainHead) (rest : List ℕ) → FitsHead h → IsLineOf b line (head_text h ++ rest) → (line ≡ part_line h.number h.count) × (b ≡ Some (behind_line h rest))
 head_line_is b line h rest fits l = first_is b line (part_line h.number h.count) (head_text h ++ rest) (behind_line h rest) l (part_line-fits h fits).one (head-parts h rest)
@@ -207,15 +207,15 @@ part_numbers_are p q n m line hp hq hn hm here is = numbers-same p q n m hp hq (
     (front-same (codes "part ") (numbers_of p q) (numbers_of n m) (sym (part_line-parts p q) ∙ here ∙ is ∙ part_line-parts n m))
 
 -- the bounds that were read
-pub record AreBounds (p : ℕ) (bounds : Bounds) (h : PlainHead) : Type 0 where
+pub record AreBounds (p : ℕ) (bounds : Settings) (h : PlainHead) : Type 0 where
   pub processes : p ≡ h.processes
   pub letters : bounds.length ≡ h.length
   pub crashes : bounds.crashes ≡ h.crashes
   pub cut : bounds.cut ≡ h.cut
 
-pub bounds_are : (a b : Option (List ℕ)) (p : ℕ) (bounds : Bounds) (h : PlainHead) (rest : List ℕ) → (p < 2 ^ 64) × (bounds.length < 2 ^ 64) × (bounds.crashes < 2 ^ 64) × (bounds.cut < 2 ^ 64) → FitsHead h → Consumes a b (bounds_text p bounds.length bounds.crashes bounds.cut) → a ≡ Some (bounds_text h.processes h.length h.crashes h.cut ++ rest) → AreBounds p bounds h × (b ≡ Some rest)
+pub bounds_are : (a b : Option (List ℕ)) (p : ℕ) (bounds : Settings) (h : PlainHead) (rest : List ℕ) → (p < 2 ^ 64) × (bounds.length < 2 ^ 64) × (bounds.crashes < 2 ^ 64) × (bounds.cut < 2 ^ 64) → FitsHead h → Consumes a b (part_bounds_text p bounds.length bounds.crashes bounds.cut) → a ≡ Some (part_bounds_text h.processes h.length h.crashes h.cut ++ rest) → AreBounds p bounds h × (b ≡ Some rest)
 bounds_are a b p bounds h rest small fits c e =
-    let l = leaves a b (bounds_text p bounds.length bounds.crashes bounds.cut) (bounds_text h.processes h.length h.crashes h.cut ++ rest) c e in
+    let l = leaves a b (part_bounds_text p bounds.length bounds.crashes bounds.cut) (part_bounds_text h.processes h.length h.crashes h.cut ++ rest) c e in
     let one = number-same (codes "processes") p h.processes _ _ refl small.0 (omega (arith, fits.processes)) (sym (bounds-parts p bounds.length bounds.crashes bounds.cut l.rest) ∙ l.parts ∙ bounds-parts h.processes h.length h.crashes h.cut rest) in
     let two = number-same (codes "length") bounds.length h.length _ _ refl small.1 (omega (arith, fits.letters)) one.1 in
     let three = number-same (codes "crashes") bounds.crashes h.crashes _ _ refl small.2 (omega (arith, fits.crashes)) two.1 in
@@ -223,7 +223,7 @@ bounds_are a b p bounds h rest small fits c e =
     (record { processes = one.0; letters = two.0; crashes = three.0; cut = four.0 }, l.known ∙ ap Some four.1)
 
 -- the first numbers of the bounds, read one after another
-module _ (h : PlainHead) (rest : List ℕ) (fits : FitsHead h) (a b : Option (List ℕ)) (p : ℕ) (low : p < 2 ^ 64) (read : Consumes a b (number_line (codes "processes") p)) (known : a ≡ Some (bounds_text h.processes h.length h.crashes h.cut ++ rest)) where
+module _ (h : PlainHead) (rest : List ℕ) (fits : FitsHead h) (a b : Option (List ℕ)) (p : ℕ) (low : p < 2 ^ 64) (read : Consumes a b (number_line (codes "processes") p)) (known : a ≡ Some (part_bounds_text h.processes h.length h.crashes h.cut ++ rest)) where
   pub one_bound : (p ≡ h.processes) × (b ≡ Some (number_line (codes "length") h.length ++ (number_line (codes "crashes") h.crashes ++ (number_line (codes "cut") h.cut ++ rest))))
   one_bound = number_is a b (codes "processes") p h.processes _ refl low (omega (arith, fits.processes)) read (known ∙ ap Some (bounds-parts h.processes h.length h.crashes h.cut rest))
 
@@ -244,7 +244,7 @@ source_is a b read source rest few enough p e =
     (bytes-same read source l.rest rest size.0 size.1).0
 
 -- a head of what was read is the one that is known
-pub made_head : (number count p : ℕ) (bounds : Bounds) (source : List ℕ) (h : PlainHead) → number ≡ h.number → count ≡ h.count → AreBounds p bounds h → source ≡ h.source → FitsHead h → FitsHead (head_of number count p bounds source)
+pub made_head : (number count p : ℕ) (bounds : Settings) (source : List ℕ) (h : PlainHead) → number ≡ h.number → count ≡ h.count → AreBounds p bounds h → source ≡ h.source → FitsHead h → FitsHead (head_of number count p bounds source)
 made_head number count p bounds source h a b c d fits = subst FitsHead (sym (plain-same (head_of number count p bounds source) h a b c.processes c.letters c.crashes c.cut d)) fits
 
 -- ---- parts
@@ -267,7 +267,7 @@ behind_head b c line h n report rest count read fits q whole =
     (count ∙ ap (λ h. h.processes) left.0, left.1)
 
 -- what stands behind what was found
-pub found_left : (a b : Option (List ℕ)) (found : Found) (report : PartReport) (rest : List ℕ) → FitsPart report → FitsFound report.head.processes found → Consumes a b (found_text found) → a ≡ Some (found_text report.found ++ (end_text ++ rest)) → b ≡ Some (end_text ++ rest)
+pub found_left : (a b : Option (List ℕ)) (found : PartFound) (report : PartReport) (rest : List ℕ) → FitsPart report → FitsFound report.head.processes found → Consumes a b (found_text found) → a ≡ Some (found_text report.found ++ (end_text ++ rest)) → b ≡ Some (end_text ++ rest)
 found_left a b found report rest fits read p e =
     let l = leaves a b (found_text found) (found_text report.found ++ (end_text ++ rest)) p e in
     let same = found-same report.head.processes found report.found l.rest (end_text ++ rest) fits.head.some_process fits.head.processes read fits.found l.parts in

@@ -12,8 +12,8 @@ use Rattle.part_texts.specs.Causes.{IsOutwardAt}
 use Rattle.part_texts.specs.FitsPart.{FitsNumber, FitsOutcome, FitsOutcomeBehind, IsProcessCount}
 use Rattle.part_texts.specs.PartText.{outcome_behind}
 use Rattle.part_texts.specs.Streams.{IsLineOf, ReadsOn}
-use Rattle.part_texts.specs.declared.faults.Cause.{Cause}
-use Rattle.part_texts.specs.declared.faults.Cause.TheVariants.{Other}
+use Rattle.part_texts.specs.declared.faults.PartCause.{PartCause}
+use Rattle.part_texts.specs.declared.faults.PartCause.TheVariants.{Other}
 use Rattle.part_texts.proofs.SameLines.{first-same, line-same, number-same, tail-same, told-same}
 
 -- what was read and what is left are a text
@@ -116,7 +116,7 @@ bytes_there (Some u) (Some v) read text count p end less enough e =
 -- ---- what is refused
 
 -- where nothing was made of a line, this is said
-pub refused : {X : Type 0} (P : Cause → Type 0) (cause : Cause) (o : Option X) (r : Result X Cause) → r ≡ ok_or o cause → IfNone o (P cause) → IfErr r P
+pub refused : {X : Type 0} (P : PartCause → Type 0) (cause : PartCause) (o : Option X) (r : Result X PartCause) → r ≡ ok_or o cause → IfNone o (P cause) → IfErr r P
 refused P cause None r e h = subst (λ s. IfErr s P) (sym e) h
 refused P cause (Some x) r e h = subst (λ s. IfErr s P) (sym e) tt
 

@@ -5,7 +5,7 @@ use Rattle.regmodel.specs.declared.schedules.Letter.TheVariants.{Run}
 use Rattle.regmodel.specs.Examples.{started}
 use Rattle.part_texts.specs.PlainHead.{PlainHead}
 use Rattle.part_texts.specs.PartText.{part_text}
-use Rattle.part_texts.specs.declared.parts.Found.TheVariants.{Explored, Least}
+use Rattle.part_texts.specs.declared.parts.PartFound.TheVariants.{Explored, Least}
 
 -- part 3 of 16 of the exploration of 2 processes, with a source of 6 bytes
 abbrev head : PlainHead

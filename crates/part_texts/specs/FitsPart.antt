@@ -11,8 +11,8 @@ use Rattle.texts.specs.OutcomeText.{outcome_text}
 use Rattle.patterns.specs.PatternText.{end_fits}
 use Rattle.part_texts.specs.PlainHead.{FitsHead}
 use Rattle.part_texts.specs.Streams.{FitsLine}
-use Rattle.part_texts.specs.declared.parts.Found.{Found}
-use Rattle.part_texts.specs.declared.parts.Found.TheVariants.{Explored, Least}
+use Rattle.part_texts.specs.declared.parts.PartFound.{PartFound}
+use Rattle.part_texts.specs.declared.parts.PartFound.TheVariants.{Explored, Least}
 use Rattle.part_texts.specs.declared.parts.PartReport.{PartReport}
 
 -- as many processes as a source may have
@@ -51,7 +51,7 @@ pub record FitsOutcomes (processes : ℕ) (outcomes : List (List ProcEnd)) : Typ
   pub rising : AllPairs (λ a b. outcome_cmp a b ≡ Less) outcomes
 
 -- a number below 2 ^ 64, and such outcomes; or the least failing schedule alone
-abbrev pub FitsFound : ℕ → Found → Type 0
+abbrev pub FitsFound : ℕ → PartFound → Type 0
 FitsFound processes (Explored s) =
     (s.tried < 2 ^ 64) × FitsOutcomes processes s.outcomes × FitsLeast processes s.least
 FitsFound processes (Least least) = FitsLeast processes least

@@ -7,8 +7,8 @@ use Rattle.report.specs.ReportText.{least_text}
 use Rattle.texts.specs.NumberText.{number_line}
 use Rattle.texts.specs.OutcomeText.{outcome_line, outcome_text}
 use Rattle.part_texts.specs.PlainHead.{PlainHead}
-use Rattle.part_texts.specs.declared.parts.Found.{Found}
-use Rattle.part_texts.specs.declared.parts.Found.TheVariants.{Explored, Least}
+use Rattle.part_texts.specs.declared.parts.PartFound.{PartFound}
+use Rattle.part_texts.specs.declared.parts.PartFound.TheVariants.{Explored, Least}
 use Rattle.part_texts.specs.declared.parts.PartReport.{PartReport}
 
 -- which part of how many
@@ -17,14 +17,14 @@ number_text number count =
     codes "part " ++ decimal number ++ codes " of " ++ decimal count ++ codes "\n"
 
 -- how far is explored
-abbrev pub bounds_text : ℕ → ℕ → ℕ → ℕ → List ℕ
-bounds_text processes limit crashes cut =
+abbrev pub part_bounds_text : ℕ → ℕ → ℕ → ℕ → List ℕ
+part_bounds_text processes limit crashes cut =
     number_line (codes "processes") processes ++ number_line (codes "length") limit
     ++ number_line (codes "crashes") crashes ++ number_line (codes "cut") cut
 
 -- the bounds that a head tells
 abbrev pub bounds_in : PlainHead → List ℕ
-bounds_in head = bounds_text head.processes head.length head.crashes head.cut
+bounds_in head = part_bounds_text head.processes head.length head.crashes head.cut
 
 -- the source, behind a line with the number of its bytes
 abbrev pub source_text : List ℕ → List ℕ
@@ -45,7 +45,7 @@ head_text head = number_text head.number head.count ++ bounds_in head ++ source_
 
 -- what is found: the least failing schedule, behind how many schedules were tried and the outcomes,
 -- if more was sought than that schedule
-abbrev pub found_text : Found → List ℕ
+abbrev pub found_text : PartFound → List ℕ
 found_text (Explored s) =
     number_line (codes "tried") s.tried ++ outcomes_text s.outcomes ++ least_text s.least
 found_text (Least least) = least_text least

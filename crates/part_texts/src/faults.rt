@@ -1,14 +1,14 @@
 //! Why no part was read.
 
 ghost use Rattle.std.specs.Prelude.{◌≡◌};
-ghost use Rattle.part_texts.specs.declared.faults.Cause.TheVariants.{Unreadable};
+ghost use Rattle.part_texts.specs.declared.faults.PartCause.TheVariants.{Unreadable};
 
-use texts::ReadFault;
+use texts::InputFault;
 use thiserror::Error;
 
 /// What is wrong with a line.
 #[derive(Clone, Copy, PartialEq, Eq, Debug, Error)]
-pub enum Cause {
+pub enum PartCause {
     /// No line of a part's text stands there as this one does.
     #[error("this is no line of a part that may stand here")]
     Other,
@@ -32,11 +32,11 @@ pub enum Cause {
     Unreadable,
 }
 
-impl From<ReadFault> for Cause {
+impl From<InputFault> for PartCause {
     ghost from_gives = { λ _ cause. cause ≡ Unreadable };
 
-    fn from(_fault: ReadFault) -> Cause {
-        Cause::Unreadable
+    fn from(_fault: InputFault) -> PartCause {
+        PartCause::Unreadable
     }
 }
 
@@ -47,5 +47,5 @@ pub struct BadPart {
     /// Which line of the stream, from 1 on.
     pub line: u64,
     /// What is wrong with it.
-    pub cause: Cause,
+    pub cause: PartCause,
 }

@@ -13,8 +13,8 @@ mod rising;
 mod streams;
 mod writing;
 
-pub use faults::{BadPart, Cause};
+pub use faults::{BadPart, PartCause};
 pub use heads::PartHead;
-pub use parts::{Found, PartReport};
+pub use parts::{PartFound, PartReport};
 pub use streams::PartStream;
 pub use writing::{write_explored_part, write_least_part};

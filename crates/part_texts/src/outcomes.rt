@@ -8,7 +8,7 @@ ghost use Rattle.part_texts.specs.FitsPart.{FitsOutcome};
 ghost use Rattle.part_texts.specs.Standings.{just};
 
 use arrayvec::ArrayVec;
-use patterns::{Standing, read_pattern};
+use patterns::{StandingPattern, read_pattern};
 use regmodel::{Outcome, ProcEnd};
 
 /// The outcome of a text: how each process stands, 1 to 8 of them, parted by `; `. None for any
@@ -30,14 +30,14 @@ pub(crate) fn read_outcome(text: &[u8]) -> Option<Outcome>
 }
 
 /// The ends that standings say, at most 8, where each of them says just one.
-fn ends_of(standings: &[Standing]) -> Option<ArrayVec<ProcEnd, 8>>
+fn ends_of(standings: &[StandingPattern]) -> Option<ArrayVec<ProcEnd, 8>>
     requires { length standings.now ≤ MOST_PROCESSES }
     ensures some { IfSome result (λ ends. standings.now ≡ just ends.items) }
     ensures none { IfNone result ((ends : List ProcEnd) → standings.now ≢ just ends) }
 {
     let mut ends = ArrayVec::new();
     for standing in standings {
-        let Standing::Just(end) = standing else {
+        let StandingPattern::Just(end) = standing else {
             return None;
         };
         ends.push(copy_of(end));

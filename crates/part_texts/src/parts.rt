@@ -6,7 +6,7 @@ use tallies::Partial;
 
 /// What was found of the schedules of a part.
 #[derive(Debug, Drop)]
-pub enum Found {
+pub enum PartFound {
     /// How many were tried, their outcomes and the least one that failed.
     Explored(Partial),
     /// The least one that failed with its outcome, which alone was sought.
@@ -19,5 +19,5 @@ pub struct PartReport {
     /// Which part of which exploration it is.
     pub head: PartHead,
     /// What was found.
-    pub found: Found,
+    pub found: PartFound,
 }

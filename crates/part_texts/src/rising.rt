@@ -1,4 +1,4 @@
-//! Outcomes in rising order.
+//! Whether an outcome comes after those before it.
 
 ghost use Rattle.std.specs.Prelude.{◌≡◌, ◌∷◌, ◌++◌, [], AllPairs, IsTrue};
 ghost use Rattle.std.specs.declared.cmp.Ordering.TheVariants.{Less};

@@ -1,6 +1,6 @@
 //! The lines of a stream of parts. No call takes memory.
 
-use crate::faults::Cause;
+use crate::faults::PartCause;
 use arrayvec::ArrayVec;
 use texts::ByteReader;
 
@@ -20,7 +20,7 @@ pub struct PartStream<R> {
 
 impl<R: ByteReader> PartStream<R> {
     ghost use Rattle.std.specs.Prelude.{◌≡◌, ◌∷◌, [], ◌++◌, IfErr, IfOk, OnOk, Some, true, false};
-    ghost use Rattle.part_texts.specs.declared.faults.Cause.TheVariants.{Unreadable};
+    ghost use Rattle.part_texts.specs.declared.faults.PartCause.TheVariants.{Unreadable};
     ghost use Rattle.std.specs.Io.KnownBytes.{Consumes, IsAtEnd};
     ghost use Rattle.texts.specs.Cuts.{has_no};
     ghost use Rattle.part_texts.specs.Causes.{IsOutwardAt, IsUnreadOnlyIf};
@@ -39,7 +39,7 @@ impl<R: ByteReader> PartStream<R> {
 
     /// Reads one line. False where nothing is left; then the only error is that the
     /// reader answered one.
-    pub(crate) fn next_line(&mut self) -> Result<bool, Cause>
+    pub(crate) fn next_line(&mut self) -> Result<bool, PartCause>
         ensures line { IfOk result (λ there. there ≡ true
             → Consumes (left_of R.left self.old) (left_of R.left self.new)
             (self.new.line.items ++ 10 ∷ [])) }
@@ -59,15 +59,15 @@ impl<R: ByteReader> PartStream<R> {
         loop {
             match self.reader.next_byte()? {
                 Some(b'\n') => return Ok(true),
-                Some(byte) => self.line.try_push(byte).map_err(|_| Cause::LongLine)?,
+                Some(byte) => self.line.try_push(byte).map_err(|_| PartCause::LongLine)?,
                 None if self.line.is_empty() => return Ok(false),
-                None => return Err(Cause::Unfinished),
+                None => return Err(PartCause::Unfinished),
             }
         }
     }
 
     /// Reads one line, where the text may not end before it.
-    pub(crate) fn wanted_line(&mut self) -> Result<(), Cause>
+    pub(crate) fn wanted_line(&mut self) -> Result<(), PartCause>
         ensures line { OnOk result
             (Consumes (left_of R.left self.old) (left_of R.left self.new)
             (self.new.line.items ++ 10 ∷ [])) }
@@ -79,7 +79,7 @@ impl<R: ByteReader> PartStream<R> {
         if self.next_line()? {
             Ok(())
         } else {
-            Err(Cause::Unfinished)
+            Err(PartCause::Unfinished)
         }
     }
 }

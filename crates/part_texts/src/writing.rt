@@ -1,6 +1,6 @@
 //! The text of a part, written. No call takes memory.
 
-ghost use Rattle.part_texts.specs.PartText.{bounds_text, explored_part, head_text, least_part, part_text};
+ghost use Rattle.part_texts.specs.PartText.{part_bounds_text, explored_part, head_text, least_part, part_text};
 ghost use Rattle.texts.specs.Appending.{Wrote};
 
 use crate::heads::PartHead;
@@ -56,7 +56,7 @@ impl Text for PartHead {
 struct BoundsOf<'a>(&'a PartHead);
 
 impl Text for BoundsOf<'_> {
-    ghost text = { λ bounds. let head = bounds.0.now in bounds_text head.processes head.length head.crashes head.cut };
+    ghost text = { λ bounds. let head = bounds.0.now in part_bounds_text head.processes head.length head.crashes head.cut };
 
     fn put<W: Write>(&self, out: &mut W, block: &mut Block) -> Result<(), WriteFault> {
         let settings = self.0.settings();

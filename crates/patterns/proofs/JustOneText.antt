@@ -12,8 +12,8 @@ use Rattle.regmodel.specs.declared.outcomes.End.TheVariants.{Done, Fault, Crashe
 use Rattle.texts.specs.NumberText.{numbers_text}
 use Rattle.texts.specs.OutcomeText.{end_text}
 use Rattle.texts.proofs.Bytes.{IsCut, cut_same, no_space-decimal, begins_digit}
-use Rattle.patterns.specs.declared.standings.Standing.{Standing}
-use Rattle.patterns.specs.declared.standings.Standing.TheVariants as standing
+use Rattle.patterns.specs.declared.patterns.StandingPattern.{StandingPattern}
+use Rattle.patterns.specs.declared.patterns.StandingPattern.TheVariants as standing
 use Rattle.patterns.specs.Matching.{allows, are_alike, both_or_neither}
 use Rattle.patterns.specs.PatternText.{FitsPattern, end_fits, idle_text, numbers_fit, pattern_text, standing_fits, standing_text}
 use Rattle.patterns.proofs.EndTexts.{after-begins, after_word, are_small, end-cut, end-parts, first-same, idle-begins, idle-no_number, numbers-assoc, numbers-rest, word-no_space, word_of}
@@ -111,7 +111,7 @@ with_fate started fate = record { started = started; fate = fate }
 just-same : (p q : ProcEnd) → p.fate ≡ q.fate → p.started ≡ q.started → p ≡ q
 just-same p q e s = ap (with_fate p.started) e ∙ ap (λ b. with_fate b q.fate) s
 
-standing-same : (a b : Standing) → standing_fits a ≡ true → standing_fits b ≡ true → standing_text a ≡ standing_text b → a ≡ b
+standing-same : (a b : StandingPattern) → standing_fits a ≡ true → standing_fits b ≡ true → standing_text a ≡ standing_text b → a ≡ b
 standing-same standing.Any standing.Any ha hb e = refl
 standing-same standing.Any standing.Done ha hb e = absurd (omega (arith, first-same 42 100 _ _ e))
 standing-same standing.Any (standing.Just q) ha hb e = absurd (end-no_star q.fate q.started (sym e))
@@ -124,7 +124,7 @@ standing-same (standing.Just p) (standing.Just q) ha hb e = let same = ends-same
 
 -- ---- patterns
 
-rows-same : (v w : List Standing) → 0 < length v → 0 < length w → all_fit v ≡ true → all_fit w ≡ true → pattern_text v ≡ pattern_text w → v ≡ w
+rows-same : (v w : List StandingPattern) → 0 < length v → 0 < length w → all_fit v ≡ true → all_fit w ≡ true → pattern_text v ≡ pattern_text w → v ≡ w
 rows-same [] w sv sw hv hw e = absurd (omega arith)
 rows-same (b ∷ v) [] sv sw hv hw e = absurd (omega arith)
 rows-same (b ∷ []) (c ∷ []) sv sw hv hw e =
@@ -151,7 +151,7 @@ rows-same (b ∷ d ∷ v) (c ∷ f ∷ w) sv sw hv hw e =
     let first = standing-same b c own.0 other.0 same.0 in
     cc (first, rest)
 
-pub pattern_text-same : (v w : List Standing) → FitsPattern v → FitsPattern w → pattern_text v ≡ pattern_text w → v ≡ w
+pub pattern_text-same : (v w : List StandingPattern) → FitsPattern v → FitsPattern w → pattern_text v ≡ pattern_text w → v ≡ w
 pattern_text-same v w fv fw e = rows-same v w fv.some fw.some fv.fit fw.fit e
 
 -- ---- what a standing allows

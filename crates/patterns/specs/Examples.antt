@@ -4,7 +4,7 @@ use Rattle.std.specs.Fmt.{digits}
 use Rattle.regmodel.specs.declared.outcomes.End.TheVariants as end
 use Rattle.regmodel.specs.declared.outcomes.ProcEnd.{ProcEnd}
 use Rattle.regmodel.specs.Examples.{idle, started}
-use Rattle.patterns.specs.declared.standings.Standing.TheVariants.{Any, Done, Just}
+use Rattle.patterns.specs.declared.patterns.StandingPattern.TheVariants.{Any, Done, Just}
 use Rattle.patterns.specs.Matching.{first_match, matches, matches_none}
 use Rattle.patterns.specs.PatternText.{pattern_text}
 

@@ -6,8 +6,8 @@ use Rattle.regmodel.specs.declared.outcomes.End.{End}
 use Rattle.regmodel.specs.declared.outcomes.End.TheVariants.{Done, Fault, Crashed, Running}
 use Rattle.regmodel.specs.declared.outcomes.ProcEnd.{ProcEnd}
 use Rattle.patterns.specs.declared.matching.Match.{Match}
-use Rattle.patterns.specs.declared.standings.Standing.{Standing}
-use Rattle.patterns.specs.declared.standings.Standing.TheVariants as standing
+use Rattle.patterns.specs.declared.patterns.StandingPattern.{StandingPattern}
+use Rattle.patterns.specs.declared.patterns.StandingPattern.TheVariants as standing
 
 -- whether two processes stand alike: done with the same numbers, at fault with the same code, both
 -- crashed or both running
@@ -30,29 +30,29 @@ is_done Crashed = false
 is_done Running = false
 
 -- whether a process may stand so
-abbrev pub allows : Standing → ProcEnd → Bool
+abbrev pub allows : StandingPattern → ProcEnd → Bool
 allows standing.Any end = true
 allows standing.Done end = is_done end.fate
 allows (standing.Just own) end =
     both_or_neither own.started end.started && are_alike own.fate end.fate
 
 -- whether an outcome has as many processes, and each stands as it may
-abbrev pub matches : List Standing → List ProcEnd → Bool
+abbrev pub matches : List StandingPattern → List ProcEnd → Bool
 matches [] [] = true
 matches [] (end ∷ ends) = false
 matches (standing ∷ standings) [] = false
 matches (standing ∷ standings) (end ∷ ends) = allows standing end && matches standings ends
 
 -- whether an outcome matches none of these patterns
-abbrev pub matches_none : List (List Standing) → List ProcEnd → Bool
+abbrev pub matches_none : List (List StandingPattern) → List ProcEnd → Bool
 matches_none patterns ends = not (list_any (λ pattern. matches pattern ends) patterns)
 
 -- the place of the first of some patterns that an outcome matches, counted from 0
-abbrev pub first_match : List (List Standing) → List ProcEnd → Option ℕ
+abbrev pub first_match : List (List StandingPattern) → List ProcEnd → Option ℕ
 first_match patterns ends = position (λ pattern. matches pattern ends) patterns
 
 -- the first of some patterns that an outcome matches, and its number among them, counted from 1
-pub record IsFirstMatch (patterns : List (List Standing)) (ends : List ProcEnd) (found : Match)
+pub record IsFirstMatch (patterns : List (List StandingPattern)) (ends : List ProcEnd) (found : Match)
     : Type 0 where
   pub place : ℕ
   pub first : first_match patterns ends ≡ Some place

@@ -6,17 +6,17 @@ use Rattle.regmodel.specs.declared.limits.TheConstants.{GREATEST_VALUE, MOST_NUM
 use Rattle.regmodel.specs.declared.outcomes.End.{End}
 use Rattle.regmodel.specs.declared.outcomes.End.TheVariants.{Done, Fault, Crashed, Running}
 use Rattle.texts.specs.OutcomeText.{end_text}
-use Rattle.patterns.specs.declared.standings.Standing.{Standing}
-use Rattle.patterns.specs.declared.standings.Standing.TheVariants as standing
+use Rattle.patterns.specs.declared.patterns.StandingPattern.{StandingPattern}
+use Rattle.patterns.specs.declared.patterns.StandingPattern.TheVariants as standing
 
 -- `*` for any standing, `done *` for done with any numbers, and any other one as a report writes it
-abbrev pub standing_text : Standing → List ℕ
+abbrev pub standing_text : StandingPattern → List ℕ
 standing_text standing.Any = codes "*"
 standing_text standing.Done = codes "done *"
 standing_text (standing.Just end) = end_text end
 
 -- the standings, parted by `; `
-abbrev pub pattern_text : List Standing → List ℕ
+abbrev pub pattern_text : List StandingPattern → List ℕ
 pattern_text standings = join_by standing_text (codes "; ") standings
 
 -- what follows where a process took no step
@@ -44,28 +44,28 @@ end_fits Crashed = true
 end_fits Running = true
 
 -- the same, where just one standing is meant
-abbrev pub standing_fits : Standing → Bool
+abbrev pub standing_fits : StandingPattern → Bool
 standing_fits standing.Any = true
 standing_fits standing.Done = true
 standing_fits (standing.Just end) = end_fits end.fate
 
 -- the patterns that can be read: 1 to 8 standings, of processes as they can stand
-pub record FitsPattern (standings : List Standing) : Type 0 where
+pub record FitsPattern (standings : List StandingPattern) : Type 0 where
   pub some : 0 < length standings
   pub few : length standings ≤ MOST_PROCESSES
   pub fit : list_all standing_fits standings ≡ true
 
 -- standings, each with `; ` behind it
-abbrev pub ended_text : List Standing → List ℕ
+abbrev pub ended_text : List StandingPattern → List ℕ
 ended_text standings = flat_map (λ s. standing_text s ++ codes "; ") standings
 
 -- so many standings stand at the beginning of a text, each with `; ` behind it, and no further one
 -- does; after 8 there may be no further one
 pub record IsBadAt (text : List ℕ) (place : ℕ) : Type 0 where
-  pub before : List Standing
+  pub before : List StandingPattern
   pub fit : list_all standing_fits before ≡ true
   pub count : length before ≡ place
   pub rest : List ℕ
   pub parts : text ≡ ended_text before ++ rest
-  pub none : place < MOST_PROCESSES → (s : Standing) (after : List ℕ) → standing_fits s ≡ true
+  pub none : place < MOST_PROCESSES → (s : StandingPattern) (after : List ℕ) → standing_fits s ≡ true
       → standing_text s ++ (codes "; " ++ after) ≢ rest

@@ -2,8 +2,8 @@
 
 ghost use Rattle.std.specs.Prelude.{◌≡◌, ◌↔◌, List, true};
 ghost use Rattle.regmodel.specs.declared.outcomes.ProcEnd.{ProcEnd};
-ghost use Rattle.patterns.specs.declared.standings.Standing.{Standing};
-ghost use Rattle.patterns.specs.declared.standings.Standing.TheVariants.{Just};
+ghost use Rattle.patterns.specs.declared.patterns.StandingPattern.{StandingPattern};
+ghost use Rattle.patterns.specs.declared.patterns.StandingPattern.TheVariants.{Just};
 ghost use Rattle.patterns.specs.Matching.{allows};
 ghost use Rattle.patterns.specs.PatternText.{FitsPattern, pattern_text};
 
@@ -14,6 +14,6 @@ pub fn just_one_stands_so()
 
 /// No two patterns that can be read have the same text.
 pub fn texts_of_patterns_are_distinct()
-    ensures { (v w : List Standing) → FitsPattern v → FitsPattern w
+    ensures { (v w : List StandingPattern) → FitsPattern v → FitsPattern w
         → pattern_text v ≡ pattern_text w → v ≡ w }
 {}

@@ -4,9 +4,9 @@
 pub mod laws;
 mod matching;
 mod pattern_text;
+mod patterns;
 mod reading;
-mod standings;
 
 pub use matching::{Match, NoneOf, first_match};
+pub use patterns::{Pattern, StandingPattern};
 pub use reading::{BadPattern, read_pattern};
-pub use standings::{Pattern, Standing};

@@ -4,7 +4,7 @@ ghost use Rattle.std.specs.Prelude.{◌≡◌, ◌<◌, IfSome, IsNone, length, 
 ghost use Rattle.patterns.specs.Matching as spec;
 ghost use Rattle.patterns.specs.Matching.{IsFirstMatch};
 
-use crate::standings::{Pattern, Standing};
+use crate::patterns::{Pattern, StandingPattern};
 use regmodel::{End, Judge, Outcome, ProcEnd};
 
 impl Pattern {
@@ -20,7 +20,7 @@ impl Pattern {
 }
 
 /// Whether there are as many standings as processes, and each process stands as its standing says.
-fn may_stand(standings: &[Standing], ends: &[ProcEnd]) -> bool
+fn may_stand(standings: &[StandingPattern], ends: &[ProcEnd]) -> bool
     ensures { result ≡ spec.matches standings.now ends.now }
 {
     let Some((standing, standings)) = standings.split_first() else {
@@ -33,13 +33,13 @@ fn may_stand(standings: &[Standing], ends: &[ProcEnd]) -> bool
 }
 
 /// Whether a process may stand so.
-fn allows(standing: &Standing, end: &ProcEnd) -> bool
+fn allows(standing: &StandingPattern, end: &ProcEnd) -> bool
     ensures { result ≡ spec.allows standing.now end.now }
 {
     match standing {
-        Standing::Any => true,
-        Standing::Done => matches!(end.fate, End::Done(_)),
-        Standing::Just(own) => own == end,
+        StandingPattern::Any => true,
+        StandingPattern::Done => matches!(end.fate, End::Done(_)),
+        StandingPattern::Just(own) => own == end,
     }
 }
 

@@ -2,19 +2,19 @@
 
 ghost use Rattle.patterns.specs.PatternText.{pattern_text, standing_text};
 
-use crate::standings::{Pattern, Standing};
+use crate::patterns::{Pattern, StandingPattern};
 use std::io::Write;
 use texts::{Block, Joined, Text, WriteFault};
 
 /// How a process may stand.
-impl Text for Standing {
+impl Text for StandingPattern {
     ghost text = { standing_text };
 
     fn put<W: Write>(&self, out: &mut W, block: &mut Block) -> Result<(), WriteFault> {
         match self {
-            Standing::Any => "*".put(out, block),
-            Standing::Done => "done *".put(out, block),
-            Standing::Just(end) => end.put(out, block),
+            StandingPattern::Any => "*".put(out, block),
+            StandingPattern::Done => "done *".put(out, block),
+            StandingPattern::Just(end) => end.put(out, block),
         }
     }
 }

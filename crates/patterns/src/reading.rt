@@ -6,10 +6,10 @@ ghost use Rattle.regmodel.specs.declared.outcomes.ProcEnd.{ProcEnd};
 ghost use Rattle.texts.specs.Cuts.{begins_at};
 ghost use Rattle.texts.specs.NumberText.{numbers_text};
 ghost use Rattle.texts.specs.OutcomeText.{end_text};
-ghost use Rattle.patterns.specs.declared.standings.Standing.{Standing};
+ghost use Rattle.patterns.specs.declared.patterns.StandingPattern.{StandingPattern};
 ghost use Rattle.patterns.specs.PatternText.{FitsPattern, IsBadAt, code_fits, code_text, end_fits, idle_text, numbers_fit, pattern_text, standing_fits, standing_text};
 
-use crate::standings::{Pattern, Standing};
+use crate::patterns::{Pattern, StandingPattern};
 use arrayvec::ArrayVec;
 use regmodel::{End, Numbers, ProcEnd};
 use texts::{cut_at, number_of};
@@ -30,7 +30,7 @@ pub fn read_pattern(text: &[u8]) -> Result<Pattern, BadPattern>
     ensures ok { IfOk result (λ pattern. pattern_text pattern ≡ text.now) }
     ensures fits { IfOk result FitsPattern }
     ensures err { IfErr result
-        (λ bad. (standings : List Standing) → FitsPattern standings
+        (λ bad. (standings : List StandingPattern) → FitsPattern standings
         → pattern_text standings ≢ text.now) }
     ensures place { IfErr result (λ bad. IsBadAt text.now bad.place) }
 {
@@ -67,21 +67,21 @@ fn past_mark(text: &[u8]) -> Option<&[u8]>
 }
 
 /// The standing of a text. None for any text that no standing has.
-fn read_standing(text: &[u8]) -> Option<Standing>
+fn read_standing(text: &[u8]) -> Option<StandingPattern>
     ensures some { IfSome result (λ standing. standing_text standing ≡ text.now) }
     ensures fits { IfSome result (λ standing. standing_fits standing ≡ true) }
     ensures none { IfNone result
-        ((standing : Standing) → standing_fits standing ≡ true
+        ((standing : StandingPattern) → standing_fits standing ≡ true
         → standing_text standing ≢ text.now) }
 {
     if text == b"*".as_slice() {
-        return Some(Standing::Any);
+        return Some(StandingPattern::Any);
     }
     if text == b"done *".as_slice() {
-        return Some(Standing::Done);
+        return Some(StandingPattern::Done);
     }
     let end = read_end(text)?;
-    Some(Standing::Just(end))
+    Some(StandingPattern::Just(end))
 }
 
 /// How a process stands, by a text. None for any text that no process has.

@@ -6,7 +6,7 @@ use Rattle.std.specs.Prelude.{IfOk, slice_get, option_map}
 use Rattle.std.proofs.lemmas.Bool.{eqb-true}
 use Rattle.std.proofs.lemmas.Option.{slice_get-map, slice_get_read}
 use Rattle.std.proofs.lemmas.List.{length-map}
-use Rattle.regmodel.specs.declared.memory.OutOfMemory.{OutOfMemory}
+use Rattle.regmodel.specs.declared.out_of_memory.OutOfMemory.{OutOfMemory}
 use Rattle.regmodel.specs.declared.programs.Prog.{Prog}
 use Rattle.regmodel.specs.declared.statements.Stmt.{Stmt}
 use Rattle.regmodel.specs.Prelude.{IsWithin, program_of, Block, block_of, with_stmt}

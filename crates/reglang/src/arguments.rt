@@ -1,4 +1,4 @@
-//! What a line, a use and a clause are made of.
+//! What a line, a use and a clause are made of; lines made from arguments, and taken apart again.
 
 ghost use Rattle.std.specs.Prelude.{◌≡◌, ◌≤◌, ◌∷◌, [], length, map};
 ghost use Rattle.reglang.specs.Arguments as spec;

@@ -8,7 +8,7 @@ pub mod faults;
 mod fitting;
 pub mod laws;
 pub mod limits;
-mod memory;
+mod out_of_memory;
 mod outcomes;
 mod parts;
 mod programs;
@@ -21,7 +21,7 @@ pub use accesses::{Access, Few, Footprint, Numbers, Pending, Reads, Reply, Write
 pub use clauses::{Clause, Clauses, Subject};
 pub use effort::Effort;
 pub use fitting::scan_fits;
-pub use memory::OutOfMemory;
+pub use out_of_memory::OutOfMemory;
 pub use outcomes::{End, Judge, Outcome, ProcEnd};
 pub use parts::Part;
 pub use programs::Prog;

@@ -1,7 +1,7 @@
-//! How far an exploration goes.
+//! How far an exploration goes, and how workers share it.
 
 ghost use Rattle.std.specs.Prelude.{◌≡◌, ◌<◌, ◌≤◌, ◌↔◌, IsOk, IfOk, IfErr};
-ghost use Rattle.regmodel.specs.Settings.{AreSettingsWithin, bounds_of, setting_fault};
+ghost use Rattle.regmodel.specs.Settings.{AreSettingsWithin, settings_of, setting_fault};
 ghost use Rattle.regmodel.specs.declared.limits.TheConstants.{GREATEST_CUT, GREATEST_ROOM, MOST_CRASHES, MOST_LETTERS, MOST_WORKERS};
 
 use crate::limits::{GREATEST_CUT, GREATEST_ROOM, MOST_CRASHES, MOST_LETTERS, MOST_WORKERS};
@@ -19,13 +19,13 @@ pub struct Settings {
 }
 
 impl Model for Settings {
-    ghost use Rattle.regmodel.specs.Settings.{Bounds, AreSettingsWithin};
+    ghost use Rattle.regmodel.specs.Settings as spec;
 
-    ghost Value = { Bounds };
+    ghost Value = { spec.Settings };
 
     ghost view = { λ s. record { length = s.length; crashes = s.crashes; workers = s.workers; cut = s.cut; room = s.room } };
 
-    ghost invariant = { λ s. AreSettingsWithin (record { length = s.length; crashes = s.crashes; workers = s.workers; cut = s.cut; room = s.room }) };
+    ghost invariant = { λ s. spec.AreSettingsWithin (record { length = s.length; crashes = s.crashes; workers = s.workers; cut = s.cut; room = s.room }) };
 
     ghost inverse = { λ b. record { length = b.length; crashes = b.crashes; workers = b.workers; cut = b.cut; room = b.room } };
 }
@@ -64,10 +64,11 @@ impl Settings {
         cut: u32,
         room: u32,
     ) -> Result<Settings, SettingFault>
-        ensures value { IfOk result (λ s. s ≡ bounds_of length crashes workers cut room) }
-        ensures fits { IsOk result ↔ AreSettingsWithin (bounds_of length crashes workers cut room) }
+        ensures value { IfOk result (λ s. s ≡ settings_of length crashes workers cut room) }
+        ensures fits { IsOk result
+            ↔ AreSettingsWithin (settings_of length crashes workers cut room) }
         ensures lowest { IfErr result
-            (λ e. e.code ≡ setting_fault (bounds_of length crashes workers cut room)) }
+            (λ e. e.code ≡ setting_fault (settings_of length crashes workers cut room)) }
     {
         if length > MOST_LETTERS {
             return Err(SettingFault {

@@ -6,7 +6,7 @@ ghost use Rattle.seats.specs.Parts.{LetsPartsMove, joined};
 ghost use Rattle.seats.specs.Places.{HasAll, IsAt};
 ghost use Rattle.seats.specs.Seats.{AreAllOfOne};
 
-use crate::known::{Parts, SeatRule};
+use crate::known::{PartSplit, SeatRule};
 use crate::seats::{Seat, SeatTable, TableSeat};
 use std::alloc::Global;
 use std::sync::Arc;
@@ -46,5 +46,5 @@ fn join<S, G, L, P: SeatRule<S, G, L>>(
     ensures same { seat.new.table_id ≡ seat.old.table_id }
     ensures known { seat.new.me.0 ≡ joined seat.old.me.0 other.me.0 }
 {
-    table.shared.join_seat::<Parts>(seat, other);
+    table.shared.join_seat::<PartSplit>(seat, other);
 }

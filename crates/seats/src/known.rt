@@ -28,9 +28,9 @@ pub trait SeatRule<S, G, L>: TableRule<S, Known<G, L>, u64> {
 }
 
 /// One part is cut off for another seat, or all that another seat has comes back.
-pub struct Parts;
+pub struct PartSplit;
 
-impl<G, L> Split<Known<G, L>> for Parts {
+impl<G, L> Split<Known<G, L>> for PartSplit {
     ghost use Rattle.seats.specs.Parts.{less, newcomer};
 
     ghost left = { less };
@@ -38,7 +38,7 @@ impl<G, L> Split<Known<G, L>> for Parts {
     ghost right = { newcomer };
 }
 
-impl<G, L> Join<Known<G, L>> for Parts {
+impl<G, L> Join<Known<G, L>> for PartSplit {
     ghost use Rattle.seats.specs.Parts.{joined, spent};
 
     ghost both = { joined };

@@ -7,6 +7,6 @@ mod opening;
 mod seats;
 
 pub use gathering::gather;
-pub use known::{Known, Parts, SeatRule};
+pub use known::{Known, PartSplit, SeatRule};
 pub use opening::open;
 pub use seats::{Seat, SeatTable, TableSeat};

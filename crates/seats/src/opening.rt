@@ -6,7 +6,7 @@ ghost use Rattle.seats.specs.Parts.{LetsPartsMove, beginner, less};
 ghost use Rattle.seats.specs.Places.{IsAt};
 ghost use Rattle.seats.specs.Seats.{AreAllOfOne, AreOpened, fresh_seat};
 
-use crate::known::{Parts, SeatRule};
+use crate::known::{PartSplit, SeatRule};
 use crate::seats::{Seat, SeatTable, TableSeat};
 use std::alloc::{AllocError, Global};
 use std::sync::Arc;
@@ -48,7 +48,7 @@ fn deal<S: Drop, G, L, P: SeatRule<S, G, L>>(
     ensures seat { IfOk result
         (λ seat. seat ≡ fresh_seat (dealer.old.table_id, dealer.old.me.0.whole)) }
 {
-    let seat = table.shared.split_seat::<Parts>(dealer);
+    let seat = table.shared.split_seat::<PartSplit>(dealer);
     let table = Arc::try_clone(table)?;
     Ok(Seat::new(table, seat))
 }

@@ -20,4 +20,4 @@ pub struct WriteFault {
 /// A byte of a text could not be read: the reader answered an error.
 #[derive(Clone, Copy, PartialEq, Eq, Debug, Error)]
 #[error("the text could not be read")]
-pub struct ReadFault;
+pub struct InputFault;

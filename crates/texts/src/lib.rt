@@ -13,7 +13,7 @@ mod texts;
 
 pub use blocks::Block;
 pub use cuts::cut_at;
-pub use faults::{ANSWERED_ERROR, ReadFault, TOOK_NO_BYTE, WriteFault};
+pub use faults::{ANSWERED_ERROR, InputFault, TOOK_NO_BYTE, WriteFault};
 pub use number_words::{long_number_of, number_of};
 pub use outcomes::OutcomeLine;
 pub use readers::ByteReader;

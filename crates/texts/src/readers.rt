@@ -3,7 +3,7 @@
 ghost use Rattle.std.specs.Prelude.{◌∷◌, [], IfErr, IfNone, IfOk, IfSome, List, Option, Some, ℕ};
 ghost use Rattle.std.specs.Io.KnownBytes.{Consumes, IsAtEnd};
 
-use crate::faults::ReadFault;
+use crate::faults::InputFault;
 use std::io::{BufReader, Read};
 
 /// What gives the bytes of a text, one after another, and says of itself whether it may fail.
@@ -15,7 +15,7 @@ pub trait ByteReader: Drop {
     ghost may_fail: { Type 0 };
 
     /// The byte that comes next; None where nothing is left. An error where it could not be read.
-    fn next_byte(&mut self) -> Result<Option<u8>, ReadFault>
+    fn next_byte(&mut self) -> Result<Option<u8>, InputFault>
         ensures some { IfOk result (λ next. IfSome next
             (λ byte. Consumes (left self.old) (left self.new) (byte ∷ []))) }
         ensures before { IfOk result (λ next. IfNone next (IsAtEnd (left self.old))) }
@@ -29,7 +29,7 @@ impl ByteReader for &[u8] {
 
     ghost may_fail = { ⊥ };
 
-    fn next_byte(&mut self) -> Result<Option<u8>, ReadFault> {
+    fn next_byte(&mut self) -> Result<Option<u8>, InputFault> {
         let Some((byte, rest)) = self.split_first() else {
             return Ok(None);
         };
@@ -44,12 +44,12 @@ impl<R: Read + Drop> ByteReader for BufReader<R> {
 
     ghost may_fail = { Unit {0} };
 
-    fn next_byte(&mut self) -> Result<Option<u8>, ReadFault> {
+    fn next_byte(&mut self) -> Result<Option<u8>, InputFault> {
         let mut one = [0u8; 1];
         match self.read(&mut one) {
             Ok(0) => Ok(None),
             Ok(_) => Ok(Some(one[0])),
-            Err(_) => Err(ReadFault),
+            Err(_) => Err(InputFault),
         }
     }
 }

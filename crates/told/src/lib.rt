@@ -2,7 +2,6 @@
 #![tactic(auto)]
 
 mod bytes;
-pub mod limits;
 mod numbers;
 
-pub use numbers::Told;
+pub use numbers::{MOST_BYTES, Told};

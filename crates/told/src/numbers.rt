@@ -2,13 +2,14 @@
 
 ghost use Rattle.std.specs.Prelude.{◌≡◌, ◌+◌, ◌<◌, ◌≤◌, ◌∷◌, [], ◌++◌, IfSome, IsSome, length, take, true};
 ghost use Rattle.told.specs.declared.bytes.TheConstants.{SMALL};
-ghost use Rattle.told.specs.declared.limits.TheConstants.{MOST_BYTES};
-ghost use Rattle.told.specs.declared.numbers.TheConstants.{FEW};
+ghost use Rattle.told.specs.declared.numbers.TheConstants.{FEW, MOST_BYTES};
 ghost use Rattle.told.specs.Bytes.{numbers_of, size_of};
 ghost use Rattle.told.specs.Wholes.{AreWhole, EndAlone};
 
 use crate::bytes::{ALONE, FOUR, LARGE, SMALL, TWO, both, pair};
-use crate::limits::MOST_BYTES;
+
+/// The most bytes of numbers that are told one behind another.
+pub const MOST_BYTES: usize = 128;
 
 /// How many bytes are copied at once where there are no more.
 const FEW: usize = 16;

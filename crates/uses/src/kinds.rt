@@ -1,4 +1,4 @@
-//! Uses: processes that stand for a program of their kind.
+//! Uses: processes that stand for a program of their kind, and the limits of their numbers.
 
 ghost use Rattle.std.specs.Prelude.{◌≡◌, ◌^◌, ◌-◌, ◌≤◌, IsTrue};
 ghost use Rattle.regmodel.specs.declared.limits.TheConstants.{MOST_LEVELS};

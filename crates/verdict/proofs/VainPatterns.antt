@@ -11,8 +11,8 @@ use Rattle.regmodel.specs.Outcomes.{end_of}
 use Rattle.regmodel.specs.declared.accesses.Pending.TheVariants as pending
 use Rattle.regmodel.specs.declared.outcomes.End.TheVariants.{Crashed}
 use Rattle.patterns.specs.Matching.{allows, matches, matches_none}
-use Rattle.patterns.specs.declared.standings.Standing.{Standing}
-use Rattle.patterns.specs.declared.standings.Standing.TheVariants as standing
+use Rattle.patterns.specs.declared.patterns.StandingPattern.{StandingPattern}
+use Rattle.patterns.specs.declared.patterns.StandingPattern.TheVariants as standing
 use Rattle.patterns.proofs.JustOneText.{just_allowed}
 use Rattle.verdict.specs.Emissions.{EmitsAtMost, most_emitted}
 use Rattle.verdict.specs.Shortfalls.{are_in_vain, asked_by, numbers_of, shortfall_in}
@@ -27,7 +27,7 @@ few_numbers most (pending.Done numbers) false h = h
 few_numbers most (pending.Fault code) false h = omega arith
 
 -- a standing that allows it asks for no more than it has
-asks_no_more : (s : Standing) (end : ProcEnd) → allows s end ≡ true → asked_by s ≤ numbers_of end.fate
+asks_no_more : (s : StandingPattern) (end : ProcEnd) → allows s end ≡ true → asked_by s ≤ numbers_of end.fate
 asks_no_more standing.Any end h = omega arith
 asks_no_more standing.Done end h = omega arith
 asks_no_more (standing.Just own) end h = let same = ap (λ e. numbers_of e.fate) ((just_allowed own end).0 h) in omega (arith, same)
@@ -43,7 +43,7 @@ one_of_them most asked true matched this others found h k false e f = k f
 abbrev StandFrom : List Program → ℕ → List Program → Type 0
 StandFrom all k rest = (j : ℕ) (s : Replies) → pending_at all (k + j) s ≡ pending_at rest j s
 
-none_from : (all : List Program) (w : Schedule) (rest : List Program) (k : ℕ) → StandFrom all k rest → (standings : List Standing) (number process : ℕ) (found : Shortfall)
+none_from : (all : List Program) (w : Schedule) (rest : List Program) (k : ℕ) → StandFrom all k rest → (standings : List StandingPattern) (number process : ℕ) (found : Shortfall)
     → shortfall_in number process (map most_emitted rest) standings ≡ Some found → matches standings (map (proc_end all w) (range_with_len k (length rest))) ≡ false
 none_from all w [] k there standings number process found e = absurd (cc e)
 none_from all w (program ∷ rest) k there [] number process found e = absurd (cc e)
@@ -59,26 +59,26 @@ none_from all w (program ∷ rest) k there (s ∷ standings) number process foun
     (λ allowed. let asks = asks_no_more s (proc_end all w k) allowed in omega (arith, asks, few))
     (none_from all w rest (k + 1) next standings number (process + 1) found) (nat_lt most (asked_by s)) refl e
 
-pub none_matches : (programs : List Program) (w : Schedule) (number : ℕ) (pattern : List Standing) (found : Shortfall)
+pub none_matches : (programs : List Program) (w : Schedule) (number : ℕ) (pattern : List StandingPattern) (found : Shortfall)
     → shortfall_in number 0 (map most_emitted programs) pattern ≡ Some found → matches pattern (outcome_of programs w) ≡ false
 none_matches programs w number pattern found = none_from programs w programs 0 (λ j s. let same : 0 + j ≡ j = omega arith in ap (λ p. pending_at programs p s) same) pattern number 0 found
 
 -- ---- where each pattern does
 
-one_in_vain : (programs : List Program) (w : Schedule) (pattern : List Standing) (found : Option Shortfall) → shortfall_in 1 0 (map most_emitted programs) pattern ≡ found → is_some found ≡ true → matches pattern (outcome_of programs w) ≡ false
+one_in_vain : (programs : List Program) (w : Schedule) (pattern : List StandingPattern) (found : Option Shortfall) → shortfall_in 1 0 (map most_emitted programs) pattern ≡ found → is_some found ≡ true → matches pattern (outcome_of programs w) ≡ false
 one_in_vain programs w pattern None e some = absurd (cc some)
 one_in_vain programs w pattern (Some found) e some = none_matches programs w 1 pattern found e
 
-none_of_them : (programs : List Program) (w : Schedule) (patterns : List (List Standing)) → are_in_vain (map most_emitted programs) patterns ≡ true → list_any (λ pattern. matches pattern (outcome_of programs w)) patterns ≡ false
+none_of_them : (programs : List Program) (w : Schedule) (patterns : List (List StandingPattern)) → are_in_vain (map most_emitted programs) patterns ≡ true → list_any (λ pattern. matches pattern (outcome_of programs w)) patterns ≡ false
 none_of_them programs w [] h = refl
 none_of_them programs w (pattern ∷ patterns) h =
     let found = shortfall_in 1 0 (map most_emitted programs) pattern in
     let both = and_parts (is_some found) (are_in_vain (map most_emitted programs) patterns) h in
     rw (one_in_vain programs w pattern found refl both.0) (none_of_them programs w patterns both.1)
 
-none_refused : (programs : List Program) (patterns : List (List Standing)) (schedules : List Schedule) → are_in_vain (map most_emitted programs) patterns ≡ true → find (λ w. not (matches_none patterns (outcome_of programs w))) schedules ≡ None
+none_refused : (programs : List Program) (patterns : List (List StandingPattern)) (schedules : List Schedule) → are_in_vain (map most_emitted programs) patterns ≡ true → find (λ w. not (matches_none patterns (outcome_of programs w))) schedules ≡ None
 none_refused programs patterns [] h = refl
 none_refused programs patterns (w ∷ schedules) h = rw (none_of_them programs w patterns h) (none_refused programs patterns schedules h)
 
-pub none_leads_there : (programs : List Program) (patterns : List (List Standing)) (schedules : List Schedule) → are_in_vain (map most_emitted programs) patterns ≡ true → first_refused programs (matches_none patterns) schedules ≡ None
+pub none_leads_there : (programs : List Program) (patterns : List (List StandingPattern)) (schedules : List Schedule) → are_in_vain (map most_emitted programs) patterns ≡ true → first_refused programs (matches_none patterns) schedules ≡ None
 none_leads_there programs patterns schedules h = ap (option_map (λ w. (w, outcome_of programs w))) (none_refused programs patterns schedules h)

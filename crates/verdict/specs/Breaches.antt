@@ -14,9 +14,9 @@ use Rattle.verdict.specs.Demands.{breaks, clauses_asked, meets_demands}
 use Rattle.verdict.specs.EmptyRanges.{is_empty_range}
 use Rattle.verdict.specs.Faults.{first_fault}
 use Rattle.verdict.specs.Onsets.{IsOnset}
-use Rattle.verdict.specs.declared.breaches.Breach.{Breach}
-use Rattle.verdict.specs.declared.breaches.Cause.{Cause}
-use Rattle.verdict.specs.declared.breaches.Cause.TheVariants.{Check, Fault}
+use Rattle.verdict.specs.declared.verdicts.Breach.{Breach}
+use Rattle.verdict.specs.declared.verdicts.Cause.{Cause}
+use Rattle.verdict.specs.declared.verdicts.Cause.TheVariants.{Check, Fault}
 use Rattle.verdict.specs.declared.demands.Strictness.{Strictness}
 
 -- the line of the first clause that is asked and that an outcome breaks, and whether no number is

@@ -5,8 +5,8 @@ use Rattle.regmodel.specs.declared.statements.Expr.{Expr}
 use Rattle.regmodel.specs.declared.statements.Expr.TheVariants.{One}
 use Rattle.regmodel.specs.declared.statements.Operand.TheVariants as operand
 use Rattle.regmodel.specs.Program.{Block, Stop, Do, If, Repeat, Emit, Halt}
-use Rattle.patterns.specs.declared.standings.Standing.{Standing}
-use Rattle.patterns.specs.declared.standings.Standing.TheVariants.{Any, Just}
+use Rattle.patterns.specs.declared.patterns.StandingPattern.{StandingPattern}
+use Rattle.patterns.specs.declared.patterns.StandingPattern.TheVariants.{Any, Just}
 use Rattle.verdict.specs.Emissions.{most_from}
 use Rattle.verdict.specs.Shortfalls.{first_shortfall}
 
@@ -39,7 +39,7 @@ pub ends_in_a_turn :
 ends_in_a_turn = refl
 
 -- done with these numbers
-abbrev done : List ℕ → Standing
+abbrev done : List ℕ → StandingPattern
 done numbers = Just (record { started = true; fate = end.Done (record { items = numbers }) })
 
 -- of the second pattern process 1 would have to emit two numbers, and emits at most one

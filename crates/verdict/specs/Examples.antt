@@ -14,7 +14,7 @@ use Rattle.regmodel.specs.declared.statements.Op.TheVariants as op
 use Rattle.drawing.specs.declared.breadths.Breadth.{Breadth}
 use Rattle.drawing.specs.declared.breadths.Room.{Room}
 use Rattle.drawing.specs.declared.breadths.Room.TheVariants.{Places, Usual, Whole}
-use Rattle.patterns.specs.declared.standings.Standing.TheVariants.{Any, Done, Just}
+use Rattle.patterns.specs.declared.patterns.StandingPattern.TheVariants.{Any, Done, Just}
 use Rattle.verdict.specs.Demands.{clauses_asked, meets_demands}
 use Rattle.verdict.specs.EmptyRanges.{is_empty_range}
 use Rattle.verdict.specs.FaultText.{culprit_text, fault_line, reason_text}
@@ -24,7 +24,7 @@ use Rattle.verdict.specs.Gaps.{want_of}
 use Rattle.verdict.specs.ShellWords.{operand_text}
 use Rattle.verdict.specs.ShowCommands.{show_text}
 use Rattle.verdict.specs.SingleRepeats.{first_single_repeat, single_repeat_text}
-use Rattle.verdict.specs.WayText.{excess_text, match_text, nowhere_text, shortfall_text}
+use Rattle.verdict.specs.WitnessText.{excess_text, match_text, nowhere_text, shortfall_text}
 
 -- a process that took no step
 abbrev idle : End → ProcEnd

@@ -18,5 +18,5 @@ pub mod Shortfalls
 pub mod SingleRepeats
 pub mod VerdictText
 pub mod Verdicts
-pub mod WayText
-pub mod Ways
+pub mod WitnessText
+pub mod Witnesses

@@ -7,8 +7,8 @@ use Rattle.report.specs.PlainReport.{Findings}
 use Rattle.texts.specs.NumberText.{number_line}
 use Rattle.texts.specs.OutcomeText.{outcome_line}
 use Rattle.verdict.specs.VerdictText.{verdict_text}
-use Rattle.verdict.specs.declared.breaches.Verdict.{Verdict}
-use Rattle.verdict.specs.declared.breaches.Verdict.TheVariants.{Fails, Holds}
+use Rattle.verdict.specs.declared.verdicts.Verdict.{Verdict}
+use Rattle.verdict.specs.declared.verdicts.Verdict.TheVariants.{Fails, Holds}
 
 -- outcomes behind an empty line: how many they are, and a line for each
 abbrev pub outcome_list : List (List ProcEnd) → List ℕ

@@ -13,12 +13,12 @@ use Rattle.verdict.specs.FaultText.{fault_line, fault_text}
 use Rattle.verdict.specs.OriginText.{line_text}
 use Rattle.verdict.specs.ShowCommands.{show_text}
 use Rattle.verdict.specs.SingleRepeats.{single_repeat_text}
-use Rattle.verdict.specs.declared.breaches.Breach.{Breach}
-use Rattle.verdict.specs.declared.breaches.Cause.{Cause}
-use Rattle.verdict.specs.declared.breaches.Cause.TheVariants.{Check, Fault}
-use Rattle.verdict.specs.declared.breaches.Cut.{Cut}
-use Rattle.verdict.specs.declared.breaches.Verdict.{Verdict}
-use Rattle.verdict.specs.declared.breaches.Verdict.TheVariants.{Fails, Holds}
+use Rattle.verdict.specs.declared.verdicts.Breach.{Breach}
+use Rattle.verdict.specs.declared.verdicts.Cause.{Cause}
+use Rattle.verdict.specs.declared.verdicts.Cause.TheVariants.{Check, Fault}
+use Rattle.verdict.specs.declared.verdicts.Cut.{Cut}
+use Rattle.verdict.specs.declared.verdicts.Verdict.{Verdict}
+use Rattle.verdict.specs.declared.verdicts.Verdict.TheVariants.{Fails, Holds}
 use Rattle.verdict.specs.declared.demands.Asked.{Asked}
 use Rattle.verdict.specs.declared.demands.Asked.TheVariants.{Checks, Faults, Nothing}
 use Rattle.verdict.specs.declared.gaps.Gap.{Gap}
@@ -120,8 +120,8 @@ tried_text tried outcomes =
     ++ counted outcomes (codes "outcome") (codes "s")
 
 -- how far was explored
-abbrev pub bounds_text : ℕ → ℕ → List ℕ
-bounds_text limit crashes =
+abbrev pub up_to_text : ℕ → ℕ → List ℕ
+up_to_text limit crashes =
     codes ", up to " ++ letters_text limit ++ codes " and " ++ crashes_text crashes ++ codes "\n"
 
 -- what can be done about schedules that were cut off at this length
@@ -164,7 +164,7 @@ gaps_text text gaps = flat_map (gap_text text) gaps
 abbrev pub holding_text : List ℕ → Reach → List ℕ
 holding_text path reach =
     path ++ codes ": no schedule fails: " ++ tried_text reach.tried reach.outcomes
-    ++ bounds_text reach.length reach.crashes
+    ++ up_to_text reach.length reach.crashes
 
 -- the same, what was looked for, which checks could not be broken, which line repeats once or not
 -- at all, and whether schedules were cut off

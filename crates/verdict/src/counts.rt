@@ -1,4 +1,4 @@
-//! Numbers of things, in words.
+//! Numbers of things, in words, and how far was explored.
 
 ghost use Rattle.verdict.specs.VerdictText as spec;
 
@@ -35,15 +35,15 @@ impl Text for Letters {
 /// How many letters a schedule had at most, and how many processes could crash, behind what is said
 /// of them.
 #[derive(Clone, Copy)]
-pub struct Bounds {
+pub struct UpTo {
     /// The number of letters.
     pub length: u64,
     /// The number of processes.
     pub crashes: u64,
 }
 
-impl Text for Bounds {
-    ghost text = { λ b. spec.bounds_text b.length b.crashes };
+impl Text for UpTo {
+    ghost text = { λ b. spec.up_to_text b.length b.crashes };
 
     fn put<W: Write>(&self, out: &mut W, block: &mut Block) -> Result<(), WriteFault> {
         let length = Letters(self.length);

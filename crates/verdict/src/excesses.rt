@@ -3,7 +3,7 @@
 ghost use Rattle.std.specs.Prelude.{◌≡◌, ◌<◌, ◌≤◌, IfSome, length};
 ghost use Rattle.verdict.specs.Excesses as spec;
 
-use patterns::{Pattern, Standing};
+use patterns::{Pattern, StandingPattern};
 use regmodel::End;
 
 /// The place of the first of these patterns in which more processes have crashed than may crash,
@@ -18,7 +18,7 @@ pub(crate) fn first_excess(patterns: &[Pattern], crashes: u32) -> Option<usize>
 }
 
 /// How many of these processes have crashed.
-fn crashed_in(standings: &[Standing]) -> u32
+fn crashed_in(standings: &[StandingPattern]) -> u32
     requires { length standings.now ≤ 8 }
     ensures value { result ≡ spec.crashed_in standings.now }
     ensures few { result ≤ length standings.now }
@@ -33,11 +33,11 @@ fn crashed_in(standings: &[Standing]) -> u32
 }
 
 /// Whether a process that stands so has crashed.
-fn has_crashed(standing: &Standing) -> bool
+fn has_crashed(standing: &StandingPattern) -> bool
     ensures { result ≡ spec.has_crashed standing.now }
 {
     match standing {
-        Standing::Just(end) => matches!(end.fate, End::Crashed),
-        Standing::Any | Standing::Done => false,
+        StandingPattern::Just(end) => matches!(end.fate, End::Crashed),
+        StandingPattern::Any | StandingPattern::Done => false,
     }
 }

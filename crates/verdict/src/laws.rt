@@ -3,7 +3,7 @@
 ghost use Rattle.std.specs.Prelude.{◌≡◌, ℕ, false, true, List, map, None, Some};
 ghost use Rattle.regmodel.specs.Prelude.{act_of, Schedule, outcome_of, Program, Replies, first_refused};
 ghost use Rattle.patterns.specs.Matching.{matches, matches_none};
-ghost use Rattle.patterns.specs.declared.standings.Standing.{Standing};
+ghost use Rattle.patterns.specs.declared.patterns.StandingPattern.{StandingPattern};
 ghost use Rattle.verdict.specs.Emissions.{EmitsAtMost, most_emitted};
 ghost use Rattle.verdict.specs.Shortfalls.{are_in_vain, shortfall_in};
 ghost use Rattle.verdict.specs.declared.shortfalls.Shortfall.{Shortfall};
@@ -17,7 +17,7 @@ pub fn a_process_emits_no_more_than_the_most()
 
 /// Where each pattern asks for more numbers than a process emits, no schedule leads to any of them.
 pub fn no_schedule_leads_in_vain()
-    ensures { (programs : List Program) (patterns : List (List Standing))
+    ensures { (programs : List Program) (patterns : List (List StandingPattern))
         (schedules : List Schedule)
         → are_in_vain (map most_emitted programs) patterns ≡ true
         → first_refused programs (matches_none patterns) schedules ≡ None }
@@ -25,7 +25,7 @@ pub fn no_schedule_leads_in_vain()
 
 /// No schedule leads to a pattern that asks for more numbers than a process emits.
 pub fn no_outcome_matches_a_shortfall()
-    ensures { (programs : List Program) (w : Schedule) (number : ℕ) (pattern : List Standing)
+    ensures { (programs : List Program) (w : Schedule) (number : ℕ) (pattern : List StandingPattern)
         (found : Shortfall)
         → shortfall_in number 0 (map most_emitted programs) pattern ≡ Some found
         → matches pattern (outcome_of programs w) ≡ false }

@@ -2,7 +2,6 @@
 //! how much was tried.
 #![tactic(auto)]
 
-mod breaches;
 mod counts;
 mod demands;
 mod emissions;
@@ -21,10 +20,10 @@ mod show_commands;
 mod single_repeats;
 mod topics;
 mod verdict_text;
-mod way_text;
-mod ways;
+mod verdicts;
+mod witness_text;
+mod witnesses;
 
-pub use breaches::{Breach, Cause, Cut, Held, Verdict, breach_for, verdict_on};
 pub use demands::{Asked, Demands, Strictness, without_ended};
 pub use emissions::emissions_of;
 pub use faults::{FaultLine, ProcessFault, first_fault};
@@ -33,5 +32,6 @@ pub use listings::write_listing;
 pub use shortfalls::{Shortfall, found_in_vain};
 pub use topics::Topic;
 pub use verdict_text::write_verdict;
-pub use way_text::write_discovery;
-pub use ways::{Discovery, Way, discovery_on};
+pub use verdicts::{Breach, Cause, Cut, Unbroken, Verdict, breach_for, verdict_on};
+pub use witness_text::write_discovery;
+pub use witnesses::{Discovery, Witness, discovery_on};

@@ -5,9 +5,9 @@ ghost use Rattle.texts.specs.Appending.{Wrote};
 ghost use Rattle.verdict.specs.Listings as spec;
 ghost use Rattle.verdict.specs.Listings.{listed_text};
 
-use crate::breaches::Verdict;
 use crate::topics::Topic;
-use crate::verdict_text::Told;
+use crate::verdict_text::Judged;
+use crate::verdicts::Verdict;
 use report::{CodedLines, Exploration};
 use std::io::Write;
 use texts::{Block, NumberLine, Text, WriteFault, write};
@@ -40,7 +40,7 @@ pub fn write_listing<W: Write>(
         topic.entry.breadth is_shortest verdict.now (option_map (λ e. e.now) explored.entry))
         result }
 {
-    let told = Told {
+    let told = Judged {
         topic,
         verdict,
         is_shortest,

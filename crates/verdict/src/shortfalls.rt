@@ -9,7 +9,7 @@ ghost use Rattle.verdict.specs.Emissions.{most_emitted};
 ghost use Rattle.verdict.specs.Shortfalls as spec;
 
 use crate::laws::no_schedule_leads_in_vain;
-use patterns::{Pattern, Standing};
+use patterns::{Pattern, StandingPattern};
 use reglang::Source;
 use regmodel::{End, Settings};
 use report::Least;
@@ -82,7 +82,7 @@ fn shortfall_in(
     pattern: u64,
     process: u64,
     most: &[usize],
-    standings: &[Standing],
+    standings: &[StandingPattern],
 ) -> Option<Shortfall>
     requires few { process + length most.now ≤ MOST_PROCESSES }
     ensures { result ≡ spec.shortfall_in pattern process most.now standings.now }
@@ -102,10 +102,10 @@ fn shortfall_in(
 }
 
 /// How many numbers a process has that stands so.
-fn asked_by(standing: &Standing) -> usize
+fn asked_by(standing: &StandingPattern) -> usize
     ensures { result ≡ spec.asked_by standing.now }
 {
-    let Standing::Just(end) = standing else {
+    let StandingPattern::Just(end) = standing else {
         return 0;
     };
     match &end.fate {

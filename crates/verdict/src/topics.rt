@@ -1,4 +1,4 @@
-//! Of what is told.
+//! Of what is told: how the program was called, the file, its text, and how broad a drawing may be.
 
 use drawing::Breadth;
 

@@ -5,8 +5,7 @@ ghost use Rattle.texts.specs.Appending.{Wrote};
 ghost use Rattle.verdict.specs.VerdictText as spec;
 ghost use Rattle.verdict.specs.VerdictText.{verdict_text};
 
-use crate::breaches::{Breach, Cause, Cut, Verdict};
-use crate::counts::{Bounds, Counted, Letters};
+use crate::counts::{Counted, Letters, UpTo};
 use crate::demands::Asked;
 use crate::faults::{FaultLine, FaultTold};
 use crate::gaps::Gap;
@@ -15,6 +14,7 @@ use crate::reach::{Reach, reach_of};
 use crate::show_commands::ShowCommand;
 use crate::single_repeats::SingleRepeat;
 use crate::topics::Topic;
+use crate::verdicts::{Breach, Cause, Cut, Verdict};
 use drawing::Drawn;
 use regmodel::Subject;
 use regmodel::limits::MOST_LETTERS;
@@ -37,7 +37,7 @@ pub fn write_verdict<W: Write>(
         (verdict_text topic.entry.program.now topic.entry.path.now topic.entry.text.now
         topic.entry.breadth is_shortest verdict.now) result }
 {
-    let told = Told {
+    let told = Judged {
         topic,
         verdict,
         is_shortest,
@@ -47,13 +47,13 @@ pub fn write_verdict<W: Write>(
 
 /// Whether a source holds, as it is told of the file of a path.
 #[derive(Clone, Copy)]
-pub(crate) struct Told<'a> {
+pub(crate) struct Judged<'a> {
     pub(crate) topic: Topic<'a>,
     pub(crate) verdict: &'a Verdict,
     pub(crate) is_shortest: bool,
 }
 
-impl Text for Told<'_> {
+impl Text for Judged<'_> {
     ghost text = { λ t. spec.verdict_text t.topic.program.now t.topic.path.now t.topic.text.now
         t.topic.breadth t.is_shortest t.verdict.now };
 
@@ -78,7 +78,7 @@ impl Text for Told<'_> {
                     text,
                     gaps: held.gaps.as_slice(),
                 };
-                let holding = Holding { path, reach };
+                let holding = HoldingText { path, reach };
                 let repeat = SingleRepeat(text);
                 let caution = When(reach.cut_off, CutOff(reach.length));
                 (holding, held.asked, gaps, repeat, caution).put(out, block)
@@ -258,12 +258,12 @@ fn wanting(want: Subject) -> &'static str
 
 /// That no schedule fails, and how much was tried.
 #[derive(Clone, Copy)]
-struct Holding<'a> {
+struct HoldingText<'a> {
     path: &'a [u8],
     reach: Reach,
 }
 
-impl Text for Holding<'_> {
+impl Text for HoldingText<'_> {
     ghost text = { λ h. spec.holding_text h.path.now h.reach };
 
     fn put<W: Write>(&self, out: &mut W, block: &mut Block) -> Result<(), WriteFault> {
@@ -271,7 +271,7 @@ impl Text for Holding<'_> {
         let tried = Counted(reach.tried, "schedule", "s");
         let outcomes = Counted(reach.outcomes, "outcome", "s");
         let tried = (tried, " tried, ", outcomes);
-        let bounds = Bounds {
+        let bounds = UpTo {
             length: reach.length,
             crashes: reach.crashes,
         };

@@ -1,6 +1,6 @@
 //! The texts of parts of an exploration, read from a stream.
 
-use part_texts::{BadPart, Cause, Found, PartReport, PartStream};
+use part_texts::{BadPart, PartCause, PartFound, PartReport, PartStream};
 use std::alloc::Global;
 use std::io::{self, BufReader, ErrorKind, Read};
 use std::test::Fail;
@@ -61,7 +61,7 @@ fn a_part_tells_what_stood_there(rt: HostRuntime) -> Result<(), Fail> {
     assert!(rt; (part.number(), part.count(), head.processes()) == (3, 16, 2));
     assert!(rt; (settings.length(), settings.crashes(), settings.cut()) == (20, 0, 4));
     assert!(rt; head.source() == b"empty\n".as_slice());
-    let Found::Explored(found) = &report.found else {
+    let PartFound::Explored(found) = &report.found else {
         return Err(Fail::from("the least alone was read"));
     };
     assert!(rt; (found.tried(), found.outcomes().len(), found.least()) == (123, 2, None));
@@ -89,7 +89,7 @@ fn a_reader_that_fails_is_told_as_such(rt: HostRuntime) -> Result<(), Fail> {
         let text = &EXPLORED[..end];
         let reader = BufReader::new(rt.alloc(), Failing { text })?;
         let bad = PartStream::new(reader).next_part(rt.alloc()).err();
-        let cause = Cause::Unreadable;
+        let cause = PartCause::Unreadable;
         assert!(rt; bad == Some(BadPart { line, cause }));
     }
     Ok(())

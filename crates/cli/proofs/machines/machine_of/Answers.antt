@@ -1,6 +1,6 @@
 use Rattle.std.proofs.Common.{◌≡◌, Some, ap, sym, ◌∙◌, subst, IfSome, false}
 use Rattle.std.proofs.lemmas.Option.{slice_get-map}
-use Rattle.machine.specs.Standings.{resumed_by}
+use Rattle.machine.specs.StateNumbers.{resumed_by}
 use Rattle.reglang.specs.Contents.{IsText, Kind, program_over}
 use Rattle.reglang.specs.Sources.{IsUseOf, body_at, contents_of}
 use Rattle.uses.specs.declared.kinds.Use.{Use}

@@ -15,5 +15,5 @@ returns-clause-found g c =
       sought = rw told at c.discovery_on-discovery.ensures.sought;
       excess = rw told at c.discovery_on-discovery.ensures.excess;
       shortfall = rw (told, c.as_slice-most.ensures.value, c.in_ok-most.ensures) at c.discovery_on-discovery.ensures.shortfall;
-      way = rw c.discovery_on-discovery.ensures.least (rw told at c.discovery_on-discovery.ensures.way);
+      witness = rw c.discovery_on-discovery.ensures.least (rw told at c.discovery_on-discovery.ensures.witness);
     })

@@ -1,5 +1,5 @@
 use Rattle.std.proofs.Common.{◌≡◌, length}
-use Rattle.drawing.specs.Names.{first_name}
+use Rattle.drawing.specs.RegisterNames.{first_name}
 use Rattle.reglang.specs.Lines.{lines}
 use Rattle.drawing.proofs.names.first_name.Given as goal
 

@@ -4,7 +4,7 @@ use Rattle.regmodel.specs.Prelude.{exec, times, with_stmt, block_of}
 use Rattle.regmodel.specs.declared.accesses.Access.TheVariants.{Read}
 use Rattle.regmodel.proofs.Blocks.{if_block, repeat_block}
 use Rattle.machine.specs.declared.run.Frame.{Frame}
-use Rattle.machine.specs.declared.run.Part.TheVariants.{At, Turn}
+use Rattle.machine.specs.declared.run.StmtPart.TheVariants.{At, Turn}
 use Rattle.machine.specs.declared.values.Destination.TheVariants.{Nowhere}
 use Rattle.machine.specs.Stores.{env_of}
 use Rattle.machine.specs.Paths.{resume}

@@ -2,7 +2,7 @@ use Rattle.std.proofs.Common.{◌+◌, ◌-◌, [], drop, Ok, refl, ap, sym, sub
 use Rattle.std.proofs.lemmas.Result.{err_from_is_err_and}
 use Rattle.regmodel.specs.Prelude.{exec, times, then_do, with_stmt, block_of}
 use Rattle.regmodel.specs.Program as program
-use Rattle.machine.specs.declared.run.Part.TheVariants.{Turn}
+use Rattle.machine.specs.declared.run.StmtPart.TheVariants.{Turn}
 use Rattle.machine.specs.Paths.{resume}
 use Rattle.machine.specs.Stores.{env_of}
 use Rattle.machine.specs.Exits.{stmt_flow, StmtAsks, block_flow, BlockAsks}

@@ -4,7 +4,7 @@ use Rattle.std.proofs.lemmas.Option.{IfSome_then}
 use Rattle.std.proofs.lemmas.List.{length-set, length-take-le, take_all, take_more_set}
 use Rattle.told.specs.Bytes.{size_of}
 use Rattle.told.specs.Numbers.{numbers_in}
-use Rattle.told.specs.declared.limits.TheConstants.{MOST_BYTES}
+use Rattle.told.specs.declared.numbers.TheConstants.{MOST_BYTES}
 use Rattle.machine.specs.Sparse.{mask_of, sparse}
 use Rattle.machine.proofs.SparseValues.{filled-past-other, filled-past-zero, filled-past-zeros, mask-past-other, mask-past-zero, mask-past-zeros, mask_small, pow_four}
 use Rattle.machine.proofs.sparse.put_sparse.Goals as goal

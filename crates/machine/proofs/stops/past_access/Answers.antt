@@ -2,7 +2,7 @@ use Rattle.std.proofs.Common.{[], Some, ap, sym, ◌∙◌}
 use Rattle.std.specs.Prelude.{map}
 use Rattle.regmodel.specs.Kept.{values_in}
 use Rattle.regmodel.specs.Program.{Stop, Do}
-use Rattle.machine.specs.declared.run.Part.TheVariants.{At}
+use Rattle.machine.specs.declared.run.StmtPart.TheVariants.{At}
 use Rattle.machine.specs.Paths.{part_flow, resume}
 use Rattle.machine.specs.Stops.{past}
 use Rattle.machine.specs.Stores.{env_of, reply_stored}

@@ -1,5 +1,5 @@
 use Rattle.std.proofs.Common.{inl, refl, sym, true≢false}
-use Rattle.regmodel.specs.Settings.{bounds_of}
+use Rattle.regmodel.specs.Settings.{settings_of}
 use Rattle.orders.proofs.orders.exploration_of.Goals as goal
 
 pub returns-in-Err-clause-err : goal.returns-in-Err-clause-err
@@ -7,7 +7,7 @@ returns-in-Err-clause-err c = record {
   number = c.in-Err.fault.code;
   told_is = refl;
   why = inl (record {
-    settings = bounds_of c.number_of.result c.number_of-2.result c.number_of-3.result c.number_of-4.result c.number_of-5.result;
+    settings = settings_of c.number_of.result c.number_of-2.result c.number_of-3.result c.number_of-4.result c.number_of-5.result;
     told_are = record {
       length = c.number_of.ensures;
       crashes = c.number_of-2.ensures;

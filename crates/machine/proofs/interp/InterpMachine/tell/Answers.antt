@@ -2,7 +2,7 @@ use Rattle.std.proofs.Common.{subst, sym, ◌∙◌}
 use Rattle.regmodel.specs.Prelude.{program_of}
 use Rattle.told.specs.Numbers.{numbers_in}
 use Rattle.machine.specs.Rest.{rest_in}
-use Rattle.machine.specs.Standings.{resumed_by}
+use Rattle.machine.specs.StateNumbers.{resumed_by}
 use Rattle.machine.specs.Telling.{Tells}
 use Rattle.machine.proofs.KeptStates.{kept_at-index}
 use Rattle.machine.proofs.StandingNumbers.{where_some}

@@ -3,9 +3,9 @@ use Rattle.regmodel.specs.declared.accesses.Pending.{Pending}
 use Rattle.regmodel.specs.Prelude.{Replies}
 use Rattle.regmodel.specs.Reply.{one}
 use Rattle.natives.specs.declared.grid.Grid.{Grid}
-use Rattle.natives.specs.declared.grid.Stage.TheVariants.{At}
-use Rattle.natives.specs.declared.splitters.Step.{Step}
-use Rattle.natives.specs.declared.splitters.Step.TheVariants.{Marks, Tries, Closes, Looks}
+use Rattle.natives.specs.declared.grid.GridStage.TheVariants.{At}
+use Rattle.natives.specs.declared.splitters.SplitterStep.{SplitterStep}
+use Rattle.natives.specs.declared.splitters.SplitterStep.TheVariants.{Marks, Tries, Closes, Looks}
 use Rattle.natives.specs.Grids.{grid_from, grid_rest}
 use Rattle.natives.specs.Splitters.{since_first}
 use Rattle.natives.proofs.GridVisits.{IsVertex, vertex_there, from-open, from-right, from-down, from-marks, from-stops, from-closes}
@@ -25,7 +25,7 @@ module _ (m : Grid) where
   from = grid_from m.base m.id m.registers (m.side - m.level) m.level m.vertex
 
   -- at a known step
-  at_step : (known : Step) {step : Step} (s : Replies) → m.stage ≡ At step → step ≡ known → grid_rest from m.vertex m.stage s ≡ from (since_first known s)
+  at_step : (known : SplitterStep) {step : SplitterStep} (s : Replies) → m.stage ≡ At step → step ≡ known → grid_rest from m.vertex m.stage s ≡ from (since_first known s)
   at_step known s e f = ap (λ x. grid_rest from m.vertex x s) e ∙ ap (λ x. from (since_first x s)) f
 
 pub returns-in-Marks-clause-goes_on : goal.returns-in-Marks-clause-goes_on

@@ -2,14 +2,14 @@ use Rattle.std.proofs.Common.{◌≡◌, ◌-◌, refl, sym, ◌∙◌}
 use Rattle.regmodel.specs.Prelude.{Replies}
 use Rattle.machine.proofs.StandingNumbers.{where_some}
 use Rattle.natives.specs.declared.grid.Grid.{Grid}
-use Rattle.natives.specs.declared.grid.Stage.{Stage}
-use Rattle.natives.specs.declared.grid.Stage.TheVariants.{At, Stopped, Over}
-use Rattle.natives.specs.declared.splitters.Step.TheVariants.{Marks, Tries, Closes, Looks}
+use Rattle.natives.specs.declared.grid.GridStage.{GridStage}
+use Rattle.natives.specs.declared.grid.GridStage.TheVariants.{At, Stopped, Over}
+use Rattle.natives.specs.declared.splitters.SplitterStep.TheVariants.{Marks, Tries, Closes, Looks}
 use Rattle.natives.specs.Grids.{grid_from, grid_numbers, grid_rest, grid_resumed}
 use Rattle.natives.proofs.grid.GridMachine.tell.Goals as goal
 
 -- from the numbers of a stage follows what comes of it
-stage-told : (m : Grid) (stage : Stage) (s : Replies) → grid_rest (grid_from m.base m.id m.registers (m.side - m.level) m.level m.vertex) m.vertex stage s ≡ grid_resumed m.base m.side m.id m.registers (grid_numbers m.level m.vertex stage) s
+stage-told : (m : Grid) (stage : GridStage) (s : Replies) → grid_rest (grid_from m.base m.id m.registers (m.side - m.level) m.level m.vertex) m.vertex stage s ≡ grid_resumed m.base m.side m.id m.registers (grid_numbers m.level m.vertex stage) s
 stage-told m (At Marks) s = refl
 stage-told m (At Tries) s = refl
 stage-told m (At Closes) s = refl

@@ -1,5 +1,5 @@
 use Rattle.std.proofs.Common.{ap, sym, ◌∙◌}
-use Rattle.natives.specs.declared.trees.Stage.TheVariants.{At}
+use Rattle.natives.specs.declared.trees.TreeStage.TheVariants.{At}
 use Rattle.natives.proofs.TreeStages.{opens, goes_right, goes_down, stops, leaves, unmarked}
 use Rattle.natives.proofs.trees.TreeMachine.feed.Goals as goal
 

@@ -1,4 +1,0 @@
-use Rattle.verdict.proofs.way_text.LeadsText.put.Goals as goal
-
-pub returns : goal.returns
-returns g c = rw c.letters.ensures.value at c.put.ensures
