@@ -8,6 +8,9 @@ from places import TOP, crates, root_of, rows, shown
 TYPE = re.compile(r"^pub (?:struct|enum|trait|type|const) (\w+)", re.MULTILINE)
 HEAD = re.compile(r"- (`[^`]+`(?:,\s+`[^`]+`)*):\s")
 
+# The floor whose files docs/TESTED.md tells of.
+TESTS = "tests"
+
 # How long the README of a crate may be, and each of its lines.
 MOST_README_LINES = 60
 MOST_COLUMNS = 110
@@ -32,7 +35,7 @@ def public_items(crate):
 
 def misnamed(crate, page):
     """What the README of a crate says of items that it does not have, and where it says something of none."""
-    items, files, told = public_items(crate), root_of(crate).parent, False
+    items, told = public_items(crate), False
     text = page.read_text()
     for item in re.finditer(r"^- ", text, re.MULTILINE):
         head = HEAD.match(text, item.start())
@@ -42,13 +45,27 @@ def misnamed(crate, page):
             continue
         owner = ""
         for name in re.findall(r"`([^`]+)`", head[1]):
-            is_file = name.endswith(".rt")
-            if not ((files / name).exists() if is_file else items & {name, f"{owner}::{name}"}):
-                yield f"{shown(page)}: `{name}` is no {'file' if is_file else 'public item'} of {crate}"
+            if name.endswith(".rt"):
+                continue
+            if not items & {name, f"{owner}::{name}"}:
+                yield f"{shown(page)}: `{name}` is no public item of {crate}"
             owner = name.rpartition("::")[0] or owner
-            told = told or not is_file
+            told = True
     if items and not told and root_of(crate).name == "lib.rt":
         yield f"{shown(page)}: says nothing of any public item of {crate}"
+
+
+def misfiled(crate, page):
+    """Where the README of a crate names a file that the crate does not have, or has no words for one that it has.
+    `part/*.rt` stands for each file of a folder."""
+    root, text = root_of(crate), page.read_text()
+    sources = [*root.parent.rglob("*.rt")]
+    for name in sorted(set(re.findall(r"`([^`\s]+\.rt)`", text))):
+        if not any(root.parent.glob(name)):
+            yield f"{shown(page)}: `{name}` is no file of {crate}"
+    told = {file for name in re.findall(r"`([^`\s]+\.rt)`:\s", text) for file in root.parent.glob(name)}
+    for source in sorted({*sources} - told - {root}):
+        yield f"{shown(page)}: has no words for `{source.relative_to(root.parent)}`"
 
 
 def overlong(page):
@@ -79,3 +96,5 @@ def unfit():
             yield f"{shown(page)}: shows a block, which no test runs"
         yield from overlong(page)
         yield from misnamed(crate, page)
+        if floor != TESTS:
+            yield from misfiled(crate, page)
