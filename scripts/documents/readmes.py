@@ -56,8 +56,8 @@ def misnamed(crate, page):
 
 
 def misfiled(crate, page):
-    """Where the README of a crate names a file that the crate does not have, or has no words for one that it has.
-    `part/*.rt` stands for each file of a folder."""
+    """Where the README of a crate names a file that is not there, or has no words of its own for one that is:
+    `file.rt` and a colon. `part/*.rt` stands for each file of a folder."""
     root, text = root_of(crate), page.read_text()
     sources = [*root.parent.rglob("*.rt")]
     for name in sorted(set(re.findall(r"`([^`\s]+\.rt)`", text))):
