@@ -51,7 +51,8 @@ impl Looker {
     /// The looker of a program, at its start; None where the program is another one, or reads a
     /// register that is not there.
     pub fn of(prog: &Prog) -> Option<Looker>
-        ensures some { IfSome result (λ m. ⟦<Looker as Machine>⟧.program m ≡ program_of prog.now) }
+        ensures some { IfSome result
+            (λ m. (⟦<Looker as Machine>⟧.means m).program ≡ program_of prog.now) }
         ensures none { IfNone result (IsNoLooker (program_of prog.now)) }
     {
         let registers = prog.registers();
@@ -71,13 +72,13 @@ impl Looker {
 }
 
 impl Machine for Looker {
+    ghost use Rattle.machine.specs.Meaning.{untold};
     ghost use Rattle.calling.specs.Lookers.{looking, looker_rest};
 
-    /// What it runs: a program of the language, as a value.
-    ghost program = { λ m. looking m.registers m.register };
-
-    /// What is pending after further replies, by where it stands.
-    ghost rest = { λ m. looker_rest (looking m.registers m.register) m.stage };
+    /// What it runs, a program of the language, as a value; and what is pending after further
+    /// replies, by where it stands. It never tells where that is.
+    ghost means = { λ m. untold (looking m.registers m.register)
+        (looker_rest (looking m.registers m.register) m.stage) };
 
     fn reset(&mut self) {
         self.stage = Stage::Looks;

@@ -19,9 +19,10 @@ pub enum Player {
 }
 
 impl Machine for Player {
-    ghost program = { λ m. elim m [ player.Text i ↦ ⟦<Interp as Machine>⟧.program i | player.Looker i ↦ ⟦<Looker as Machine>⟧.program i ] };
-
-    ghost rest = { λ m. elim m [ player.Text i ↦ ⟦<Interp as Machine>⟧.rest i | player.Looker i ↦ ⟦<Looker as Machine>⟧.rest i ] };
+    ghost means = { λ m. elim m [
+      | player.Text i ↦ ⟦<Interp as Machine>⟧.means i
+      | player.Looker i ↦ ⟦<Looker as Machine>⟧.means i
+    ] };
 
     fn reset(&mut self) {
         match self {
@@ -56,7 +57,8 @@ impl Machine for Player {
 pub fn player_of(alloc: Global, source: &Source, p: usize) -> Result<Player, OutOfMemory>
     requires { p < length (source_programs source.now) }
     ensures { IfOk result
-        (λ m. slice_get (source_programs source.now) p ≡ Some (⟦<Player as Machine>⟧.program m)) }
+        (λ m. slice_get (source_programs source.now) p
+        ≡ Some (⟦<Player as Machine>⟧.means m).program) }
 {
     let prog = source.prog(alloc, p)?;
     match Looker::of(&prog) {

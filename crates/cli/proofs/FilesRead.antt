@@ -9,7 +9,7 @@ use Rattle.merging.specs.declared.mergers.Merger.{Merger}
 use Rattle.orders.specs.Inputs.{IsNoFile}
 use Rattle.orders.specs.Statuses as orders
 use Rattle.orders.specs.declared.refusals.Refusal.{Refusal}
-use Rattle.orders.specs.declared.refusals.Refusal.TheVariants.{Words, Setting, OptionBound, Registers, Schedule, Pattern, PatternLine, TwiceStandard, File, LongFile, Memory}
+use Rattle.orders.specs.declared.refusals.Refusal.TheVariants.{Words, Setting, Bound, Registers, Schedule, Pattern, PatternLine, TwiceStandard, File, LongFile, Memory}
 use Rattle.cli.specs.Merges.{AreAllRead, IsFileRead, IsMergePerformed, IsNotRead, IsTextAt, IsUnreadFor, Texts}
 use Rattle.cli.specs.Statuses.{merge_status, status_of}
 use Rattle.cli.specs.declared.faults.AnswerFault.{AnswerFault}
@@ -61,7 +61,7 @@ module _ {R : Type 0} (opens : List ℕ → Option R → Type 0) (remaining : R 
     no_file_status (File why) h = refl
     no_file_status Words h = absurd h
     no_file_status (Setting code) h = absurd h
-    no_file_status (OptionBound bound) h = absurd h
+    no_file_status (Bound bound) h = absurd h
     no_file_status Registers h = absurd h
     no_file_status Schedule h = absurd h
     no_file_status (Pattern place standing) h = absurd h

@@ -7,7 +7,6 @@ mod CutVerdicts
 mod FilesRead
 mod InterpretedProcesses
 mod LengthsTried
-mod MachinesOfKinds
 mod MadeMachines
 mod ShortestFound
 mod SearchesFound

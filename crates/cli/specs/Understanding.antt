@@ -2,9 +2,9 @@
 use Rattle.std.specs.Prelude.{◌≡◌, ℕ, Bool, true, false, All, List, Vec, map}
 use Rattle.std.specs.declared.alloc.Global.{Global}
 use Rattle.regmodel.specs.declared.accesses.Pending.{Pending}
-use Rattle.regmodel.specs.Program.{Program}
 use Rattle.regmodel.specs.Reply.{Replies}
 use Rattle.machine.specs.StateNumbers.{resumed_by}
+use Rattle.machine.specs.Meaning.{Meaning, all_resumed}
 use Rattle.natives.specs.Resuming.{native_resumed}
 use Rattle.reglang.specs.Contents.{Body, Contents, Kind, Text, program_over}
 use Rattle.reglang.specs.Sources.{contents_of, source_programs}
@@ -27,7 +27,7 @@ abbrev pub resumed_of_all : Source → Bool → List (List ℕ → Replies → P
 resumed_of_all source native = resumed_in (contents_of source) native
 
 -- so many lists, each of machines of the processes of a source, which are understood so
-pub record AreMade {B : Type 0} (program : B → Program) (resumed : B → List ℕ → Replies → Pending)
-    (source : Source) (native : Bool) (n : ℕ) (lists : List (Vec B Global)) : Type 0 where
-  pub machines : AreListsOf program (source_programs source) n lists
-  pub understood : All (λ list. map resumed list.items ≡ resumed_of_all source native) lists
+pub record AreMade {B : Type 0} (means : B → Meaning) (source : Source) (native : Bool) (n : ℕ)
+    (lists : List (Vec B Global)) : Type 0 where
+  pub machines : AreListsOf means (source_programs source) n lists
+  pub understood : All (λ list. all_resumed means list.items ≡ resumed_of_all source native) lists

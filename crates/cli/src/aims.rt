@@ -1,6 +1,7 @@
 //! What the machines of a source are made for, and what is found with them.
 
-ghost use Rattle.std.specs.Prelude.{◌≡◌, IfErr, IfOk, map};
+ghost use Rattle.std.specs.Prelude.{◌≡◌, IfErr, IfOk};
+ghost use Rattle.machine.specs.Meaning.{all_programs};
 ghost use Rattle.reglang.specs.Sources.{source_programs};
 ghost use Rattle.orders.specs.declared.tasks.Task.TheVariants as asked;
 ghost use Rattle.orders.specs.Orders.{lists_of};
@@ -93,7 +94,7 @@ fn found_by<H: Threads + Wait + Sync, G: Gate>(
     task: &Task,
     mut lists: Vec<Vec<Box<dyn Machine + Send>>>,
 ) -> Result<Finding, AnswerFault>
-    requires { AreMade program resumed run.now.spelling.source.now run.now.native
+    requires { AreMade means run.now.spelling.source.now run.now.native
         (lists_of task.now) lists.items }
     ensures found { IfOk result (IsFirstFoundBy task.now run.now.spelling.text.now) }
     ensures refused { IfErr result (IsRefusedBy task.now run.now.spelling.text.now) }
@@ -140,7 +141,7 @@ fn shown<H, G>(
     own: Vec<Box<dyn Machine + Send>>,
     schedule: &Prefix,
 ) -> Result<Finding, AnswerFault>
-    requires { map program own.items ≡ source_programs run.now.spelling.source.now }
+    requires { all_programs means own.items ≡ source_programs run.now.spelling.source.now }
     ensures { Finds (asked.Show schedule.now) run.now.spelling.text.now result }
 {
     run.spelling.spells();

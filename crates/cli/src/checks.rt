@@ -28,7 +28,7 @@ pub fn checked<H: Threads + Wait + Sync, G: Gate>(
     shortest: bool,
     mut lists: Vec<Vec<Box<dyn Machine + Send>>>,
 ) -> Result<Finding, AnswerFault>
-    requires { AreMade program resumed run.now.spelling.source.now run.now.native
+    requires { AreMade means run.now.spelling.source.now run.now.native
         (effort.settings.workers + 1) lists.items }
     ensures found { IfOk result (λ finding. (native lists : Bool)
         → IsFirstFoundBy (asked.Check effort native allows_faults shortest lists)
@@ -65,7 +65,7 @@ pub fn failing<H: Threads + Wait + Sync, G: Gate>(
     allows_faults: bool,
     mut lists: Vec<Vec<Box<dyn Machine + Send>>>,
 ) -> Result<Option<Finding>, AnswerFault>
-    requires { AreMade program resumed run.now.spelling.source.now run.now.native
+    requires { AreMade means run.now.spelling.source.now run.now.native
         (effort.settings.workers + 1) lists.items }
     ensures found { IfOk result
         (IsSought (quest.Failing allows_faults) effort run.now.spelling.text.now) }

@@ -50,7 +50,7 @@ pub fn cut_off<H: Threads + Wait + Sync, G: Gate>(
     effort: Effort,
     lists: Vec<Vec<Box<dyn Machine + Send>>>,
 ) -> Result<Option<Finding>, AnswerFault>
-    requires { AreMade program resumed run.now.spelling.source.now run.now.native
+    requires { AreMade means run.now.spelling.source.now run.now.native
         effort.settings.workers lists.items }
     ensures found { IfOk result (IsCutOffFound effort run.now.spelling.text.now) }
     ensures refused { IfErr result (λ fault. (quest : Quest)

@@ -51,7 +51,7 @@ pub fn explored<H: Threads + Wait + Sync, G: Gate>(
     least_alone: bool,
     lists: Vec<Vec<Box<dyn Machine + Send>>>,
 ) -> Result<Finding, AnswerFault>
-    requires { AreMade program resumed run.now.spelling.source.now run.now.native
+    requires { AreMade means run.now.spelling.source.now run.now.native
         effort.settings.workers lists.items }
     ensures { (native : Bool)
         → Finds (asked.Explore effort native part least_alone) run.now.spelling.text.now result }

@@ -28,11 +28,14 @@ pub enum ProcessMachine {
 }
 
 impl Machine for ProcessMachine {
-    ghost program = { λ m. elim m [ process.Text i ↦ ⟦<Interp as Machine>⟧.program i | process.Split i ↦ ⟦<Split as Machine>⟧.program i | process.Grid i ↦ ⟦<Grid as Machine>⟧.program i | process.Tree i ↦ ⟦<Tree as Machine>⟧.program i | process.Name i ↦ ⟦<NameSlots as Machine>⟧.program i | process.Names i ↦ ⟦<Names as Machine>⟧.program i ] };
-
-    ghost rest = { λ m. elim m [ process.Text i ↦ ⟦<Interp as Machine>⟧.rest i | process.Split i ↦ ⟦<Split as Machine>⟧.rest i | process.Grid i ↦ ⟦<Grid as Machine>⟧.rest i | process.Tree i ↦ ⟦<Tree as Machine>⟧.rest i | process.Name i ↦ ⟦<NameSlots as Machine>⟧.rest i | process.Names i ↦ ⟦<Names as Machine>⟧.rest i ] };
-
-    ghost resumed = { λ m. elim m [ process.Text i ↦ ⟦<Interp as Machine>⟧.resumed i | process.Split i ↦ ⟦<Split as Machine>⟧.resumed i | process.Grid i ↦ ⟦<Grid as Machine>⟧.resumed i | process.Tree i ↦ ⟦<Tree as Machine>⟧.resumed i | process.Name i ↦ ⟦<NameSlots as Machine>⟧.resumed i | process.Names i ↦ ⟦<Names as Machine>⟧.resumed i ] };
+    ghost means = { λ m. elim m [
+      | process.Text i ↦ ⟦<Interp as Machine>⟧.means i
+      | process.Split i ↦ ⟦<Split as Machine>⟧.means i
+      | process.Grid i ↦ ⟦<Grid as Machine>⟧.means i
+      | process.Tree i ↦ ⟦<Tree as Machine>⟧.means i
+      | process.Name i ↦ ⟦<NameSlots as Machine>⟧.means i
+      | process.Names i ↦ ⟦<Names as Machine>⟧.means i
+    ] };
 
     fn reset(&mut self) {
         match self {
@@ -148,10 +151,10 @@ pub fn machine_of(
     requires { p < length (source_programs source.now) }
     ensures program { IfOk result
         (λ m. slice_get (source_programs source.now) p
-        ≡ Some (⟦<ProcessMachine as Machine>⟧.program m)) }
+        ≡ Some (⟦<ProcessMachine as Machine>⟧.means m).program) }
     ensures understood { IfOk result
         (λ m. slice_get (resumed_of_all source.now native) p
-        ≡ Some (⟦<ProcessMachine as Machine>⟧.resumed m)) }
+        ≡ Some (⟦<ProcessMachine as Machine>⟧.means m).resumed) }
 {
     match source.use_of(p) {
         Some(kind) if native => native_of(kind, source.registers()).map_err(|_| OutOfMemory),
@@ -166,9 +169,9 @@ pub fn machine_of(
 /// The native machine of a use line. An error where a limit of the line is passed.
 fn native_of(kind: &Use, registers: u32) -> Result<ProcessMachine, MakeFault>
     ensures program { IfOk result
-        (λ m. ⟦<ProcessMachine as Machine>⟧.program m ≡ expansion kind.now registers) }
+        (λ m. (⟦<ProcessMachine as Machine>⟧.means m).program ≡ expansion kind.now registers) }
     ensures understood { IfOk result
-        (λ m. ⟦<ProcessMachine as Machine>⟧.resumed m ≡ native_resumed kind.now registers) }
+        (λ m. (⟦<ProcessMachine as Machine>⟧.means m).resumed ≡ native_resumed kind.now registers) }
     ensures made { IsOk result ↔ IsTrue (use_fits kind.now registers) }
     ensures code { IfErr result (λ fault. fault.code ≡ 1) }
 {

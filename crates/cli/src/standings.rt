@@ -1,6 +1,7 @@
 //! Where one schedule leads, and what it does on its way.
 
-ghost use Rattle.std.specs.Prelude.{◌≡◌, ◌<◌, length, map};
+ghost use Rattle.std.specs.Prelude.{◌≡◌, ◌<◌, length};
+ghost use Rattle.machine.specs.Meaning.{all_programs};
 ghost use Rattle.reglang.specs.Sources.{contents_of, registers_of, source_programs};
 ghost use Rattle.drawing.specs.Pictures.{IsPictureOf};
 ghost use Rattle.cli.specs.Standings.{IsFollowed, IsHindranceAt, IsStandingAfter};
@@ -43,7 +44,7 @@ pub fn standing_after(
     machines: Vec<Box<dyn Machine + Send>>,
     schedule: &Prefix,
 ) -> Result<Standing, RefusedLetter>
-    requires { map program machines.items ≡ source_programs source.now }
+    requires { all_programs means machines.items ≡ source_programs source.now }
     ensures { IsFollowed (source_programs source.now) schedule.now
         (IsStandingAfter (source_programs source.now) (registers_of source.now) schedule.now)
         result }
@@ -68,7 +69,7 @@ pub fn drawing_after(
     machines: Vec<Box<dyn Machine + Send>>,
     schedule: &Prefix,
 ) -> Result<Drawing, RefusedLetter>
-    requires { map program machines.items ≡ source_programs source.now }
+    requires { all_programs means machines.items ≡ source_programs source.now }
     ensures { IsFollowed (source_programs source.now) schedule.now
         (IsPictureOf (contents_of source.now) schedule.now) result }
 {

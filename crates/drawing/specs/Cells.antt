@@ -127,7 +127,7 @@ line_at picture line =
 abbrev pub line_of : lines.DrawingLine → DrawingLine
 line_of line.Head = Head
 line_of line.Start = Start
-line_of (line.LetterRow row) = Letter row.now
+line_of (line.Row row) = Letter row.now
 line_of line.End = End
 
 -- what parts the number of a letter from that of a line, so that this stands below its head

@@ -1,21 +1,19 @@
 -- What is drawn of a schedule.
-use Rattle.std.specs.Prelude.{◌≡◌, ℕ, ◌+◌, List, [], ◌∷◌, ◌++◌, length, IfErr, IfOk, OnOk, Option, Result, Some, None}
+use Rattle.std.specs.Prelude.{◌≡◌, ◌+◌, List, [], ◌∷◌, ◌++◌, length, IfErr, IfOk, OnOk, Option, Result, Some, None}
 use Rattle.regmodel.specs.declared.accesses.Access.{Access}
-use Rattle.regmodel.specs.declared.accesses.Pending.{Pending}
 use Rattle.regmodel.specs.declared.schedules.Letter.{Letter}
 use Rattle.regmodel.specs.declared.schedules.Letter.TheVariants as letter
 use Rattle.regmodel.specs.declared.outcomes.ProcEnd.{ProcEnd}
 use Rattle.regmodel.specs.Wanted.{wanted_after}
 use Rattle.regmodel.specs.Letters.{Schedule, process_of}
 use Rattle.regmodel.specs.Outcomes.{outcome_of}
-use Rattle.regmodel.specs.Program.{Program}
-use Rattle.regmodel.specs.Reply.{Replies}
 use Rattle.regmodel.specs.Schedules.{IsSchedule}
 use Rattle.reglang.specs.Contents.{Contents, programs_in}
 use Rattle.world.specs.declared.BadLetter.{BadLetter}
 use Rattle.world.specs.declared.World.{World}
 use Rattle.world.specs.Sound.{IsSameWorld, budget_of, letters_of, register_count_of, world_programs}
 use Rattle.machine.specs.declared.stops.Stopped.{Stopped}
+use Rattle.machine.specs.Meaning.{Meaning}
 use Rattle.world.specs.Stops.{IsStopped}
 use Rattle.drawing.specs.declared.drawings.Deed.{Deed}
 use Rattle.drawing.specs.declared.drawings.Deed.TheVariants as deed
@@ -67,21 +65,19 @@ pub record IsPictureOf (source : Contents) (w : Schedule) (picture : Picture) : 
   pub stops : picture.stops ≡ stops_after source w
 
 -- a world of the processes of a source, over its registers
-pub record IsWorldOf {I : Type 0} {V : I → Type 0} (program : ((i : I) × V i) → Program)
+pub record IsWorldOf {I : Type 0} {V : I → Type 0} (means : ((i : I) × V i) → Meaning)
     (world : World I V) (source : Contents) : Type 0 where
-  pub programs : world_programs program world ≡ programs_in source
+  pub programs : world_programs means world ≡ programs_in source
   pub registers : register_count_of world ≡ source.registers
 
 -- the same world was led along a schedule of a source, which was drawn; or it stands before the
 -- first letter that is not possible
-pub record Draws {I : Type 0} {V : I → Type 0}
-    (program : ((i : I) × V i) → Program) (rest : ((i : I) × V i) → Replies → Pending)
-    (resumed : ((i : I) × V i) → List ℕ → Replies → Pending) (source : Contents)
-    (old new : World I V) (w : Schedule)
-    (result : Result Picture BadLetter) : Type 0 where
-  pub same : IsSameWorld program rest resumed old new
-  pub schedule : IfOk result (λ drawing. IsSchedule (world_programs program old) (budget_of old) w)
+pub record Draws {I : Type 0} {V : I → Type 0} (means : ((i : I) × V i) → Meaning)
+    (source : Contents) (old new : World I V) (w : Schedule) (result : Result Picture BadLetter)
+    : Type 0 where
+  pub same : IsSameWorld means old new
+  pub schedule : IfOk result (λ drawing. IsSchedule (world_programs means old) (budget_of old) w)
   pub drawn : IfOk result (IsPictureOf source w)
   pub ok : OnOk result (letters_of new ≡ w)
   pub refused :
-      IfErr result (IsStopped (world_programs program old) (budget_of old) w (letters_of new))
+      IfErr result (IsStopped (world_programs means old) (budget_of old) w (letters_of new))

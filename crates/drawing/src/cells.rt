@@ -195,7 +195,7 @@ enum DrawingLine<'a> {
     /// What stands before the first letter.
     Start,
     /// What one letter did.
-    LetterRow(&'a LetterRow),
+    Row(&'a LetterRow),
     /// The ends.
     End,
 }
@@ -208,7 +208,7 @@ fn number_cell(labels: &Labels<'_>, line: DrawingLine<'_>) -> Cell
     match line {
         DrawingLine::Head => numbers_head(labels.lines()),
         DrawingLine::Start => Cell::new().with(b"0"),
-        DrawingLine::LetterRow(row) => letter_cell(labels.lines(), row),
+        DrawingLine::Row(row) => letter_cell(labels.lines(), row),
         DrawingLine::End => Cell::new(),
     }
 }
@@ -273,7 +273,7 @@ impl Drawing {
             0 => DrawingLine::Head,
             1 => DrawingLine::Start,
             _ => match self.rows().get(line - 2) {
-                Some(row) => DrawingLine::LetterRow(row),
+                Some(row) => DrawingLine::Row(row),
                 None => DrawingLine::End,
             },
         }
@@ -329,8 +329,8 @@ impl Drawing {
     {
         match line {
             DrawingLine::Head => Cell::new().with(b"process ").with_number(u32::from(p)),
-            DrawingLine::LetterRow(row) if row.process == p => self.row_cell(names, row),
-            DrawingLine::Start | DrawingLine::LetterRow(_) => Cell::new(),
+            DrawingLine::Row(row) if row.process == p => self.row_cell(names, row),
+            DrawingLine::Start | DrawingLine::Row(_) => Cell::new(),
             DrawingLine::End => match self.outcome().ends().get(usize::from(p)) {
                 Some(end) => end_cell(end),
                 None => Cell::new(),
@@ -346,7 +346,7 @@ impl Drawing {
         let registers = match line {
             DrawingLine::Head => return head_cell(names, r),
             DrawingLine::Start => self.start(),
-            DrawingLine::LetterRow(row) => &row.registers,
+            DrawingLine::Row(row) => &row.registers,
             DrawingLine::End => return Cell::new(),
         };
         match registers.get(usize::from(r)) {

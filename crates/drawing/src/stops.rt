@@ -13,8 +13,8 @@ use world::World;
 
 /// Where each process of a world stops that stands so, processes from 0.
 pub(crate) fn all_stops(world: &World, source: &Source) -> ArrayVec<Option<Stopped>, 8>
-    requires at { IsSoundWorld program rest resumed world.now }
-    requires of { IsWorldOf program world.now (contents_of source.now) }
+    requires at { IsSoundWorld means world.now }
+    requires of { IsWorldOf means world.now (contents_of source.now) }
     ensures { result.items ≡ spec.stops_after (contents_of source.now) (letters_of world.now) }
 {
     let mut stops = ArrayVec::new();
@@ -26,8 +26,8 @@ pub(crate) fn all_stops(world: &World, source: &Source) -> ArrayVec<Option<Stopp
 
 /// The number of the statement at which a process of a world stops that stands so.
 pub(crate) fn statement_of(world: &World, source: &Source, p: u8) -> Option<usize>
-    requires at { IsSoundWorld program rest resumed world.now }
-    requires of { IsWorldOf program world.now (contents_of source.now) }
+    requires at { IsSoundWorld means world.now }
+    requires of { IsWorldOf means world.now (contents_of source.now) }
     requires there { p < length (source_programs source.now) }
     ensures { result ≡ spec.statement_after (contents_of source.now) (letters_of world.now) p }
 {
@@ -41,8 +41,8 @@ pub(crate) fn statement_of(world: &World, source: &Source, p: u8) -> Option<usiz
 /// is at fault. A use line is the only one of its process. None where the process has come past its
 /// last one.
 fn stop_of(world: &World, source: &Source, p: u8) -> Option<Stopped>
-    requires at { IsSoundWorld program rest resumed world.now }
-    requires of { IsWorldOf program world.now (contents_of source.now) }
+    requires at { IsSoundWorld means world.now }
+    requires of { IsWorldOf means world.now (contents_of source.now) }
     requires there { p < length (source_programs source.now) }
     ensures { result ≡ spec.stop_after (contents_of source.now) (letters_of world.now) p }
 {

@@ -7,10 +7,10 @@ pub mod Forgetting
 pub mod Interps
 pub mod Keeping
 pub mod Lasts
+pub mod Meaning
 pub mod Paths
 pub mod Rest
 pub mod Runs
-pub mod Same
 pub mod Sparse
 pub mod StateNumbers
 pub mod StopExamples

@@ -51,9 +51,10 @@ impl Interp {
     /// An interpreter of this program, at its start. An error comes where memory for the kept
     /// states is refused, and the program is dropped then. No later call takes memory.
     pub fn make(alloc: Global, prog: Prog) -> Result<Interp, OutOfMemory>
-        ensures same { IfOk result (λ m. ⟦<Interp as Machine>⟧.program m ≡ program_of prog) }
+        ensures same { IfOk result
+            (λ m. (⟦<Interp as Machine>⟧.means m).program ≡ program_of prog) }
         ensures starts { IfOk result
-            (λ m. IsAtStart (program_of prog) (⟦<Interp as Machine>⟧.rest m)) }
+            (λ m. IsAtStart (program_of prog) (⟦<Interp as Machine>⟧.means m).rest) }
     {
         let blank = KeptState {
             reply: Reply::none(),
@@ -140,11 +141,11 @@ impl Machine for Interp {
     ghost use Rattle.machine.specs.Rest.{rest_in};
     ghost use Rattle.machine.specs.StateNumbers.{resumed_by};
 
-    ghost program = { λ m. program_of m.prog };
-
-    ghost rest = { λ m. rest_in (program_of m.prog) (state_of m) };
-
-    ghost resumed = { λ m. resumed_by (program_of m.prog) };
+    ghost means = { λ m. record {
+      program = program_of m.prog;
+      rest = rest_in (program_of m.prog) (state_of m);
+      resumed = resumed_by (program_of m.prog);
+    } };
 
     fn reset(&mut self) {
         self.go_to_start();

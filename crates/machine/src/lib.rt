@@ -1,17 +1,17 @@
 //! Machines: programs in progress, which go on by one reply after another.
 #![tactic(auto)]
 
-ghost use Rattle.std.specs.Prelude.{◌≡◌, ◌≤◌, ℕ, IfSome, IsTrue, List, [], ◌∷◌, length, map, take};
+ghost use Rattle.std.specs.Prelude.{◌≡◌, ◌≤◌, IfSome, IsTrue, [], ◌∷◌, length, map, take};
 ghost use Rattle.told.specs.Numbers.{numbers_in};
 ghost use Rattle.regmodel.specs.declared.accesses.Pending.{Pending};
-ghost use Rattle.regmodel.specs.Prelude.{Program, act_of, IsReplyTo, Replies};
+ghost use Rattle.regmodel.specs.Prelude.{act_of, IsReplyTo, Replies};
 ghost use Rattle.regmodel.specs.declared.accesses.Pending.TheVariants.{Done};
 ghost use Rattle.regmodel.specs.Kept.{values_in};
 ghost use Rattle.regmodel.specs.Lawful.{IsAtStart};
 ghost use Rattle.regmodel.specs.Reply as spec;
 ghost use Rattle.machine.specs.Following.{Follows};
 ghost use Rattle.machine.specs.Lasts.{EndsBy, WritesBy};
-ghost use Rattle.machine.specs.Same.{IsSameMachine};
+ghost use Rattle.machine.specs.Meaning.{IsSameMachine, Meaning};
 ghost use Rattle.machine.specs.Telling.{Tells};
 
 mod culprits;
@@ -36,27 +36,22 @@ pub use told::Told;
 /// A program in progress, known by its program and by its rest: what is pending after each list of
 /// further replies. No call takes memory.
 pub trait Machine: Drop + Send {
-    /// What it runs.
-    ghost program: { Self → Program };
-
-    /// What is pending after these further replies.
-    ghost rest: { Self → Replies → Pending };
-
-    /// What is pending after further replies, where it stands as a list of numbers tells.
-    ghost resumed: { Self → List ℕ → Replies → Pending } = { λ m numbers s. Done (record { items = [] }) };
+    /// What it runs, what is pending after each list of further replies, and what is pending after
+    /// them where it stands as a list of numbers tells.
+    ghost means: { Self → Meaning };
 
     /// Goes to the program's start.
     fn reset(&mut self)
-        ensures same { IsSameMachine program resumed self.old self.new }
-        ensures starts { IsAtStart (program self.new) (rest self.new) };
+        ensures same { IsSameMachine (means self.old) (means self.new) }
+        ensures starts { IsAtStart (means self.new).program (means self.new).rest };
 
     /// Goes to the program's start, and on by the first of these replies, as many as it need not
     /// run again. It answers how many these are.
     fn recall(&mut self, replies: &[Reply]) -> usize
-        ensures same { IsSameMachine program resumed self.old self.new }
+        ensures same { IsSameMachine (means self.old) (means self.new) }
         ensures count { result ≤ length replies.now }
-        ensures leads { Follows (act_of (program self.new))
-            (map values_in (take result replies.now)) (rest self.new) }
+        ensures leads { Follows (act_of (means self.new).program)
+            (map values_in (take result replies.now)) (means self.new).rest }
     {
         let _ = replies;
         self.reset();
@@ -65,18 +60,19 @@ pub trait Machine: Drop + Send {
 
     /// What is pending now.
     fn pending(&self) -> Pending
-        ensures { result ≡ rest self.now [] };
+        ensures { result ≡ (means self.now).rest [] };
 
     /// Goes on past one reply: the value of each register that was read, rising, each at most
     /// 1000000000; or one 0 where none was.
     fn feed(&mut self, reply: &[u32])
-        requires { IsReplyTo (rest self.old []) reply.now }
-        ensures same { IsSameMachine program resumed self.old self.new }
-        ensures goes_on { (s : Replies) → rest self.new s ≡ rest self.old (reply.now ∷ s) };
+        requires { IsReplyTo ((means self.old).rest []) reply.now }
+        ensures same { IsSameMachine (means self.old) (means self.new) }
+        ensures goes_on { (s : Replies)
+            → (means self.new).rest s ≡ (means self.old).rest (reply.now ∷ s) };
 
     /// How many accesses its program does at most, from its start on; None where it cannot tell.
     fn most_accesses(&self) -> Option<u32>
-        ensures { IfSome result (λ most. EndsBy (program self.now) most) }
+        ensures { IfSome result (λ most. EndsBy (means self.now).program most) }
     {
         None
     }
@@ -84,7 +80,7 @@ pub trait Machine: Drop + Send {
     /// By how many accesses from its start on its program has written to a register for the last
     /// time, 0 where it never does; None where it cannot tell.
     fn last_write(&self, register: u8) -> Option<u32>
-        ensures { IfSome result (λ last. WritesBy (program self.now) register last) }
+        ensures { IfSome result (λ last. WritesBy (means self.now).program register last) }
     {
         let _ = register;
         None
@@ -92,15 +88,15 @@ pub trait Machine: Drop + Send {
 
     /// Gives up what it holds; it is done with no numbers until it is reset.
     fn end(&mut self)
-        ensures same { IsSameMachine program resumed self.old self.new }
-        ensures ended { (s : Replies) → rest self.new s ≡ Done (record { items = [] }) };
+        ensures same { IsSameMachine (means self.old) (means self.new) }
+        ensures ended { (s : Replies) → (means self.new).rest s ≡ Done (record { items = [] }) };
 
     /// Tells where it stands, in numbers behind those of the list. It answers false where it cannot
     /// tell, or the list has no room for that; what then stands behind the earlier numbers means
     /// nothing.
     fn tell(&self, numbers: &mut Told) -> bool
         ensures { IsTrue result
-            → Tells (resumed self.now) (rest self.now) (numbers_in numbers.old)
+            → Tells (means self.now).resumed (means self.now).rest (numbers_in numbers.old)
             (numbers_in numbers.new) }
     {
         let _ = numbers;
@@ -120,42 +116,43 @@ pub fn value_of(reply: &[u32]) -> u32
 
 /// What is pending in a boxed machine.
 pub fn pending_of_box(machine: &Box<dyn Machine + Send>) -> Pending
-    ensures { result ≡ rest machine.now [] }
+    ensures { result ≡ (means machine.now).rest [] }
 {
     machine.pending()
 }
 
 /// Feeds a boxed machine.
 pub fn feed_box(machine: &mut Box<dyn Machine + Send>, reply: &[u32])
-    requires { IsReplyTo (rest machine.old []) reply.now }
-    ensures same { IsSameMachine program resumed machine.old machine.new }
-    ensures goes_on { (s : Replies) → rest machine.new s ≡ rest machine.old (reply.now ∷ s) }
+    requires { IsReplyTo ((means machine.old).rest []) reply.now }
+    ensures same { IsSameMachine (means machine.old) (means machine.new) }
+    ensures goes_on { (s : Replies)
+        → (means machine.new).rest s ≡ (means machine.old).rest (reply.now ∷ s) }
 {
     machine.feed(reply);
 }
 
 /// Resets a boxed machine.
 pub fn reset_box(machine: &mut Box<dyn Machine + Send>)
-    ensures same { IsSameMachine program resumed machine.old machine.new }
-    ensures starts { IsAtStart (program machine.new) (rest machine.new) }
+    ensures same { IsSameMachine (means machine.old) (means machine.new) }
+    ensures starts { IsAtStart (means machine.new).program (means machine.new).rest }
 {
     machine.reset();
 }
 
 /// Has a boxed machine recall replies.
 pub fn recall_box(machine: &mut Box<dyn Machine + Send>, replies: &[Reply]) -> usize
-    ensures same { IsSameMachine program resumed machine.old machine.new }
+    ensures same { IsSameMachine (means machine.old) (means machine.new) }
     ensures count { result ≤ length replies.now }
-    ensures leads { Follows (act_of (program machine.new))
-        (map values_in (take result replies.now)) (rest machine.new) }
+    ensures leads { Follows (act_of (means machine.new).program)
+        (map values_in (take result replies.now)) (means machine.new).rest }
 {
     machine.recall(replies)
 }
 
 /// Ends a boxed machine.
 pub fn end_box(machine: &mut Box<dyn Machine + Send>)
-    ensures same { IsSameMachine program resumed machine.old machine.new }
-    ensures ended { (s : Replies) → rest machine.new s ≡ Done (record { items = [] }) }
+    ensures same { IsSameMachine (means machine.old) (means machine.new) }
+    ensures ended { (s : Replies) → (means machine.new).rest s ≡ Done (record { items = [] }) }
 {
     machine.end();
 }
@@ -163,7 +160,7 @@ pub fn end_box(machine: &mut Box<dyn Machine + Send>)
 /// Asks a boxed machine to tell where it stands.
 pub fn tell_box(machine: &Box<dyn Machine + Send>, numbers: &mut Told) -> bool
     ensures { IsTrue result
-        → Tells (resumed machine.now) (rest machine.now) (numbers_in numbers.old)
+        → Tells (means machine.now).resumed (means machine.now).rest (numbers_in numbers.old)
         (numbers_in numbers.new) }
 {
     machine.tell(numbers)
@@ -171,7 +168,7 @@ pub fn tell_box(machine: &Box<dyn Machine + Send>, numbers: &mut Told) -> bool
 
 /// How many accesses a boxed machine's program does at most, where it can tell.
 pub fn most_accesses_of_box(machine: &Box<dyn Machine + Send>) -> Option<u32>
-    ensures { IfSome result (λ most. EndsBy (program machine.now) most) }
+    ensures { IfSome result (λ most. EndsBy (means machine.now).program most) }
 {
     machine.most_accesses()
 }
@@ -179,7 +176,7 @@ pub fn most_accesses_of_box(machine: &Box<dyn Machine + Send>) -> Option<u32>
 /// By how many accesses a boxed machine's program has written to a register for the last time,
 /// where it can tell.
 pub fn last_write_of_box(machine: &Box<dyn Machine + Send>, register: u8) -> Option<u32>
-    ensures { IfSome result (λ last. WritesBy (program machine.now) register last) }
+    ensures { IfSome result (λ last. WritesBy (means machine.now).program register last) }
 {
     machine.last_write(register)
 }

@@ -53,7 +53,7 @@ impl Grid {
     /// Fault 1 where a limit of the line is passed, which [`Use::fits`] tells; no other fault
     /// comes. It takes no memory.
     pub fn make(base: u32, side: u32, id: u32, registers: u32) -> Result<Grid, MakeFault>
-        ensures { IsMadeFor (kind.Grid base side id) registers ⟦<Grid as Machine>⟧ result }
+        ensures { IsMadeFor (kind.Grid base side id) registers ⟦<Grid as Machine>⟧.means result }
     {
         check_fits(Use::Grid(base, side, id), registers)?;
         Ok(Grid {
@@ -79,7 +79,7 @@ impl Grid {
     fn go_to(&mut self, vertex: u8)
         requires some { 1 ≤ vertex }
         requires named { vertex * 2 ≤ (self.old.level + 2) * (self.old.level + 3) }
-        ensures { GoesOnAs ⟦<Grid as Machine>⟧ self.old self.new
+        ensures { GoesOnAs ⟦<Grid as Machine>⟧.means self.old self.new
             (grid_from self.old.base self.old.id self.old.registers
             (self.old.side - (self.old.level + 1)) (self.old.level + 1) vertex) }
     {
@@ -113,11 +113,13 @@ impl Machine for Grid {
     ghost use Rattle.uses.specs.Expansions.{expansion};
     ghost use Rattle.natives.specs.Grids.{grid_from, grid_rest, grid_resumed};
 
-    ghost program = { λ m. expansion (kind.Grid m.base m.side m.id) m.registers };
-
-    ghost rest = { λ m. grid_rest (grid_from m.base m.id m.registers (m.side - m.level) m.level m.vertex) m.vertex m.stage };
-
-    ghost resumed = { λ m. grid_resumed m.base m.side m.id m.registers };
+    ghost means = { λ m. record {
+      program = expansion (kind.Grid m.base m.side m.id) m.registers;
+      rest = grid_rest
+          (grid_from m.base m.id m.registers (m.side - m.level) m.level m.vertex) m.vertex
+          m.stage;
+      resumed = grid_resumed m.base m.side m.id m.registers;
+    } };
 
     fn reset(&mut self) {
         self.level = 0;

@@ -32,7 +32,8 @@ impl NameSlots {
     /// are. Fault 1 where a limit of the line is passed, which [`Use::fits`] tells; no other fault
     /// comes. It takes no memory.
     pub fn make(base: u32, slots: u32, slot: u32, registers: u32) -> Result<NameSlots, MakeFault>
-        ensures { IsMadeFor (kind.Name base slots slot) registers ⟦<NameSlots as Machine>⟧ result }
+        ensures { IsMadeFor (kind.Name base slots slot) registers
+            ⟦<NameSlots as Machine>⟧.means result }
     {
         check_fits(Use::Name(base, slots, slot), registers)?;
         Ok(NameSlots {
@@ -45,7 +46,7 @@ impl NameSlots {
         requires inside { reading.at ≤ self.old.round.slots.count }
         requires some { 1 ≤ reading.rank }
         requires small { reading.rank ≤ reading.at + 1 }
-        ensures { GoesOnAs ⟦<NameSlots as Machine>⟧ self.old self.new
+        ensures { GoesOnAs ⟦<NameSlots as Machine>⟧.means self.old self.new
             (reading_rest self.old.round reading) }
     {
         let next = if reading.at == self.round.slots.own {
@@ -66,7 +67,7 @@ impl NameSlots {
     /// Takes what a slot holds, and goes on to the next one.
     fn take(&mut self, reading: Reading, reply: &[u32])
         requires read { IsRead self.old.round.slots.count self.old.round.slots.own reading }
-        ensures { GoesOnAs ⟦<NameSlots as Machine>⟧ self.old self.new
+        ensures { GoesOnAs ⟦<NameSlots as Machine>⟧.means self.old self.new
             (λ s. reading_rest self.old.round reading (reply.now ∷ s)) }
     {
         let held = value_of(reply);
@@ -99,11 +100,15 @@ impl Machine for NameSlots {
     ghost use Rattle.natives.specs.Rounds.{stage_rest};
     ghost use Rattle.natives.specs.NameSlots.{round_rest, reading_rest, name_resumed};
 
-    ghost program = { λ m. expansion (kind.Name m.round.slots.base m.round.slots.count m.round.slots.own) m.round.slots.registers };
-
-    ghost rest = { λ m. stage_rest (round_rest m.round) (reading_rest m.round) m.round.proposal m.round.stage };
-
-    ghost resumed = { λ m. name_resumed m.round.slots.base m.round.slots.count m.round.slots.own m.round.slots.registers };
+    ghost means = { λ m. record {
+      program = expansion
+          (kind.Name m.round.slots.base m.round.slots.count m.round.slots.own)
+          m.round.slots.registers;
+      rest = stage_rest (round_rest m.round) (reading_rest m.round) m.round.proposal
+          m.round.stage;
+      resumed = name_resumed m.round.slots.base m.round.slots.count m.round.slots.own
+          m.round.slots.registers;
+    } };
 
     fn reset(&mut self) {
         self.round = Round::first(self.round.slots);

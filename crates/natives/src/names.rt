@@ -33,7 +33,8 @@ impl Names {
     /// are. Fault 1 where a limit of the line is passed, which [`Use::fits`] tells; no other fault
     /// comes. It takes no memory.
     pub fn make(base: u32, slots: u32, slot: u32, registers: u32) -> Result<Names, MakeFault>
-        ensures { IsMadeFor (kind.Names base slots slot) registers ⟦<Names as Machine>⟧ result }
+        ensures { IsMadeFor (kind.Names base slots slot) registers
+            ⟦<Names as Machine>⟧.means result }
     {
         check_fits(Use::Names(base, slots, slot), registers)?;
         Ok(Names {
@@ -44,7 +45,7 @@ impl Names {
     /// Takes what a scan gave, of which the own slot counts as empty, and ends the round.
     fn take(&mut self, reply: &[u32])
         requires { length reply.now ≡ self.old.round.slots.count }
-        ensures { GoesOnAs ⟦<Names as Machine>⟧ self.old self.new
+        ensures { GoesOnAs ⟦<Names as Machine>⟧.means self.old self.new
             (λ s. scan_round_rest self.old.round (one 0 ∷ reply.now ∷ s)) }
     {
         let slots = usize::from(self.round.slots.count);
@@ -83,11 +84,15 @@ impl Machine for Names {
     ghost use Rattle.natives.specs.Rounds.{stage_rest};
     ghost use Rattle.natives.specs.Names.{scan_round_rest, scan_rest, names_resumed};
 
-    ghost program = { λ m. expansion (kind.Names m.round.slots.base m.round.slots.count m.round.slots.own) m.round.slots.registers };
-
-    ghost rest = { λ m. stage_rest (scan_round_rest m.round) (scan_rest m.round) m.round.proposal m.round.stage };
-
-    ghost resumed = { λ m. names_resumed m.round.slots.base m.round.slots.count m.round.slots.own m.round.slots.registers };
+    ghost means = { λ m. record {
+      program = expansion
+          (kind.Names m.round.slots.base m.round.slots.count m.round.slots.own)
+          m.round.slots.registers;
+      rest = stage_rest (scan_round_rest m.round) (scan_rest m.round) m.round.proposal
+          m.round.stage;
+      resumed = names_resumed m.round.slots.base m.round.slots.count m.round.slots.own
+          m.round.slots.registers;
+    } };
 
     fn reset(&mut self) {
         self.round = Round::first(self.round.slots);

@@ -71,7 +71,7 @@ impl Split {
     /// Fault 1 where a limit of the line is passed, which [`Use::fits`] tells; no other fault
     /// comes. It takes no memory.
     pub fn make(base: u32, id: u32, registers: u32) -> Result<Split, MakeFault>
-        ensures { IsMadeFor (kind.Split base id) registers ⟦<Split as Machine>⟧ result }
+        ensures { IsMadeFor (kind.Split base id) registers ⟦<Split as Machine>⟧.means result }
     {
         check_fits(Use::Split(base, id), registers)?;
         Ok(Split {
@@ -88,11 +88,11 @@ impl Machine for Split {
     ghost use Rattle.uses.specs.Expansions.{expansion};
     ghost use Rattle.natives.specs.Splits.{split_rest, split_resumed};
 
-    ghost program = { λ m. expansion (kind.Split m.base m.id) m.registers };
-
-    ghost rest = { λ m. split_rest (expansion (kind.Split m.base m.id) m.registers) m.stage };
-
-    ghost resumed = { λ m. split_resumed (expansion (kind.Split m.base m.id) m.registers) };
+    ghost means = { λ m. record {
+      program = expansion (kind.Split m.base m.id) m.registers;
+      rest = split_rest (expansion (kind.Split m.base m.id) m.registers) m.stage;
+      resumed = split_resumed (expansion (kind.Split m.base m.id) m.registers);
+    } };
 
     fn reset(&mut self) {
         self.stage = SplitStage::At(SplitterStep::Marks);

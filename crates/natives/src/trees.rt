@@ -82,7 +82,8 @@ impl Tree {
         value: u32,
         registers: u32,
     ) -> Result<Tree, MakeFault>
-        ensures { IsMadeFor (kind.Tree base depth id value) registers ⟦<Tree as Machine>⟧ result }
+        ensures { IsMadeFor (kind.Tree base depth id value) registers
+            ⟦<Tree as Machine>⟧.means result }
     {
         check_fits(Use::Tree(base, depth, id, value), registers)?;
         let last = vertices(depth) as u8;
@@ -115,7 +116,7 @@ impl Tree {
     fn go_to(&mut self, vertex: u8)
         requires some { 1 ≤ vertex }
         requires below { vertex ≤ self.old.vertex * 2 + 1 }
-        ensures { GoesOnAs ⟦<Tree as Machine>⟧ self.old self.new
+        ensures { GoesOnAs ⟦<Tree as Machine>⟧.means self.old self.new
             (from_vertex self.old.base self.old.registers self.old.depth self.old.id self.old.value
             self.old.levels vertex) }
     {
@@ -130,7 +131,7 @@ impl Tree {
 
     /// Begins the collect, at the root.
     fn collect(&mut self)
-        ensures { GoesOnAs ⟦<Tree as Machine>⟧ self.old self.new
+        ensures { GoesOnAs ⟦<Tree as Machine>⟧.means self.old self.new
             (from_past self.old.base self.old.registers self.old.last 0
             (slice_set (replicate 32 false) 1 true) []) }
     {
@@ -162,7 +163,7 @@ impl Tree {
     /// Goes on past a vertex to the next one that was reached, if any.
     fn go_past(&mut self, vertex: u8)
         requires { vertex ≤ self.old.last }
-        ensures { GoesOnAs ⟦<Tree as Machine>⟧ self.old self.new
+        ensures { GoesOnAs ⟦<Tree as Machine>⟧.means self.old self.new
             (from_past self.old.base self.old.registers (self.old.last - vertex) vertex
             self.old.reached self.old.numbers.items) }
     {
@@ -175,7 +176,7 @@ impl Tree {
     /// Both children of a vertex are reached; goes on past it.
     fn reach(&mut self, vertex: u8)
         requires { IsIn self.old.last vertex }
-        ensures { GoesOnAs ⟦<Tree as Machine>⟧ self.old self.new
+        ensures { GoesOnAs ⟦<Tree as Machine>⟧.means self.old self.new
             (from_past self.old.base self.old.registers (self.old.last - vertex) vertex
             (below_reached vertex self.old.reached) self.old.numbers.items) }
     {
@@ -187,7 +188,7 @@ impl Tree {
     /// Takes the value of a marked vertex, 0 where none was left there yet.
     fn take(&mut self, vertex: u8, reply: &[u32])
         requires { IsIn self.old.last vertex }
-        ensures { GoesOnAs ⟦<Tree as Machine>⟧ self.old self.new
+        ensures { GoesOnAs ⟦<Tree as Machine>⟧.means self.old self.new
             (λ s. from_at self.old.base self.old.registers self.old.last self.old.reached
             self.old.numbers.items vertex (one 1 ∷ reply.now ∷ s)) }
     {
@@ -243,11 +244,14 @@ impl Machine for Tree {
     ghost use Rattle.uses.specs.Expansions.{expansion};
     ghost use Rattle.natives.specs.Trees.{from_vertex, from_stop, from_at, tree_rest, tree_resumed};
 
-    ghost program = { λ m. expansion (kind.Tree m.base m.depth m.id m.value) m.registers };
-
-    ghost rest = { λ m. tree_rest (from_vertex m.base m.registers m.depth m.id m.value (suc m.levels) m.vertex) (from_stop m.base m.registers m.depth m.value m.vertex) (from_at m.base m.registers m.last m.reached m.numbers.items) m.numbers.items m.stage };
-
-    ghost resumed = { λ m. tree_resumed m.base m.registers m.depth m.last m.id m.value };
+    ghost means = { λ m. record {
+      program = expansion (kind.Tree m.base m.depth m.id m.value) m.registers;
+      rest = tree_rest
+          (from_vertex m.base m.registers m.depth m.id m.value (suc m.levels) m.vertex)
+          (from_stop m.base m.registers m.depth m.value m.vertex)
+          (from_at m.base m.registers m.last m.reached m.numbers.items) m.numbers.items m.stage;
+      resumed = tree_resumed m.base m.registers m.depth m.last m.id m.value;
+    } };
 
     fn reset(&mut self) {
         self.vertex = 1;

@@ -66,7 +66,7 @@ default_of workers Width = MOST_WIDTH
 pub record IsBoundRefused (told : List ℕ → Option (List ℕ)) (workers : ℕ)
     (r : Refusal) : Type 0 where
   pub bound : OptionBound
-  pub told_is : r ≡ refusal.OptionBound bound
+  pub told_is : r ≡ refusal.Bound bound
   pub none : IsNoBound (told (name_of bound)) bound (default_of workers bound)
 
 -- the bound of a line of a drawing
@@ -110,7 +110,7 @@ pub record AreNoRegisters (found : Found) (r : Refusal) : Type 0 where
 
 -- the words tell no width that may be
 pub record IsNoWidth (found : Found) (r : Refusal) : Type 0 where
-  pub told_is : r ≡ refusal.OptionBound width
+  pub told_is : r ≡ refusal.Bound width
   pub none : IsNoBound (one_text found (name_of width)) width MOST_WIDTH
 
 -- why no drawing can be so broad

@@ -5,13 +5,13 @@ use Rattle.regmodel.specs.declared.schedules.Letter.{Letter}
 use Rattle.regmodel.specs.Prefixes.{FitsPrefix}
 use Rattle.regmodel.specs.ScheduleText.{schedule_text}
 use Rattle.orders.specs.declared.refusals.Refusal.{Refusal}
-use Rattle.orders.specs.declared.refusals.Refusal.TheVariants.{Words, Setting, OptionBound, Registers, Schedule, Pattern, PatternLine, TwiceStandard, File, LongFile, Memory}
+use Rattle.orders.specs.declared.refusals.Refusal.TheVariants.{Words, Setting, Bound, Registers, Schedule, Pattern, PatternLine, TwiceStandard, File, LongFile, Memory}
 
 -- 2 where what was asked is refused, 3 where it could not be done
 abbrev pub status_of : Refusal → ℕ
 status_of Words = 2
 status_of (Setting code) = 2
-status_of (OptionBound bound) = 2
+status_of (Bound bound) = 2
 status_of Registers = 2
 status_of Schedule = 2
 status_of (Pattern place standing) = 2

@@ -110,7 +110,7 @@ fn width_of<'a>(words: &ArgMatches<'a>) -> Result<Room<'a>, Refusal>
     match words.try_get_one::<u32>("width") {
         Ok(Some(places)) if 1 <= places && places <= MOST_WIDTH => Ok(Room::Places(places)),
         Ok(None) => Ok(Room::Usual),
-        _ => Err(Refusal::OptionBound(OptionBound::Width)),
+        _ => Err(Refusal::Bound(OptionBound::Width)),
     }
 }
 
@@ -127,12 +127,12 @@ pub(crate) fn bound_of(
         (λ number. (spec.least_of bound ≤ number) × (number ≤ spec.most_of bound)) }
     ensures refused { IfErr result
         (λ refusal. IsNoBound (one_text (found_of words.now) (spec.name_of bound)) bound other) }
-    ensures err { IfErr result (λ refusal. refusal ≡ Refusal.OptionBound bound) }
+    ensures err { IfErr result (λ refusal. refusal ≡ Refusal.Bound bound) }
 {
     match words.try_get_one::<u32>(bound.name()) {
         Ok(Some(number)) if bound.least() <= number && number <= bound.most() => Ok(number),
         Ok(None) => Ok(other),
-        _ => Err(Refusal::OptionBound(bound)),
+        _ => Err(Refusal::Bound(bound)),
     }
 }
 

@@ -210,7 +210,7 @@ fn task_of<O: Opener>(
 /// pattern, or standard input, of which patterns are read.
 fn subject_of<'a>(words: &ArgMatches<'a>, refusal: &Refusal) -> &'a str {
     match refusal {
-        Refusal::OptionBound(bound) => word_at(words, bound.name()),
+        Refusal::Bound(bound) => word_at(words, bound.name()),
         Refusal::Registers => word_at(words, "registers"),
         Refusal::Pattern(place, standing) => {
             match words.get_strs("PATTERN").unwrap_or(&[]).get(*place) {

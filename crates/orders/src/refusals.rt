@@ -68,7 +68,7 @@ pub enum Refusal {
     Setting(u8),
     /// A bound whose text is no number, or not one that it takes.
     #[error("bound")]
-    OptionBound(OptionBound),
+    Bound(OptionBound),
     /// A text that tells no registers.
     #[error("registers")]
     Registers,
@@ -106,7 +106,7 @@ impl Reason for Refusal {
         match self {
             Refusal::Words
             | Refusal::Setting(_)
-            | Refusal::OptionBound(_)
+            | Refusal::Bound(_)
             | Refusal::Registers
             | Refusal::Schedule
             | Refusal::Pattern(_, _)
@@ -122,7 +122,7 @@ impl Reason for Refusal {
         match self {
             Refusal::Words => write_line("", "a word of the command line is not UTF-8", err),
             Refusal::Setting(code) => writeln!(err, "setting {code} is past its limit"),
-            Refusal::OptionBound(bound) => writeln!(
+            Refusal::Bound(bound) => writeln!(
                 err,
                 "--{} takes a number from {} to {}, not '{subject}'",
                 bound.name(),

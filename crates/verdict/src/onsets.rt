@@ -15,9 +15,9 @@ use world::World;
 /// but `ended` is not asked. None where the schedule itself does not fail so. The world stands at a
 /// beginning of the schedule then.
 pub(crate) fn onset_of(world: &mut World, clauses: &Clauses, allows_faults: bool) -> Option<u64>
-    requires { IsSoundWorld program rest resumed world.old }
-    ensures same { IsSameWorld program rest resumed world.old world.new }
-    ensures onset { IsOnset (world_programs program world.old)
+    requires { IsSoundWorld means world.old }
+    ensures same { IsSameWorld means world.old world.new }
+    ensures onset { IsOnset (world_programs means world.old)
         (meets_demands (clauses_asked false clauses.now) allows_faults) (letters_of world.old)
         result }
 {

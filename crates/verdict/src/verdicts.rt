@@ -1,8 +1,9 @@
 //! What a schedule that fails breaks.
 
-ghost use Rattle.std.specs.Prelude.{◌≡◌, IfSome, IsNone, false, is_some, map, true};
+ghost use Rattle.std.specs.Prelude.{◌≡◌, IfSome, IsNone, false, is_some, true};
 ghost use Rattle.regmodel.specs.Judging.{meets_all};
 ghost use Rattle.regmodel.specs.Prelude.{IsSchedule};
+ghost use Rattle.machine.specs.Meaning.{all_programs};
 ghost use Rattle.reglang.specs.Sources.{contents_of, source_programs};
 ghost use Rattle.report.specs.PlainCheck.{IsPlainCheck};
 ghost use Rattle.report.specs.PlainReport.{IsPlainLeast};
@@ -131,7 +132,8 @@ pub fn verdict_on(
     allows_faults: bool,
     checked: Checked,
 ) -> Verdict
-    requires machines { map program machines.items ≡ source_programs spelling.now.source.now }
+    requires machines { all_programs means machines.items
+        ≡ source_programs spelling.now.source.now }
     requires checked { IsPlainCheck (source_programs spelling.now.source.now)
         settings.length settings.crashes
         (meets_demands (contents_of spelling.now.source.now).clauses allows_faults) checked }
@@ -167,7 +169,8 @@ pub fn breach_for(
     strictness: Strictness,
     least: &Least,
 ) -> Breach
-    requires machines { map program machines.items ≡ source_programs spelling.now.source.now }
+    requires machines { all_programs means machines.items
+        ≡ source_programs spelling.now.source.now }
     requires least { IsPlainLeast (source_programs spelling.now.source.now)
         settings.length settings.crashes
         (demands_of strictness (contents_of spelling.now.source.now).clauses) least.now }
@@ -231,12 +234,11 @@ fn broken_line(spelling: &Spelling<'_>, asks_ended: bool, outcome: &Outcome) -> 
 /// What is drawn of a schedule of a source. The world, which is one of its processes, stands there
 /// then.
 pub(crate) fn drawing_of(world: &mut World, source: &Source, schedule: &Prefix) -> Drawing
-    requires at { IsSoundWorld program rest resumed world.old }
-    requires of { IsWorldOf program world.old (contents_of source.now) }
-    requires schedule { IsSchedule (world_programs program world.old) (budget_of world.old)
+    requires at { IsSoundWorld means world.old }
+    requires of { IsWorldOf means world.old (contents_of source.now) }
+    requires schedule { IsSchedule (world_programs means world.old) (budget_of world.old)
         schedule.now }
-    ensures { IsDrawn program rest resumed (contents_of source.now) world.old world.new schedule.now
-        result }
+    ensures { IsDrawn means (contents_of source.now) world.old world.new schedule.now result }
 {
     match draw(world, source, schedule) {
         Ok(drawing) => drawing,

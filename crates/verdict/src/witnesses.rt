@@ -1,10 +1,11 @@
 //! A schedule that leads to outcomes that were looked for.
 
-ghost use Rattle.std.specs.Prelude.{◌≡◌, ◌+◌, ◌≤◌, false, length, map, option_map};
+ghost use Rattle.std.specs.Prelude.{◌≡◌, ◌+◌, ◌≤◌, false, length, option_map};
 ghost use Rattle.report.specs.PlainReport.{IsPlainLeast};
 ghost use Rattle.patterns.specs.Matching.{IsFirstMatch, matches_none};
 ghost use Rattle.reglang.specs.Sources.{contents_of, source_programs};
 ghost use Rattle.regmodel.specs.declared.limits.TheConstants.{MOST_PROCESSES};
+ghost use Rattle.machine.specs.Meaning.{all_programs};
 ghost use Rattle.verdict.specs.Excesses.{first_excess};
 ghost use Rattle.verdict.specs.Shortfalls.{first_shortfall};
 ghost use Rattle.verdict.specs.Witnesses.{IsWitnessFor};
@@ -62,7 +63,7 @@ pub fn discovery_on(
     least: Least,
 ) -> Discovery
     requires few { length most.now ≤ MOST_PROCESSES }
-    requires machines { map program machines.items ≡ source_programs source.now }
+    requires machines { all_programs means machines.items ≡ source_programs source.now }
     requires found { IsPlainLeast (source_programs source.now) settings.length settings.crashes
         (matches_none patterns.now) least }
     ensures least { result.least ≡ least }

@@ -1,5 +1,6 @@
-use Rattle.std.proofs.Common.{◌≡◌, false, map}
+use Rattle.std.proofs.Common.{◌≡◌, false}
 use Rattle.std.proofs.lemmas.Result.{IfErr-weaker, IfOk-weaker, err_from_is_err_and}
+use Rattle.machine.specs.Meaning.{all_programs}
 use Rattle.reglang.specs.Sources.{source_programs}
 use Rattle.explorer.proofs.GrownLists.{last_has}
 use Rattle.cli.proofs.aims.found_by.Goals as goal
@@ -25,8 +26,8 @@ returns-in_err-discovery-in-Find-clause-refused g c =
 
 pub standing_after-requires : goal.standing_after-requires
 standing_after-requires g c =
-    last_has (λ list. map (λ b. (goal.Machine-dyn g (b.vtable, b.value)).program b.value) list.items ≡ source_programs c.args.run.now.spelling.source.now) c.last_of.result c.last_of.new.lists.items c.args.lists.items c.last_of.ensures c.requires.machines.1
+    last_has (λ list. all_programs (λ b. (goal.Machine-dyn g (b.vtable, b.value)).means b.value) list.items ≡ source_programs c.args.run.now.spelling.source.now) c.last_of.result c.last_of.new.lists.items c.args.lists.items c.last_of.ensures c.requires.machines.1
 
 pub shown-requires : goal.shown-requires
 shown-requires g c =
-    last_has (λ list. map (λ b. (goal.Machine-dyn g (b.vtable, b.value)).program b.value) list.items ≡ source_programs c.args.run.now.spelling.source.now) c.last_of-in-Show.result c.last_of-in-Show.new.lists.items c.args.lists.items c.last_of-in-Show.ensures c.requires.machines.1
+    last_has (λ list. all_programs (λ b. (goal.Machine-dyn g (b.vtable, b.value)).means b.value) list.items ≡ source_programs c.args.run.now.spelling.source.now) c.last_of-in-Show.result c.last_of-in-Show.new.lists.items c.args.lists.items c.last_of-in-Show.ensures c.requires.machines.1

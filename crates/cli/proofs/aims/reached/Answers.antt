@@ -1,6 +1,5 @@
-use Rattle.std.proofs.Common.{◌≡◌, ℕ, List, inl, refl, ap, ◌∙◌}
-use Rattle.regmodel.specs.declared.accesses.Pending.{Pending}
-use Rattle.regmodel.specs.Prelude.{Program, Replies}
+use Rattle.std.proofs.Common.{◌≡◌, inl, refl, ap, ◌∙◌}
+use Rattle.machine.specs.Meaning.{Meaning}
 use denote.Param.Object.{read_made}
 use Rattle.reglang.specs.Sources.{source_programs}
 use Rattle.lists.proofs.Members.{map-take_push}
@@ -11,19 +10,15 @@ use Rattle.cli.proofs.aims.reached.Goals as goal
 pub loop-p-preserved : goal.loop-p-preserved
 loop-p-preserved g c =
     let source = c.args.run.now.spelling.source.now in
-    let program = (own-1.entry (inl tt)).1.program in
-    let resumed = (own-1.entry (inl tt)).1.resumed in
+    let means = (own-1.entry (inl tt)).1.means in
     let machine = c.in_ok-machine.machine in
     let boxed = c.into_dyn_box.result in
-    let runs : (own-1.entry boxed.vtable).1.program boxed.value ≡ program machine =
-    read_made own-1 (own-1.entry (inl tt)) (inl tt) refl Program (λ entry. entry.1.program) boxed.vtable boxed.value c.in_ok-new.field-0.value c.into_dyn_box.ensures.1
-    ∙ ap program c.in_ok-new.ensures.ok in
-    let understands : (own-1.entry boxed.vtable).1.resumed boxed.value ≡ resumed machine =
-    read_made own-1 (own-1.entry (inl tt)) (inl tt) refl (List ℕ → Replies → Pending) (λ entry. entry.1.resumed) boxed.vtable boxed.value c.in_ok-new.field-0.value c.into_dyn_box.ensures.1
-    ∙ ap resumed c.in_ok-new.ensures.ok in
+    let same : (own-1.entry boxed.vtable).1.means boxed.value ≡ means machine =
+    read_made own-1 (own-1.entry (inl tt)) (inl tt) refl Meaning (λ entry. entry.1.means) boxed.vtable boxed.value c.in_ok-new.field-0.value c.into_dyn_box.ensures.1
+    ∙ ap means c.in_ok-new.ensures.ok in
     record {
-      machines = map-take_push (λ b. (own-1.entry b.vtable).1.program b.value) c.loop-p.machines.items c.push.new.self.items boxed (source_programs source) c.loop-p.p (program machine) c.in_ok-push.ensures.items c.loop-p.invariant.machines runs c.in_ok-machine.ensures.program;
-      understood = map-take_push (λ b. (own-1.entry b.vtable).1.resumed b.value) c.loop-p.machines.items c.push.new.self.items boxed (resumed_of_all source c.args.run.now.native) c.loop-p.p (resumed machine) c.in_ok-push.ensures.items c.loop-p.invariant.understood understands c.in_ok-machine.ensures.understood;
+      machines = map-take_push (λ b. ((own-1.entry b.vtable).1.means b.value).program) c.loop-p.machines.items c.push.new.self.items boxed (source_programs source) c.loop-p.p (means machine).program c.in_ok-push.ensures.items c.loop-p.invariant.machines (ap (λ m. m.program) same) c.in_ok-machine.ensures.program;
+      understood = map-take_push (λ b. ((own-1.entry b.vtable).1.means b.value).resumed) c.loop-p.machines.items c.push.new.self.items boxed (resumed_of_all source c.args.run.now.native) c.loop-p.p (means machine).resumed c.in_ok-push.ensures.items c.loop-p.invariant.understood (ap (λ m. m.resumed) same) c.in_ok-machine.ensures.understood;
     }
 
 pub returns-in-Failing-clause-found : goal.returns-in-Failing-clause-found

@@ -17,7 +17,7 @@ statement_of-statement-requires-clause-of g c =
 
 pub statement_of-statement-requires-clause-there : goal.statement_of-statement-requires-clause-there
 statement_of-statement-requires-clause-there g c =
-    let programs = world_programs (λ b. (goal.Machine-dyn g b).program b.1) c.loop-place.world in
+    let programs = world_programs (λ b. (goal.Machine-dyn g b).means b.1) c.loop-place.world in
     let letter = get_or c.letters-letter-items.result.now c.loop-place.place (Run 0) in
     let there = is_possible-there programs (budget_of c.loop-place.world) (letters_of c.loop-place.world) letter (sym c.possible.ensures ∙ c.if-not-possible.false) in
     omega (arith, there, ap length (c.loop-place.invariant.same.programs ∙ c.requires.of.programs), c.process-process.ensures)
@@ -37,7 +37,7 @@ loop-place-preserved g c =
     let went = c.step.ensures.same in
     let copied : c.unwrap-before.result.items ≡ c.registers.result.now = (rw c.unwrap-before.ensures at c.try_from.ensures).0 in
     record {
-      same = same_since _ _ _ _ _ _ kept.same went;
+      same = same_since _ _ _ _ kept.same went;
       went = letters-more _ _ _ c.args.schedule.now c.loop-place.place _ c.step.ensures.stepped kept.went c.letters-letter-items.ensures.value here;
       rows = rows-past _ before _ _ _ _ _ c.step.ensures.stepped c.push.ensures.items kept.rows (record {
         number = number-told _ _ _ _ c.step.ensures.stepped c.depth.ensures.value;

@@ -25,7 +25,7 @@ loop-onset-preserved g c =
     let same = c.back_to.ensures.same.programs ∙ kept.same.programs in
     let here = found-at (meets_demands (clauses_asked false c.args.clauses.now) c.args.allows_faults) _ _ (letters_of c.args.world.now) _ _ c.loop-onset.onset (c.loop-onset.onset - 1) _ same kept.at c.back_to.ensures.back (omega arith) told ∙ c.if-holds-2.false in
     record {
-      same = same_since _ _ _ _ _ _ kept.same c.back_to.ensures.same;
+      same = same_since _ _ _ _ kept.same c.back_to.ensures.same;
       at = c.back_to.ensures.back ∙ (ap (take (c.loop-onset.onset - 1)) kept.at ∙ take-take (c.loop-onset.onset - 1) c.loop-onset.onset (letters_of c.args.world.now) (omega arith));
       there = omega (arith, kept.there);
       refused = one-less (λ k. meets_demands (clauses_asked false c.args.clauses.now) c.args.allows_faults (outcome_of _ (take k (letters_of c.args.world.now))) ≡ false) c.loop-onset.onset (length (letters_of c.args.world.now)) kept.refused here;

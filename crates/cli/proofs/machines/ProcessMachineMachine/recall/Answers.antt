@@ -1,7 +1,4 @@
-use Rattle.cli.specs.declared.machines.ProcessMachine.TheVariants as process
-use Rattle.cli.proofs.MachinesOfKinds.{same_as_its_kind}
 use Rattle.cli.proofs.machines.ProcessMachineMachine.recall.Goals as goal
 
 pub returns-in-Tree-clause-same : goal.returns-in-Tree-clause-same
-returns-in-Tree-clause-same c =
-    same_as_its_kind process.Tree _ _ _ _ _ c.in-Tree.is (record { runs = c.recall-in-Tree.ensures.same.runs; understands = c.recall-in-Tree.ensures.same.understands })
+returns-in-Tree-clause-same c = rw c.in-Tree.is c.recall-in-Tree.ensures.same
