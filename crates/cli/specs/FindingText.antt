@@ -1,6 +1,6 @@
 -- What is printed of what was found, and whether it tells of a failing schedule.
 use Rattle.std.specs.Prelude.{◌++◌, ℕ, Bool, false, List, is_some}
-use Rattle.drawing.specs.declared.breadths.Breadth.{Breadth}
+use Rattle.breadths.specs.declared.breadths.Breadth.{Breadth}
 use Rattle.drawing.specs.DrawingText.{drawing_text}
 use Rattle.part_texts.specs.PartText.{explored_part, least_part, part_text}
 use Rattle.report.specs.ReportText.{standing_text}

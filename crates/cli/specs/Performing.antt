@@ -1,7 +1,7 @@
 -- What the program does with what was ordered.
 use Rattle.std.specs.Prelude.{◌≡◌, ◌≢◌, ◌⊎◌, ⊤, ℕ, ◌<◌, ◌≤◌, ◌++◌, List, codes, map, None, IsNone, Option, Result, Ok, Err, option_and_then}
 use Rattle.std.specs.List.{FoldsTo}
-use Rattle.drawing.specs.declared.breadths.Breadth.{Breadth}
+use Rattle.breadths.specs.declared.breadths.Breadth.{Breadth}
 use Rattle.texts.specs.Appending.{Writes}
 use Rattle.command_words.specs.declared.TheConstants.{VERSION}
 use Rattle.cli.specs.Answers.{IsAnswered, IsRefusedWith}

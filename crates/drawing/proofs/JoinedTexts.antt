@@ -4,7 +4,7 @@ use Rattle.std.proofs.lemmas.List.{append-nil}
 use Rattle.texts.specs.Appending.{Puts}
 use Rattle.texts.proofs.Appending.{after_text, fault_before}
 use Rattle.drawing.specs.Cells.{joined}
-use Rattle.drawing.specs.declared.breadths.Room.{Room}
+use Rattle.breadths.specs.declared.breadths.Room.{Room}
 use Rattle.drawing.specs.DrawingText.{gap_before, gap_past, labelled_text, table_text}
 use Rattle.drawing.specs.Layout.{columns_shown, widths}
 use Rattle.drawing.specs.Labels.{Labels}

@@ -1,7 +1,7 @@
 -- The text of a drawing.
 use Rattle.std.specs.Prelude.{ℕ, zero, suc, ◌+◌, ◌-◌, ◌==◌, List, [], ◌++◌, length, codes, decimal, if◌then◌else◌, get_or}
-use Rattle.drawing.specs.declared.breadths.Breadth.{Breadth}
-use Rattle.drawing.specs.declared.breadths.Room.{Room}
+use Rattle.breadths.specs.declared.breadths.Breadth.{Breadth}
+use Rattle.breadths.specs.declared.breadths.Room.{Room}
 use Rattle.drawing.specs.declared.layout.TheConstants.{PARTING}
 use Rattle.drawing.specs.Cells.{cell_text, joined}
 use Rattle.drawing.specs.Layout.{columns_shown, line_count, widths, written_left_out}

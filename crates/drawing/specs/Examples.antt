@@ -16,9 +16,8 @@ use Rattle.drawing.specs.declared.drawings.Deed.TheVariants as deed
 use Rattle.drawing.specs.declared.drawings.RegisterValue.{RegisterValue}
 use Rattle.drawing.specs.declared.drawings.LetterRow.{LetterRow}
 use Rattle.drawing.specs.Cells.{row_text}
-use Rattle.drawing.specs.Choices.{is_told, tells_registers}
-use Rattle.drawing.specs.declared.breadths.Breadth.{Breadth}
-use Rattle.drawing.specs.declared.breadths.Room.TheVariants.{Places, Usual, Whole}
+use Rattle.breadths.specs.declared.breadths.Breadth.{Breadth}
+use Rattle.breadths.specs.declared.breadths.Room.TheVariants.{Places, Usual, Whole}
 use Rattle.drawing.specs.DrawingText.{drawing_text, left_out_text}
 use Rattle.drawing.specs.Layout.{columns_shown, written_left_out}
 use Rattle.drawing.specs.RegisterNames.{name_in, register_names}
@@ -233,18 +232,6 @@ then_the_one_that_is_read = refl
 pub all_are_shown :
     columns_shown four_uses (10 ∷ 30 ∷ 30 ∷ 30 ∷ 30 ∷ 30 ∷ []) Whole ≡ 0 ∷ 1 ∷ 2 ∷ 3 ∷ 4 ∷ 5 ∷ []
 all_are_shown = refl
-
--- ---- registers that a text tells
-
-pub one_and_three_to_five :
-    map (is_told (codes "1,3-5")) (0 ∷ 1 ∷ 2 ∷ 3 ∷ 5 ∷ 6 ∷ [])
-    ≡ false ∷ true ∷ false ∷ true ∷ true ∷ false ∷ []
-one_and_three_to_five = refl
-
-pub which_tell_registers : map tells_registers
-    (codes "0,63" ∷ codes "5-5" ∷ codes "5-4" ∷ codes "64" ∷ codes "0,,1" ∷ codes "01" ∷ [] ∷ [])
-    ≡ true ∷ true ∷ false ∷ false ∷ false ∷ false ∷ false ∷ []
-which_tell_registers = refl
 
 -- ---- how many are left out
 

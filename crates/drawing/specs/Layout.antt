@@ -3,11 +3,11 @@ use Rattle.std.specs.Prelude.{ℕ, zero, suc, ◌+◌, ◌-◌, ◌==◌, Bool, 
 use Rattle.std.specs.List.{list_any, range_with_len}
 use Rattle.regmodel.specs.Footprints.{footprint_of}
 use Rattle.regmodel.specs.Footprints as footprints
-use Rattle.drawing.specs.declared.breadths.Room.{Room}
-use Rattle.drawing.specs.declared.breadths.Room.TheVariants.{Chosen, Places, Usual, Whole}
+use Rattle.breadths.specs.declared.breadths.Room.{Room}
+use Rattle.breadths.specs.declared.breadths.Room.TheVariants.{Chosen, Places, Usual, Whole}
 use Rattle.drawing.specs.declared.layout.TheConstants.{NARROW, PARTING, WIDE}
 use Rattle.drawing.specs.Cells.{cell_text}
-use Rattle.drawing.specs.Choices.{is_told}
+use Rattle.breadths.specs.Choices.{is_told}
 use Rattle.drawing.specs.declared.drawings.Deed.{Deed}
 use Rattle.drawing.specs.declared.drawings.Deed.TheVariants.{Did, Crash}
 use Rattle.drawing.specs.Labels.{Labels}

@@ -1,5 +1,4 @@
 pub mod Cells
-pub mod Choices
 pub mod DrawingText
 pub mod Examples
 pub mod Labels

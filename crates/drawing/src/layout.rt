@@ -4,12 +4,11 @@
 ghost use Rattle.std.specs.Prelude.{◌≡◌, ◌≤◌, ◌<◌, ◌*◌, All, length};
 ghost use Rattle.drawing.specs.Layout as layout;
 
-use crate::breadths::Room;
 use crate::cells::MOST_COLUMNS;
-use crate::choices::is_told;
 use crate::drawings::Drawing;
 use crate::labels::Labels;
 use arrayvec::ArrayVec;
+use breadths::{Room, is_told};
 
 /// How many spaces part two columns.
 pub(crate) const PARTING: usize = 2;

@@ -1,10 +1,8 @@
 //! Draws a schedule: what each of its letters did, and what the registers held after it.
 #![tactic(auto)]
 
-mod breadths;
 mod cell_bytes;
 mod cells;
-mod choices;
 mod deeds;
 mod drawings;
 mod gaps;
@@ -17,8 +15,6 @@ mod stops;
 mod tables;
 mod writing;
 
-pub use breadths::{Breadth, Room};
-pub use choices::tells_registers;
 pub use deeds::draw;
 pub use drawings::{Deed, Drawing, LetterRow, RegisterValue};
 pub use statement_lines::statement_line;

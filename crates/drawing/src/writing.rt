@@ -2,11 +2,11 @@
 
 ghost use Rattle.drawing.specs.DrawingText.{drawing_text};
 
-use crate::breadths::Breadth;
 use crate::drawings::Drawing;
 use crate::labels::Labels;
 use crate::layout::{columns_shown, widths_of};
 use crate::tables::Table;
+use breadths::Breadth;
 use std::io::Write;
 use texts::{Block, Text, WriteFault};
 

@@ -5,10 +5,10 @@ use Rattle.regmodel.specs.declared.limits.TheConstants.{MOST_CRASHES, MOST_LETTE
 use Rattle.clap.specs.Matches.{first_value}
 use Rattle.clap.specs.Words.{one_text}
 use Rattle.clap.specs.declared.parser.matches.Found.{Found}
-use Rattle.drawing.specs.Choices.{tells_registers}
-use Rattle.drawing.specs.declared.breadths.Breadth.{Breadth}
-use Rattle.drawing.specs.declared.breadths.Room.{Room}
-use Rattle.drawing.specs.declared.breadths.Room.TheVariants.{Chosen, Places, Usual, Whole}
+use Rattle.breadths.specs.Choices.{tells_registers}
+use Rattle.breadths.specs.declared.breadths.Breadth.{Breadth}
+use Rattle.breadths.specs.declared.breadths.Room.{Room}
+use Rattle.breadths.specs.declared.breadths.Room.TheVariants.{Chosen, Places, Usual, Whole}
 use Rattle.orders.specs.Flags.{IsFlagTold}
 use Rattle.orders.specs.NumberTexts.{IsNumberText}
 use Rattle.orders.specs.declared.bounds.TheConstants.{CACHE}

@@ -2,7 +2,7 @@
 
 ghost use Rattle.std.specs.Prelude.{◌≡◌, None, Some, if◌then◌else◌, option_map};
 
-use drawing::Breadth;
+use breadths::Breadth;
 use patterns::Pattern;
 use regmodel::{Effort, Part, Prefix};
 

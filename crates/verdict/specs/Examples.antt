@@ -11,9 +11,9 @@ use Rattle.regmodel.specs.declared.outcomes.End.{End}
 use Rattle.regmodel.specs.declared.outcomes.End.TheVariants as end
 use Rattle.regmodel.specs.declared.outcomes.ProcEnd.{ProcEnd}
 use Rattle.regmodel.specs.declared.statements.Op.TheVariants as op
-use Rattle.drawing.specs.declared.breadths.Breadth.{Breadth}
-use Rattle.drawing.specs.declared.breadths.Room.{Room}
-use Rattle.drawing.specs.declared.breadths.Room.TheVariants.{Places, Usual, Whole}
+use Rattle.breadths.specs.declared.breadths.Breadth.{Breadth}
+use Rattle.breadths.specs.declared.breadths.Room.{Room}
+use Rattle.breadths.specs.declared.breadths.Room.TheVariants.{Places, Usual, Whole}
 use Rattle.patterns.specs.declared.patterns.StandingPattern.TheVariants.{Any, Done, Just}
 use Rattle.verdict.specs.Demands.{clauses_asked, meets_demands}
 use Rattle.verdict.specs.EmptyRanges.{is_empty_range}

@@ -1,7 +1,7 @@
 -- Whether a source holds, in words, and the list of its outcomes.
 use Rattle.std.specs.Prelude.{ℕ, Bool, List, ◌++◌, length, Option, Some, None, codes}
 use Rattle.std.specs.List.{flat_map}
-use Rattle.drawing.specs.declared.breadths.Breadth.{Breadth}
+use Rattle.breadths.specs.declared.breadths.Breadth.{Breadth}
 use Rattle.regmodel.specs.declared.outcomes.ProcEnd.{ProcEnd}
 use Rattle.report.specs.PlainReport.{Findings}
 use Rattle.texts.specs.NumberText.{number_line}

@@ -1,9 +1,9 @@
 -- The command that draws a schedule.
 use Rattle.std.specs.Prelude.{ℕ, ◌==◌, Bool, false, if◌then◌else◌, List, [], ◌∷◌, ◌++◌, codes, decimal}
 use Rattle.std.specs.Str.{byte}
-use Rattle.drawing.specs.declared.breadths.Breadth.{Breadth}
-use Rattle.drawing.specs.declared.breadths.Room.{Room}
-use Rattle.drawing.specs.declared.breadths.Room.TheVariants.{Chosen, Places, Usual, Whole}
+use Rattle.breadths.specs.declared.breadths.Breadth.{Breadth}
+use Rattle.breadths.specs.declared.breadths.Room.{Room}
+use Rattle.breadths.specs.declared.breadths.Room.TheVariants.{Chosen, Places, Usual, Whole}
 use Rattle.regmodel.specs.Letters.{Schedule}
 use Rattle.regmodel.specs.ScheduleText.{schedule_text}
 use Rattle.verdict.specs.ShellWords.{operand_text}

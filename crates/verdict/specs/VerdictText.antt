@@ -6,7 +6,7 @@ use Rattle.regmodel.specs.declared.clauses.Subject.TheVariants.{Named, Done}
 use Rattle.regmodel.specs.declared.limits.TheConstants.{MOST_LETTERS}
 use Rattle.regmodel.specs.Judging.{is_running}
 use Rattle.report.specs.PlainReport.{Findings}
-use Rattle.drawing.specs.declared.breadths.Breadth.{Breadth}
+use Rattle.breadths.specs.declared.breadths.Breadth.{Breadth}
 use Rattle.drawing.specs.DrawingText.{drawing_text}
 use Rattle.verdict.specs.EmptyRanges.{empty_text}
 use Rattle.verdict.specs.FaultText.{fault_line, fault_text}

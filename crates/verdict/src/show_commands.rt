@@ -4,7 +4,7 @@ ghost use Rattle.std.specs.Prelude.{◌≡◌};
 ghost use Rattle.verdict.specs.ShowCommands as spec;
 
 use crate::shell_words::ShellPath;
-use drawing::{Breadth, Room};
+use breadths::{Breadth, Room};
 use regmodel::Prefix;
 use std::io::Write;
 use texts::{Block, Text, WriteFault};

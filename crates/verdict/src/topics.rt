@@ -1,6 +1,6 @@
 //! Of what is told: how the program was called, the file, its text, and how broad a drawing may be.
 
-use drawing::Breadth;
+use breadths::Breadth;
 
 /// Of what is told: the text in the file of a path, and how broad a drawing of a schedule may be;
 /// and by which words the program was called that tells it.

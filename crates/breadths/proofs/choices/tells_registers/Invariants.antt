@@ -1,8 +1,8 @@
 use Rattle.std.proofs.Common.{◌≡◌, ◌+◌, length}
 use Rattle.std.specs.List.{list_all}
 use Rattle.std.specs.Option.{option_map_or}
-use Rattle.drawing.specs.Choices.{is_range, parts_left, tells_registers}
-use Rattle.drawing.proofs.choices.tells_registers.Given as goal
+use Rattle.breadths.specs.Choices.{is_range, parts_left, tells_registers}
+use Rattle.breadths.proofs.choices.tells_registers.Given as goal
 
 -- each part so far tells a range
 abbrev pub invariant-loop-left : goal.invariant-loop-left

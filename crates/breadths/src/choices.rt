@@ -2,7 +2,7 @@
 
 ghost use Rattle.std.specs.Prelude.{◌≡◌, ◌<◌, ◌==◌, ◌∷◌, IfSome, length};
 ghost use Rattle.std.specs.List.{position};
-ghost use Rattle.drawing.specs.Choices as spec;
+ghost use Rattle.breadths.specs.Choices as spec;
 
 use reglang::{number_in, word_of};
 use regmodel::limits::MOST_REGISTERS;
@@ -24,7 +24,7 @@ pub fn tells_registers(text: &[u8]) -> bool
 }
 
 /// Whether a text tells a register.
-pub(crate) fn is_told(text: &[u8], register: usize) -> bool
+pub fn is_told(text: &[u8], register: usize) -> bool
     ensures { result ≡ spec.is_told text.now register }
 {
     let mut left = Some(text);

@@ -1,8 +1,8 @@
 use Rattle.std.proofs.Common.{◌≡◌, ◌+◌, length}
 use Rattle.std.specs.List.{list_any}
 use Rattle.std.specs.Option.{option_map_or}
-use Rattle.drawing.specs.Choices.{is_told, is_within, parts_left}
-use Rattle.drawing.proofs.choices.is_told.Given as goal
+use Rattle.breadths.specs.Choices.{is_told, is_within, parts_left}
+use Rattle.breadths.proofs.choices.is_told.Given as goal
 
 -- no part so far tells the register
 abbrev pub invariant-loop-left : goal.invariant-loop-left

@@ -1,9 +1,9 @@
 use Rattle.std.proofs.Common.{ℕ, ◌+◌, ◌-◌, ◌==◌, ◌∷◌, Bool, drop, length, length-drop, take, ap, sym, ◌∙◌, arith}
 use Rattle.std.proofs.lemmas.List.{take_all}
 use Rattle.std.specs.Str.{byte}
-use Rattle.drawing.specs.Choices.{parts}
-use Rattle.drawing.proofs.TextParts.{part_alone, part_before}
-use Rattle.drawing.proofs.choices.split_part.Goals as goal
+use Rattle.breadths.specs.Choices.{parts}
+use Rattle.breadths.proofs.TextParts.{part_alone, part_before}
+use Rattle.breadths.proofs.choices.split_part.Goals as goal
 
 abbrev is_comma : ℕ → Bool
 is_comma b = b == byte ","
