@@ -1,5 +1,5 @@
 -- Worked examples: the definitions compute.
-use Rattle.std.specs.Prelude.{◌≡◌, ℕ, ◌-◌, Bool, true, false, List, [], ◌∷◌, ◌++◌, map, refl, None, Some, codes}
+use Rattle.std.specs.Prelude.{◌≡◌, ℕ, ◌-◌, Bool, true, false, List, [], ◌∷◌, ◌++◌, refl, None, Some, codes}
 use Rattle.std.specs.Fmt.{digits}
 use Rattle.regmodel.specs.declared.accesses.Access.{Access}
 use Rattle.regmodel.specs.declared.accesses.Access.TheVariants as access

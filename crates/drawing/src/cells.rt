@@ -1,6 +1,6 @@
 //! The texts of a drawing, cell by cell.
 
-ghost use Rattle.std.specs.Prelude.{◌≡◌, ◌≤◌, ◌<◌, ◌+◌, ◌++◌, codes, decimal, length, option_map};
+ghost use Rattle.std.specs.Prelude.{◌≡◌, ◌≤◌, ◌+◌, ◌++◌, codes, decimal, length, option_map};
 ghost use Rattle.std.specs.List.{list_any};
 ghost use Rattle.texts.specs.OutcomeText.{end_text, fate_text};
 ghost use Rattle.drawing.specs.Cells as texts;

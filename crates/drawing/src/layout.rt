@@ -1,7 +1,7 @@
 //! How wide the columns of a drawing are, which are shown, and how many registers left out are
 //! written.
 
-ghost use Rattle.std.specs.Prelude.{◌≡◌, ◌≤◌, ◌<◌, ◌*◌, All, length};
+ghost use Rattle.std.specs.Prelude.{◌≡◌, ◌≤◌, ◌<◌, All, length};
 ghost use Rattle.drawing.specs.Layout as layout;
 
 use crate::cells::MOST_COLUMNS;

@@ -3,7 +3,6 @@
 
 ghost use Rattle.std.specs.Prelude.{◌≡◌, ◌≤◌, IfSome, IsTrue, [], ◌∷◌, length, map, take};
 ghost use Rattle.told.specs.Numbers.{numbers_in};
-ghost use Rattle.regmodel.specs.declared.accesses.Pending.{Pending};
 ghost use Rattle.regmodel.specs.Prelude.{act_of, IsReplyTo, Replies};
 ghost use Rattle.regmodel.specs.declared.accesses.Pending.TheVariants.{Done};
 ghost use Rattle.regmodel.specs.Kept.{values_in};
@@ -33,11 +32,9 @@ pub use sparse::put_sparse;
 pub use stops::{Stopped, stops_at};
 pub use told::Told;
 
-/// A program in progress, known by its program and by its rest: what is pending after each list of
-/// further replies. No call takes memory.
+/// A program in progress, which a clause knows by what it means. No call takes memory.
 pub trait Machine: Drop + Send {
-    /// What it runs, what is pending after each list of further replies, and what is pending after
-    /// them where it stands as a list of numbers tells.
+    /// What it means: its program, its rest, and what is resumed where it stands as numbers tell.
     ghost means: { Self → Meaning };
 
     /// Goes to the program's start.

@@ -115,9 +115,8 @@ impl Machine for Grid {
 
     ghost means = { λ m. record {
       program = expansion (kind.Grid m.base m.side m.id) m.registers;
-      rest = grid_rest
-          (grid_from m.base m.id m.registers (m.side - m.level) m.level m.vertex) m.vertex
-          m.stage;
+      rest = grid_rest (grid_from m.base m.id m.registers (m.side - m.level) m.level m.vertex)
+          m.vertex m.stage;
       resumed = grid_resumed m.base m.side m.id m.registers;
     } };
 

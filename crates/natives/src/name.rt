@@ -101,11 +101,9 @@ impl Machine for NameSlots {
     ghost use Rattle.natives.specs.NameSlots.{round_rest, reading_rest, name_resumed};
 
     ghost means = { λ m. record {
-      program = expansion
-          (kind.Name m.round.slots.base m.round.slots.count m.round.slots.own)
+      program = expansion (kind.Name m.round.slots.base m.round.slots.count m.round.slots.own)
           m.round.slots.registers;
-      rest = stage_rest (round_rest m.round) (reading_rest m.round) m.round.proposal
-          m.round.stage;
+      rest = stage_rest (round_rest m.round) (reading_rest m.round) m.round.proposal m.round.stage;
       resumed = name_resumed m.round.slots.base m.round.slots.count m.round.slots.own
           m.round.slots.registers;
     } };

@@ -85,8 +85,7 @@ impl Machine for Names {
     ghost use Rattle.natives.specs.Names.{scan_round_rest, scan_rest, names_resumed};
 
     ghost means = { λ m. record {
-      program = expansion
-          (kind.Names m.round.slots.base m.round.slots.count m.round.slots.own)
+      program = expansion (kind.Names m.round.slots.base m.round.slots.count m.round.slots.own)
           m.round.slots.registers;
       rest = stage_rest (scan_round_rest m.round) (scan_rest m.round) m.round.proposal
           m.round.stage;

@@ -246,8 +246,7 @@ impl Machine for Tree {
 
     ghost means = { λ m. record {
       program = expansion (kind.Tree m.base m.depth m.id m.value) m.registers;
-      rest = tree_rest
-          (from_vertex m.base m.registers m.depth m.id m.value (suc m.levels) m.vertex)
+      rest = tree_rest (from_vertex m.base m.registers m.depth m.id m.value (suc m.levels) m.vertex)
           (from_stop m.base m.registers m.depth m.value m.vertex)
           (from_at m.base m.registers m.last m.reached m.numbers.items) m.numbers.items m.stage;
       resumed = tree_resumed m.base m.registers m.depth m.last m.id m.value;

@@ -1,5 +1,5 @@
 -- Which schedule leads to an outcome that was looked for, in words.
-use Rattle.std.specs.Prelude.{ℕ, ◌==◌, Bool, if◌then◌else◌, List, [], ◌++◌, length, Option, Some, None, codes, decimal}
+use Rattle.std.specs.Prelude.{ℕ, ◌==◌, Bool, if◌then◌else◌, List, [], ◌++◌, length, Some, None, codes, decimal}
 use Rattle.regmodel.specs.declared.outcomes.ProcEnd.{ProcEnd}
 use Rattle.texts.specs.OutcomeText.{outcome_text}
 use Rattle.breadths.specs.declared.breadths.Breadth.{Breadth}
