@@ -56,7 +56,8 @@ impl Text for PartHead {
 struct BoundsOf<'a>(&'a PartHead);
 
 impl Text for BoundsOf<'_> {
-    ghost text = { λ bounds. let head = bounds.0.now in part_bounds_text head.processes head.length head.crashes head.cut };
+    ghost text = { λ bounds. let head = bounds.0.now in
+        part_bounds_text head.processes head.length head.crashes head.cut };
 
     fn put<W: Write>(&self, out: &mut W, block: &mut Block) -> Result<(), WriteFault> {
         let settings = self.0.settings();

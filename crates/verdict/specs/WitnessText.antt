@@ -38,8 +38,8 @@ abbrev pub no_shorter_text : Bool → ℕ → List ℕ
 no_shorter_text is_shortest sought =
     if is_shortest then codes "No shorter one leads " ++ nowhere sought ++ codes ".\n" else []
 
--- what is told of a witness, with the drawing of the schedule, which may be so broad, and the command
--- that draws it again
+-- what is told of a witness, with the drawing of the schedule, which may be so broad, and the
+-- command that draws it again
 abbrev pub witness_text : List ℕ → List ℕ → List ℕ → Breadth → ℕ → Bool → Witness → List ℕ
 witness_text program path text breadth sought is_shortest witness =
     leading_text path (length witness.schedule) witness.outcome
