@@ -9,7 +9,7 @@ ITEM = re.compile(
     re.MULTILINE,
 )
 GENERICS = re.compile(r"^\s*<[^>]*>")
-EXPORT = re.compile(r"^pub use (\w+)::(?:\{(.*?)\}|(\w+));", re.MULTILINE | re.DOTALL)
+EXPORT = re.compile(r"^pub use (?:crate::)?(\w+)::(?:\{(.*?)\}|(\w+));", re.MULTILINE | re.DOTALL)
 
 
 def exported(text):

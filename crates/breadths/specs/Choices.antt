@@ -3,8 +3,8 @@ use Rattle.std.specs.Prelude.{ℕ, ◌+◌, ◌==◌, ◌&&◌, Bool, false, if�
 use Rattle.std.specs.Borrow.{Bor}
 use Rattle.std.specs.List.{list_all, list_any, position, slice_split}
 use Rattle.std.specs.Str.{byte}
-use Rattle.reglang.specs.Forms.{number_in}
-use Rattle.reglang.specs.Words.{only_below, word_of}
+use Rattle.reglines.specs.Forms.{number_in}
+use Rattle.reglines.specs.Words.{only_below, word_of}
 use Rattle.regmodel.specs.declared.limits.TheConstants.{MOST_REGISTERS}
 
 -- the number of a register that a word writes

@@ -4,7 +4,7 @@ ghost use Rattle.std.specs.Prelude.{◌≡◌, ◌<◌, ◌==◌, ◌∷◌, IfS
 ghost use Rattle.std.specs.List.{position};
 ghost use Rattle.breadths.specs.Choices as spec;
 
-use reglang::{number_in, word_of};
+use reglines::{number_in, word_of};
 use regmodel::limits::MOST_REGISTERS;
 
 /// Whether a text tells registers: each of its parts, between commas, is the number of a register,

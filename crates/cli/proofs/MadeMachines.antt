@@ -3,10 +3,10 @@ use Rattle.std.proofs.Common.{◌≡◌, ◌+◌, ◌++◌, ◌∷◌, [], Bool,
 use Rattle.std.specs.declared.alloc.Global.{Global}
 use Rattle.machine.specs.Meaning.{Meaning, all_programs, all_resumed}
 use Rattle.reglang.specs.Sources.{source_programs}
-use Rattle.explorer.proofs.GrownLists.{All-before}
+use Rattle.pieces.proofs.GrownLists.{All-before}
 use Rattle.explorer.specs.declared.tasks.Job.{Job}
 use Rattle.explorer.specs.Running.{AreMachinesOf}
-use Rattle.explorer.specs.Searches.{Understood}
+use Rattle.explorer.specs.Tasks.{Understood}
 use Rattle.cli.specs.Understanding.{AreMade, resumed_of_all}
 
 -- the machines of a job: all lists that were made for its source, but the last

@@ -3,7 +3,7 @@ use Rattle.std.specs.Prelude.{◌≡◌, ◌≢◌, ◌⊎◌, ⊤, ℕ, ◌<◌
 use Rattle.std.specs.List.{FoldsTo}
 use Rattle.breadths.specs.declared.breadths.Breadth.{Breadth}
 use Rattle.texts.specs.Appending.{Writes}
-use Rattle.command_words.specs.declared.TheConstants.{VERSION}
+use Rattle.orders.specs.declared.command_words.TheConstants.{VERSION}
 use Rattle.cli.specs.Answers.{IsAnswered, IsRefusedWith}
 use Rattle.cli.specs.FileCounts.{counts_text, no_counts, with_one_more}
 use Rattle.cli.specs.Merges.{IsMergePerformed}

@@ -7,8 +7,7 @@ ghost use Rattle.cli.specs.Statuses.{line_status, merge_status};
 ghost use Rattle.cli.specs.declared.faults.AnswerFault.TheVariants.{Refused};
 
 use crate::standings::RefusedLetter;
-use explorer::faults::NOT_STARTED;
-use explorer::{NO_MEMORY, RunFault, TOO_MANY};
+use explorer::{NO_MEMORY, NOT_STARTED, RunFault, TOO_MANY};
 use merging::MergeFault;
 use orders::{Reason, Refusal};
 use part_texts::PartCause;

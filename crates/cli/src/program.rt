@@ -10,8 +10,7 @@ ghost use Rattle.cli.specs.Performing.{AreSummed, IsNext, IsPerformed, IsVersion
 use crate::answers::answer;
 use crate::merges::merge_files;
 use crate::outputs::{Output, tell, tell_unwritten};
-use command_words::VERSION;
-use orders::{Opener, Order, Question, Request, refuse, worse};
+use orders::{Opener, Order, Question, Request, VERSION, refuse, worse};
 use std::alloc::Global;
 use std::io::Write;
 use std::sync::Wait;

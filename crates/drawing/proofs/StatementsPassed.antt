@@ -1,7 +1,7 @@
 -- The lines of statements, past one line.
 use Rattle.std.proofs.Common.{◌≡◌, ℕ, suc, ◌+◌, ◌==◌, ◌&&◌, true, false, List, [], ◌∷◌, ◌++◌, ap}
 use Rattle.std.specs.Prelude.{if◌then◌else◌, slice_get}
-use Rattle.reglang.specs.Forms.{read_line}
+use Rattle.reglines.specs.Forms.{read_line}
 use Rattle.drawing.specs.StatementLines.{begun_with, says_statement, statements_after}
 
 -- a line that is no statement of the process has no part in its list

@@ -2,7 +2,7 @@
 use Rattle.std.specs.Prelude.{ℕ, if◌then◌else◌, List, [], ◌∷◌, ◌++◌, map, length, Option, Some, None, codes, decimal, get_or, nat_le}
 use Rattle.std.specs.List.{range_with_len}
 use Rattle.std.specs.Str.{bytes_eq}
-use Rattle.reglang.specs.Lines.{lines, words}
+use Rattle.reglines.specs.Lines.{lines, words}
 use Rattle.drawing.specs.declared.names.TheConstants.{MOST_NAME_BYTES}
 
 -- a name for each register, where it has one

@@ -1,11 +1,11 @@
 -- On which line of a text a process has a statement.
 use Rattle.std.specs.Prelude.{ℕ, suc, ◌+◌, ◌==◌, ◌&&◌, Bool, true, false, if◌then◌else◌, List, [], ◌∷◌, ◌++◌, Option, Some, is_some, Result, Ok, slice_get}
-use Rattle.reglang.specs.Forms.{read_line}
-use Rattle.reglang.specs.Lines.{lines}
-use Rattle.reglang.specs.Statements.{simple_of}
-use Rattle.reglang.specs.declared.arguments.Line.{Line}
-use Rattle.reglang.specs.declared.arguments.Line.TheVariants as line
-use Rattle.reglang.specs.declared.refusals.LineFault.{LineFault}
+use Rattle.reglines.specs.Forms.{read_line}
+use Rattle.reglines.specs.Lines.{lines}
+use Rattle.reglines.specs.Statements.{simple_of}
+use Rattle.reglines.specs.declared.arguments.Line.{Line}
+use Rattle.reglines.specs.declared.arguments.Line.TheVariants as line
+use Rattle.reglines.specs.declared.faults.LineFault.{LineFault}
 
 -- whether a line is a statement, or the use line that stands for all of them; one that parts or
 -- ends a block is none

@@ -1,13 +1,13 @@
 //! The names that the comments of a text give registers.
 
 ghost use Rattle.std.specs.Prelude.{◌≡◌, ◌≤◌, length, option_map};
-ghost use Rattle.reglang.specs.Lines.{lines, words};
+ghost use Rattle.reglines.specs.Lines.{lines, words};
 ghost use Rattle.drawing.specs.RegisterNames as spec;
 ghost use Rattle.drawing.specs.declared.names.TheConstants.{MOST_NAME_BYTES};
 
 use crate::cell_bytes::Cell;
 use arrayvec::ArrayVec;
-use reglang::{split_line, split_word};
+use reglines::{split_line, split_word};
 use std::marker::Model;
 
 /// The most bytes of a name.

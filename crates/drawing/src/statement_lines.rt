@@ -2,9 +2,9 @@
 
 ghost use Rattle.std.specs.Prelude.{◌≡◌, ◌<◌, ◌+◌, ◌-◌, ◌^◌, ◌==◌, ◌≤◌, ◌&&◌};
 ghost use Rattle.drawing.specs.StatementLines as spec;
-ghost use Rattle.reglang.specs.Forms as forms;
+ghost use Rattle.reglines.specs.Forms as forms;
 
-use reglang::{Line, read_line, split_line};
+use reglines::{Line, read_line, split_line};
 
 /// The number of the line of a text on which process p, counted from 0, has the statement with this
 /// number, counted from 0 as well; a use line counts as the only one of its process. None where it

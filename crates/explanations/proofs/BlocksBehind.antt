@@ -2,7 +2,7 @@
 use Rattle.std.proofs.Common.{◌≡◌, ℕ, zero, suc, ◌+◌, ◌-◌, ◌<◌, List, [], ◌∷◌, take, refl, ap, ◌∙◌, arith}
 use Rattle.explanations.specs.OpenBlocks.{open_behind, open_past}
 use Rattle.explanations.specs.declared.open_blocks.Opened.{Opened}
-use Rattle.reglang.specs.Forms.{read_line}
+use Rattle.reglines.specs.Forms.{read_line}
 
 one_line : (n k : ℕ) (line : List ℕ) (lines : List (List ℕ)) (blocks : List Opened) → open_behind n (take (suc k) (line ∷ lines)) blocks ≡ open_behind (n + 1) (take k lines) (open_past (n + 1) (read_line line) blocks)
 one_line n k line lines blocks = let next : suc n ≡ n + 1 = omega arith in ap (λ m. open_behind m (take k lines) (open_past m (read_line line) blocks)) next

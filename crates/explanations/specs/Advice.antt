@@ -7,12 +7,12 @@ use Rattle.explanations.specs.PassedLimits.{limit_of}
 use Rattle.explanations.specs.Wording.{is_end, is_line}
 use Rattle.explanations.specs.declared.open_blocks.Opened.{Opened}
 use Rattle.explanations.specs.declared.wording.TextCulprit.{TextCulprit}
-use Rattle.reglang.specs.Lines.{words}
-use Rattle.reglang.specs.declared.refusals.LineFault.{LineFault}
-use Rattle.reglang.specs.declared.refusals.LineFault.TheVariants as fault
+use Rattle.reglines.specs.Lines.{words}
+use Rattle.reglines.specs.declared.faults.LineFault.{LineFault}
+use Rattle.reglines.specs.declared.faults.LineFault.TheVariants as fault
 use Rattle.reglang.specs.declared.refusals.LineRefusal.{LineRefusal}
 use Rattle.reglang.specs.declared.refusals.LineRefusal.TheVariants.{Fault, Memory}
-use Rattle.reglang.specs.declared.words.Word.{Word}
+use Rattle.reglines.specs.declared.words.Word.{Word}
 
 -- what to change where the end of a text is misplaced, or a line with this first word
 abbrev pub move_words : TextCulprit → Word → Option Opened → List ℕ

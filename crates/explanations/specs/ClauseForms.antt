@@ -1,9 +1,9 @@
 -- The form of a check line, made of the table of properties.
 use Rattle.std.specs.Prelude.{ℕ, ◌==◌, if◌then◌else◌, List, [], ◌∷◌, ◌++◌, length, Option, Some, None, codes}
-use Rattle.reglang.specs.Spelling.{property_text}
-use Rattle.reglang.specs.declared.vocabulary.Property.{Property}
-use Rattle.reglang.specs.declared.vocabulary.Property.TheVariants as property
-use Rattle.reglang.specs.declared.vocabulary.TheConstants.{PROPERTIES}
+use Rattle.reglines.specs.Spelling.{property_text}
+use Rattle.reglines.specs.declared.vocabulary.Property.{Property}
+use Rattle.reglines.specs.declared.vocabulary.Property.TheVariants as property
+use Rattle.reglines.specs.declared.vocabulary.TheConstants.{PROPERTIES}
 
 -- the names of the numbers that follow a property
 abbrev pub number_names : Property → List ℕ

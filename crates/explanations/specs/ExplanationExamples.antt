@@ -8,11 +8,11 @@ use Rattle.explanations.specs.Misplaced.{place_words}
 use Rattle.explanations.specs.Nearest.{nearest}
 use Rattle.explanations.specs.OpenBlocks.{innermost, open_after}
 use Rattle.explanations.specs.declared.open_blocks.BlockKind.TheVariants as block
-use Rattle.reglang.specs.Lines.{words}
-use Rattle.reglang.specs.declared.refusals.LineFault.{LineFault}
-use Rattle.reglang.specs.declared.refusals.LineFault.TheVariants as fault
+use Rattle.reglines.specs.Lines.{words}
+use Rattle.reglines.specs.declared.faults.LineFault.{LineFault}
+use Rattle.reglines.specs.declared.faults.LineFault.TheVariants as fault
 use Rattle.reglang.specs.declared.refusals.LineRefusal.TheVariants.{Fault}
-use Rattle.reglang.specs.declared.vocabulary.Property.TheVariants as property
+use Rattle.reglines.specs.declared.vocabulary.Property.TheVariants as property
 
 -- a fault, a line, and the word of it that is at fault
 abbrev faulty : List (LineFault × List ℕ × Option (List ℕ))

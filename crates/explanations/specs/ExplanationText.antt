@@ -10,7 +10,7 @@ use Rattle.explanations.specs.Misfits.{word_at_fault}
 use Rattle.explanations.specs.declared.wording.TextCulprit.{TextCulprit}
 use Rattle.explanations.specs.declared.wording.TextCulprit.TheVariants.{End, Line, Word}
 use Rattle.reglang.specs.Checks.{line_at}
-use Rattle.reglang.specs.declared.refusals.LineFault.TheVariants as fault
+use Rattle.reglines.specs.declared.faults.LineFault.TheVariants as fault
 use Rattle.reglang.specs.declared.refusals.LineRefusal.{LineRefusal}
 use Rattle.reglang.specs.declared.refusals.LineRefusal.TheVariants.{Fault}
 use Rattle.reglang.specs.declared.reader.Rejection.{Rejection}

@@ -6,15 +6,15 @@ use Rattle.explanations.specs.Idioms.{idiom_of}
 use Rattle.explanations.specs.LineForms.{first_of, keyword_form, own_line_text, wanted_form}
 use Rattle.explanations.specs.Misfits.{first_that, is_unknown}
 use Rattle.explanations.specs.Nearest.{meant_text, nearest}
-use Rattle.reglang.specs.Forms.{target_of}
-use Rattle.reglang.specs.Sorts.{sorts_after}
-use Rattle.reglang.specs.Words.{first_byte_is, word_of}
-use Rattle.reglang.specs.declared.sorts.Sort.{Sort}
-use Rattle.reglang.specs.declared.sorts.Sort.TheVariants as sort
-use Rattle.reglang.specs.declared.vocabulary.Keyword.{Keyword}
-use Rattle.reglang.specs.declared.vocabulary.Keyword.TheVariants as keyword
-use Rattle.reglang.specs.declared.words.Word.{Word}
-use Rattle.reglang.specs.declared.words.Word.TheVariants as word
+use Rattle.reglines.specs.Forms.{target_of}
+use Rattle.reglines.specs.Sorts.{sorts_after}
+use Rattle.reglines.specs.Words.{first_byte_is, word_of}
+use Rattle.reglines.specs.declared.sorts.Sort.{Sort}
+use Rattle.reglines.specs.declared.sorts.Sort.TheVariants as sort
+use Rattle.reglines.specs.declared.vocabulary.Keyword.{Keyword}
+use Rattle.reglines.specs.declared.vocabulary.Keyword.TheVariants as keyword
+use Rattle.reglines.specs.declared.words.Word.{Word}
+use Rattle.reglines.specs.declared.words.Word.TheVariants as word
 
 -- whether a byte stands in an operator, here or in another language
 abbrev pub is_operator_byte : ℕ → Bool

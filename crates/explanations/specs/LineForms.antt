@@ -3,15 +3,15 @@ use Rattle.std.specs.Prelude.{ℕ, List, [], ◌∷◌, ◌++◌, Option, Some, 
 use Rattle.explanations.specs.ClauseForms.{check_form}
 use Rattle.explanations.specs.declared.line_forms.Form.{Form}
 use Rattle.explanations.specs.declared.line_forms.Form.TheVariants as form
-use Rattle.reglang.specs.Forms.{kind_of, property_of}
-use Rattle.reglang.specs.Spelling.{keyword_text}
-use Rattle.reglang.specs.Words.{word_of}
-use Rattle.reglang.specs.declared.vocabulary.Keyword.{Keyword}
-use Rattle.reglang.specs.declared.vocabulary.Keyword.TheVariants as keyword
-use Rattle.reglang.specs.declared.vocabulary.Kind.{Kind}
-use Rattle.reglang.specs.declared.vocabulary.Kind.TheVariants as kind
-use Rattle.reglang.specs.declared.words.Word.{Word}
-use Rattle.reglang.specs.declared.words.Word.TheVariants as word
+use Rattle.reglines.specs.Forms.{kind_of, property_of}
+use Rattle.reglines.specs.Spelling.{keyword_text}
+use Rattle.reglines.specs.Words.{word_of}
+use Rattle.reglines.specs.declared.vocabulary.Keyword.{Keyword}
+use Rattle.reglines.specs.declared.vocabulary.Keyword.TheVariants as keyword
+use Rattle.reglines.specs.declared.vocabulary.Kind.{Kind}
+use Rattle.reglines.specs.declared.vocabulary.Kind.TheVariants as kind
+use Rattle.reglines.specs.declared.words.Word.{Word}
+use Rattle.reglines.specs.declared.words.Word.TheVariants as word
 
 -- what an expression and an operand may be
 abbrev sorts_words : List ℕ

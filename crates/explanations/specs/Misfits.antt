@@ -2,20 +2,20 @@
 use Rattle.std.specs.Prelude.{ℕ, Bool, true, false, not, if◌then◌else◌, List, [], ◌∷◌, Option, Some, None, is_some, nat_lt, option_map}
 use Rattle.regmodel.specs.declared.limits.TheConstants.{GREATEST_VALUE}
 use Rattle.regmodel.specs.declared.statements.Operand.TheVariants as operand
-use Rattle.reglang.specs.declared.refusals.LineFault.{LineFault}
-use Rattle.reglang.specs.declared.refusals.LineFault.TheVariants as fault
+use Rattle.reglines.specs.declared.faults.LineFault.{LineFault}
+use Rattle.reglines.specs.declared.faults.LineFault.TheVariants as fault
 use Rattle.reglang.specs.declared.refusals.LineRefusal.{LineRefusal}
 use Rattle.reglang.specs.declared.refusals.LineRefusal.TheVariants.{Fault, Memory}
-use Rattle.reglang.specs.Forms.{argument_of, is_known, is_no_number, kind_of, operator_of, property_of}
-use Rattle.reglang.specs.Lines.{words}
-use Rattle.reglang.specs.Sorts.{kind_sorts, property_sorts, sorts_after}
-use Rattle.reglang.specs.Words.{word_of}
-use Rattle.reglang.specs.declared.sorts.Sort.{Sort}
-use Rattle.reglang.specs.declared.sorts.Sort.TheVariants as sort
-use Rattle.reglang.specs.declared.vocabulary.Keyword.{Keyword}
-use Rattle.reglang.specs.declared.vocabulary.Keyword.TheVariants as keyword
-use Rattle.reglang.specs.declared.words.Word.{Word}
-use Rattle.reglang.specs.declared.words.Word.TheVariants as word
+use Rattle.reglines.specs.Forms.{argument_of, is_known, is_no_number, kind_of, operator_of, property_of}
+use Rattle.reglines.specs.Lines.{words}
+use Rattle.reglines.specs.Sorts.{kind_sorts, property_sorts, sorts_after}
+use Rattle.reglines.specs.Words.{word_of}
+use Rattle.reglines.specs.declared.sorts.Sort.{Sort}
+use Rattle.reglines.specs.declared.sorts.Sort.TheVariants as sort
+use Rattle.reglines.specs.declared.vocabulary.Keyword.{Keyword}
+use Rattle.reglines.specs.declared.vocabulary.Keyword.TheVariants as keyword
+use Rattle.reglines.specs.declared.words.Word.{Word}
+use Rattle.reglines.specs.declared.words.Word.TheVariants as word
 
 -- whether a word is a first word of lines
 abbrev pub is_keyword : Word → Bool

@@ -5,11 +5,11 @@ use Rattle.explanations.specs.declared.misplaced.MisplacedLine.TheVariants as pl
 use Rattle.explanations.specs.declared.open_blocks.BlockKind.{BlockKind}
 use Rattle.explanations.specs.declared.open_blocks.BlockKind.TheVariants as block
 use Rattle.explanations.specs.declared.open_blocks.Opened.{Opened}
-use Rattle.reglang.specs.Spelling.{keyword_text}
-use Rattle.reglang.specs.declared.vocabulary.Keyword.{Keyword}
-use Rattle.reglang.specs.declared.vocabulary.Keyword.TheVariants as keyword
-use Rattle.reglang.specs.declared.words.Word.{Word}
-use Rattle.reglang.specs.declared.words.Word.TheVariants as word
+use Rattle.reglines.specs.Spelling.{keyword_text}
+use Rattle.reglines.specs.declared.vocabulary.Keyword.{Keyword}
+use Rattle.reglines.specs.declared.vocabulary.Keyword.TheVariants as keyword
+use Rattle.reglines.specs.declared.words.Word.{Word}
+use Rattle.reglines.specs.declared.words.Word.TheVariants as word
 
 -- the first word of the line that opens a block
 abbrev pub opener : BlockKind → Keyword

@@ -3,11 +3,11 @@ use Rattle.std.specs.Prelude.{ℕ, suc, ◌-◌, if◌then◌else◌, List, [], 
 use Rattle.explanations.specs.declared.open_blocks.BlockKind.TheVariants as block
 use Rattle.explanations.specs.declared.open_blocks.Opened.{Opened}
 use Rattle.explanations.specs.declared.open_blocks.TheConstants.{MOST_OPEN}
-use Rattle.reglang.specs.Lines.{lines}
-use Rattle.reglang.specs.Forms.{read_line}
-use Rattle.reglang.specs.declared.arguments.Line.{Line}
-use Rattle.reglang.specs.declared.arguments.Line.TheVariants as line
-use Rattle.reglang.specs.declared.refusals.LineFault.{LineFault}
+use Rattle.reglines.specs.Lines.{lines}
+use Rattle.reglines.specs.Forms.{read_line}
+use Rattle.reglines.specs.declared.arguments.Line.{Line}
+use Rattle.reglines.specs.declared.arguments.Line.TheVariants as line
+use Rattle.reglines.specs.declared.faults.LineFault.{LineFault}
 
 -- one more block inside those that are open; a text that is read has no more than so many
 abbrev pub with_one : List Opened → Opened → List Opened

@@ -2,9 +2,9 @@
 -- stands line N of that file.
 use Rattle.std.specs.Prelude.{ℕ, ◌+◌, ◌-◌, if◌then◌else◌, List, [], ◌∷◌, Option, Some, None, codes, is_some, take}
 use Rattle.std.specs.Str.{byte, bytes_eq}
-use Rattle.reglang.specs.Forms.{number_in}
-use Rattle.reglang.specs.Lines.{lines, words}
-use Rattle.reglang.specs.Words.{enclosed, word_of}
+use Rattle.reglines.specs.Forms.{number_in}
+use Rattle.reglines.specs.Lines.{lines, words}
+use Rattle.reglines.specs.Words.{enclosed, word_of}
 
 -- the number that the first of these words is
 abbrev pub first_number : List (List ℕ) → Option ℕ

@@ -1,13 +1,13 @@
 -- Which limit a line may pass.
 use Rattle.std.specs.Prelude.{ℕ, List, [], ◌∷◌, ◌++◌, Option, Some, None, codes}
 use Rattle.explanations.specs.LineForms.{first_of}
-use Rattle.reglang.specs.Forms.{kind_of}
-use Rattle.reglang.specs.Words.{word_of}
-use Rattle.reglang.specs.declared.vocabulary.Keyword.TheVariants as keyword
-use Rattle.reglang.specs.declared.vocabulary.Kind.{Kind}
-use Rattle.reglang.specs.declared.vocabulary.Kind.TheVariants as kind
-use Rattle.reglang.specs.declared.words.Word.{Word}
-use Rattle.reglang.specs.declared.words.Word.TheVariants as word
+use Rattle.reglines.specs.Forms.{kind_of}
+use Rattle.reglines.specs.Words.{word_of}
+use Rattle.reglines.specs.declared.vocabulary.Keyword.TheVariants as keyword
+use Rattle.reglines.specs.declared.vocabulary.Kind.{Kind}
+use Rattle.reglines.specs.declared.vocabulary.Kind.TheVariants as kind
+use Rattle.reglines.specs.declared.words.Word.{Word}
+use Rattle.reglines.specs.declared.words.Word.TheVariants as word
 
 -- that of a use of this kind
 abbrev pub kind_limit : Kind → List ℕ

@@ -7,8 +7,8 @@ use Rattle.explanations.specs.declared.wording.Change.{Change}
 use Rattle.explanations.specs.declared.wording.Change.TheVariants.{Words, Form, Own, Meant, Move}
 use Rattle.explanations.specs.declared.wording.TextCulprit.{TextCulprit}
 use Rattle.explanations.specs.declared.wording.TextCulprit.TheVariants as culprit
-use Rattle.reglang.specs.declared.refusals.LineFault.{LineFault}
-use Rattle.reglang.specs.declared.refusals.LineFault.TheVariants as fault
+use Rattle.reglines.specs.declared.faults.LineFault.{LineFault}
+use Rattle.reglines.specs.declared.faults.LineFault.TheVariants as fault
 use Rattle.reglang.specs.declared.refusals.LineRefusal.{LineRefusal}
 use Rattle.reglang.specs.declared.refusals.LineRefusal.TheVariants.{Fault, Memory}
 

@@ -3,7 +3,7 @@
 ghost use Rattle.std.specs.Prelude.{◌≡◌};
 ghost use Rattle.explanations.specs.Advice as spec;
 ghost use Rattle.explanations.specs.Misplaced.{place_text};
-ghost use Rattle.reglang.specs.Lines.{words};
+ghost use Rattle.reglines.specs.Lines.{words};
 
 use crate::hints::hint_of;
 use crate::line_forms::{first_of, form_of};
@@ -11,7 +11,8 @@ use crate::misplaced::{MisplacedLine, end_place, place_of};
 use crate::open_blocks::Opened;
 use crate::passed_limits::limit_of;
 use crate::wording::{Change, TextCulprit};
-use reglang::{LineFault, LineRefusal, Word};
+use reglang::LineRefusal;
+use reglines::{LineFault, Word};
 use std::io::Write;
 use texts::{Block, Text, WriteFault};
 
@@ -52,7 +53,7 @@ impl Advice<'_> {
     ghost use Rattle.std.specs.Prelude.{◌≡◌};
     ghost use Rattle.explanations.specs.Advice as spec;
     ghost use Rattle.explanations.specs.Wording.{told_text};
-    ghost use Rattle.reglang.specs.Lines.{words};
+    ghost use Rattle.reglines.specs.Lines.{words};
 
     /// What to change.
     fn change(&self) -> Change

@@ -4,7 +4,7 @@ ghost use Rattle.std.specs.Prelude.{◌≡◌};
 ghost use Rattle.texts.specs.Appending.{Adds};
 ghost use Rattle.explanations.specs.ClauseForms as spec;
 
-use reglang::{PROPERTIES, Property, Spelled};
+use reglines::{PROPERTIES, Property, Spelled};
 use std::io::Write;
 use texts::{Block, Text, WriteFault};
 

@@ -5,14 +5,14 @@ ghost use Rattle.std.specs.List.{list_any};
 ghost use Rattle.explanations.specs.Hints as spec;
 ghost use Rattle.explanations.specs.Misfits.{first_that, is_unknown};
 ghost use Rattle.explanations.specs.Wording.{told_text};
-ghost use Rattle.reglang.specs.Lines.{words};
+ghost use Rattle.reglines.specs.Lines.{words};
 
 use crate::idioms::idiom_of;
 use crate::line_forms::{OwnLine, first_of, form_of, keyword_form};
 use crate::misfits::first_unknown;
 use crate::nearest::{Meant, nearest};
 use crate::wording::Change;
-use reglang::{Keyword, Sort, Word, sorts_after, split_word, target_of, word_of};
+use reglines::{Keyword, Sort, Word, sorts_after, split_word, target_of, word_of};
 
 /// Whether a byte stands in an operator, here or in another language.
 fn is_operator_byte(byte: u8) -> bool

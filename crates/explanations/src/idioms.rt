@@ -2,7 +2,7 @@
 
 ghost use Rattle.std.specs.Prelude.{◌≡◌, map, option_copied};
 ghost use Rattle.explanations.specs.Idioms as spec;
-ghost use Rattle.reglang.specs.Words.{spelled_in};
+ghost use Rattle.reglines.specs.Words.{spelled_in};
 
 const AND: &str = "write A * B for A and B: it is 0 where one of them is";
 

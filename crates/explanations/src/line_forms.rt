@@ -2,10 +2,10 @@
 
 ghost use Rattle.std.specs.Prelude.{◌≡◌};
 ghost use Rattle.explanations.specs.LineForms as spec;
-ghost use Rattle.reglang.specs.Lines.{words};
+ghost use Rattle.reglines.specs.Lines.{words};
 
 use crate::clause_forms::CheckForm;
-use reglang::{Keyword, Kind, Property, Spelled, Word, kind_of, property_of, split_word, word_of};
+use reglines::{Keyword, Kind, Property, Spelled, Word, kind_of, property_of, split_word, word_of};
 use std::io::Write;
 use texts::{Block, Text, WriteFault};
 

@@ -4,7 +4,7 @@ ghost use Rattle.std.specs.Prelude.{◌≡◌, option_copied};
 ghost use Rattle.reglang.specs.Checks as spec;
 ghost use Rattle.explanations.specs.Shown.{shown};
 
-use reglang::split_line;
+use reglines::split_line;
 
 /// The line of a text with this number, counted from 1, without its byte 10. None
 /// where there is none.

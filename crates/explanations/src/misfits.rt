@@ -1,14 +1,15 @@
 //! The word of a refused line that is at fault.
 
 ghost use Rattle.std.specs.Prelude.{◌≡◌, [], ◌∷◌, option_copied};
-ghost use Rattle.reglang.specs.Forms.{is_no_number};
-ghost use Rattle.reglang.specs.Lines.{words};
-ghost use Rattle.reglang.specs.declared.sorts.Sort.TheVariants as sort;
+ghost use Rattle.reglines.specs.Forms.{is_no_number};
+ghost use Rattle.reglines.specs.Lines.{words};
+ghost use Rattle.reglines.specs.declared.sorts.Sort.TheVariants as sort;
 ghost use Rattle.explanations.specs.Misfits as spec;
 
-use reglang::{
-    Keyword, LineFault, LineRefusal, Sort, Word, argument_of, is_known, kind_of, kind_sorts,
-    operator_of, property_of, property_sorts, sorts_after, split_word, word_of,
+use reglang::LineRefusal;
+use reglines::{
+    Keyword, LineFault, Sort, Word, argument_of, is_known, kind_of, kind_sorts, operator_of,
+    property_of, property_sorts, sorts_after, split_word, word_of,
 };
 use regmodel::Operand;
 use regmodel::limits::GREATEST_VALUE;

@@ -4,7 +4,7 @@ ghost use Rattle.std.specs.Prelude.{◌≡◌};
 ghost use Rattle.explanations.specs.Misplaced as spec;
 
 use crate::open_blocks::{BlockKind, Opened};
-use reglang::{Keyword, Spelled, Word};
+use reglines::{Keyword, Spelled, Word};
 use std::io::Write;
 use texts::{Block, Text, WriteFault};
 

@@ -2,10 +2,10 @@
 
 ghost use Rattle.std.specs.Prelude.{◌≡◌, None};
 ghost use Rattle.explanations.specs.OpenBlocks as spec;
-ghost use Rattle.reglang.specs.Forms.{read_line};
+ghost use Rattle.reglines.specs.Forms.{read_line};
 
 use arrayvec::ArrayVec;
-use reglang::{Line, read_line, split_line};
+use reglines::{Line, read_line, split_line};
 
 /// How many blocks are open at a time in a text that is read, with the process.
 pub(crate) const MOST_OPEN: usize = 17;

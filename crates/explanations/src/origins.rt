@@ -2,9 +2,9 @@
 
 ghost use Rattle.std.specs.Prelude.{◌≡◌, ℕ, ◌+◌, ◌-◌, ◌^◌, ◌<◌, ◌≤◌, option_copied};
 ghost use Rattle.explanations.specs.Origins as spec;
-ghost use Rattle.reglang.specs.Lines.{words};
+ghost use Rattle.reglines.specs.Lines.{words};
 
-use reglang::{enclosed, number_in, split_line, split_word, word_of};
+use reglines::{enclosed, number_in, split_line, split_word, word_of};
 
 /// Where a line comes from: a file, and the number of the line there, counted from 1.
 #[derive(Clone, Copy)]

@@ -2,10 +2,10 @@
 
 ghost use Rattle.std.specs.Prelude.{◌≡◌};
 ghost use Rattle.explanations.specs.PassedLimits as spec;
-ghost use Rattle.reglang.specs.Lines.{words};
+ghost use Rattle.reglines.specs.Lines.{words};
 
 use crate::line_forms::first_of;
-use reglang::{Keyword, Kind, Word, kind_of, split_word, word_of};
+use reglines::{Keyword, Kind, Word, kind_of, split_word, word_of};
 
 /// The limits of a use of this kind.
 fn kind_limit(kind: Kind) -> &'static str

@@ -6,7 +6,8 @@ ghost use Rattle.explanations.specs.Wording.{fault_words, wrong_text};
 use crate::line_forms::{FORM_LEAD, Form, OwnLine};
 use crate::misplaced::MisplacedLine;
 use crate::nearest::Meant;
-use reglang::{LineFault, LineRefusal};
+use reglang::LineRefusal;
+use reglines::LineFault;
 use std::io::Write;
 use texts::{Block, Text, WriteFault};
 

@@ -14,7 +14,8 @@ use crate::misfits::word_at_fault;
 use crate::open_blocks::{Opened, open_block};
 use crate::origins::origin_of;
 use crate::wording::{TextCulprit, what_is_wrong};
-use reglang::{LineFault, LineRefusal, Rejection};
+use reglang::{LineRefusal, Rejection};
+use reglines::LineFault;
 use std::io::Write;
 use texts::{Block, Text, WriteFault, write};
 

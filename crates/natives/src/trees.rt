@@ -1,7 +1,7 @@
 //! Collect trees: a process goes down a binary tree of splitters until it stops at a vertex, leaves
 //! its value there, and collects the values of the vertices whose marks it reads.
 
-ghost use Rattle.std.specs.Prelude.{◌≡◌, ℕ, suc, ◌+◌, ◌-◌, ◌*◌, ◌^◌, ◌<◌, ◌≤◌, [], ◌∷◌, true, false, IfSome, length, replicate, slice_set};
+ghost use Rattle.std.specs.Prelude.{◌≡◌, ℕ, ◌+◌, ◌-◌, ◌*◌, ◌^◌, ◌<◌, ◌≤◌, [], ◌∷◌, true, false, IfSome, length, replicate, slice_set};
 ghost use Rattle.regmodel.specs.Prelude.{Replies};
 ghost use Rattle.regmodel.specs.Reply.{one};
 ghost use Rattle.uses.specs.declared.kinds.Use.TheVariants as kind;

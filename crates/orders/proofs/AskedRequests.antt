@@ -2,7 +2,7 @@
 use Rattle.std.proofs.Common.{ℕ, ◌≤◌, List}
 use Rattle.clap.specs.Words.{Text}
 use Rattle.clap.specs.declared.parser.matches.ArgMatches.{ArgMatches}
-use Rattle.command_words.specs.CommandLine.{IsParseOf, command_line, word_at_name}
+use Rattle.orders.specs.CommandLine.{IsParseOf, command_line, word_at_name}
 use Rattle.regmodel.specs.declared.limits.TheConstants.{MOST_WORKERS}
 use Rattle.orders.specs.Requests.{IsRequestBy, IsRequestOf, program_told}
 use Rattle.orders.specs.declared.orders.Request.{Request}

@@ -1,6 +1,10 @@
+mod AddedWords
 pub mod AskedRequests
 mod BoundedReads
-mod FirstBad
-mod Numbers
-mod PartWords
 mod Breadths
+mod FirstBad
+mod NamedSubcommands
+mod Numbers
+mod ParsedCommands
+mod PartWords
+mod PlainCommands

@@ -1,12 +1,12 @@
 -- The word for a part is read in one way.
-use Rattle.std.proofs.Common.{◌≡◌, ℕ, ◌^◌, ◌<◌, ◌≤◌, true, false, eqb, not, List, [], ◌∷◌, ◌++◌, length, codes, decimal, refl, ap, sym, subst, ◌∙◌, arith, append_assoc}
+use Rattle.std.proofs.Common.{◌≡◌, ℕ, ◌^◌, ◌<◌, ◌≤◌, true, false, eqb, not, List, [], ◌∷◌, ◌++◌, length, codes, decimal, refl, ap, sym, ◌∙◌, arith, append_assoc}
 use Rattle.std.specs.Int.{IsInRange}
 use Rattle.std.specs.Str.Parse.{AllDigits}
-use Rattle.std.proofs.lemmas.Bool.{and_from, eqb-true}
+use Rattle.std.proofs.lemmas.Bool.{and_from}
 use Rattle.std.proofs.lemmas.Bool.Decides.{nat_tests}
 use Rattle.std.proofs.lemmas.Fmt.{decimal_injective, decimal_is_IsNumeral}
 use Rattle.std.proofs.lemmas.Str.Parse.{digit_from_value}
-use Rattle.texts.specs.Cuts.{begins_at, has_no}
+use Rattle.texts.specs.Cuts.{has_no}
 use Rattle.texts.proofs.Bytes.{IsCut, cut_is}
 
 no_slash_digits : (ds : List ℕ) → AllDigits 10 ds → has_no 47 ds ≡ true
@@ -33,13 +33,6 @@ digits_are word front rest digits slash n m cut behind low e =
     tail-same 47 slash (decimal m) digits ((cut_word word front rest n m cut low e).1 ∙ behind)
 
 -- two numbers that a word is cut into are those that it writes
-pub word_is : (word front rest digits : List ℕ) (slash n m : ℕ) → IsCut 47 word front rest → rest ≡ slash ∷ digits → decimal n ≡ front → decimal m ≡ digits → (decimal n ++ codes "/") ++ decimal m ≡ word
-word_is word front rest digits slash n m cut behind first second =
-    let mark : slash ≡ 47 = eqb-true slash 47 (subst (λ r. begins_at 47 r ≡ true) behind cut.after) in
-    let whole : 47 ∷ decimal m ≡ rest = ap (λ ds. 47 ∷ ds) second ∙ ap (λ b. b ∷ digits) (sym mark) ∙ sym behind in
-    append_assoc (decimal n) (codes "/") (decimal m) ∙ ap (λ f. f ++ (47 ∷ decimal m)) first ∙ ap (λ r. front ++ r) whole ∙ cut.parts
-
--- and no others
 pub numbers_are : (word front rest digits : List ℕ) (slash p q n m : ℕ) → IsCut 47 word front rest → rest ≡ slash ∷ digits → decimal p ≡ front → decimal q ≡ digits → p ≤ 1000000000 → q ≤ 1000000000 → n ≤ 1000000000 → m ≤ 1000000000 → (decimal n ++ codes "/") ++ decimal m ≡ word → (p ≡ n) × (q ≡ m)
 numbers_are word front rest digits slash p q n m cut behind first second hp hq hn hm e =
     let one : decimal p ≡ decimal n = first ∙ sym (cut_word word front rest n m cut hn e).0 in

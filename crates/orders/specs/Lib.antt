@@ -1,4 +1,6 @@
 pub mod Bounds
+pub mod CommandLine
+pub mod CommandLineExamples
 pub mod Flags
 pub mod Inputs
 pub mod NumberTexts
@@ -7,3 +9,4 @@ pub mod PatternTexts
 pub mod Reasons
 pub mod Requests
 pub mod Statuses
+pub mod Tables

@@ -3,7 +3,7 @@ use Rattle.std.specs.Prelude.{◌≡◌, ◌≢◌, ◌⊎◌, ⊤, ℕ, Bool, t
 use Rattle.std.specs.List.{starts_with}
 use Rattle.patterns.specs.PatternText.{FitsPattern, IsBadAt, pattern_text}
 use Rattle.patterns.specs.declared.patterns.StandingPattern.{StandingPattern}
-use Rattle.reglang.specs.Lines.{lines}
+use Rattle.reglines.specs.Lines.{lines}
 use Rattle.orders.specs.Inputs.{IsNoFile, IsUnreadable, is_standard}
 use Rattle.orders.specs.declared.refusals.Refusal.{Refusal}
 use Rattle.orders.specs.declared.refusals.Refusal.TheVariants.{Memory, Pattern, PatternLine}

@@ -4,7 +4,7 @@ use Rattle.std.specs.Option.{option_map}
 use Rattle.clap.specs.Words.{Text, one_text, rows_of, subcommand_name_of, subcommand_rows_of}
 use Rattle.clap.specs.declared.parser.matches.ArgMatches.{ArgMatches}
 use Rattle.clap.specs.declared.parser.matches.Found.{Found}
-use Rattle.command_words.specs.CommandLine.{IsParseOf, command_line, word_at_name}
+use Rattle.orders.specs.CommandLine.{IsParseOf, command_line, word_at_name}
 use Rattle.regmodel.specs.declared.limits.TheConstants.{MOST_WORKERS}
 use Rattle.orders.specs.Bounds.{IsBreadthTold}
 use Rattle.orders.specs.Flags.{IsFlagTold}

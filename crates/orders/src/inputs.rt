@@ -63,7 +63,8 @@ pub enum Input<S, F> {
 }
 
 impl<S: Read, F: Read> Read for Input<S, F> {
-    ghost remaining = { λ i. elim i [ input.Standard s ↦ S.remaining s | input.File f ↦ F.remaining f ] };
+    ghost remaining = { λ i.
+        elim i [ input.Standard s ↦ S.remaining s | input.File f ↦ F.remaining f ] };
 
     fn read(&mut self, buf: &mut [u8]) -> io::Result<usize> {
         match self {
@@ -76,7 +77,8 @@ impl<S: Read, F: Read> Read for Input<S, F> {
 impl<S: Read + Drop, F: Read + Drop> Readable for Input<S, F> {
     type Bytes = BufReader<Input<S, F>>;
 
-    ghost fails = { λ i. IsUnreadable (elim i [ input.Standard s ↦ S.remaining s | input.File f ↦ F.remaining f ]) };
+    ghost fails = { λ i. IsUnreadable
+        (elim i [ input.Standard s ↦ S.remaining s | input.File f ↦ F.remaining f ]) };
 
     fn into_bytes(self, alloc: Global) -> Result<BufReader<Input<S, F>>, OutOfMemory> {
         let Ok(bytes) = BufReader::new(alloc, self) else {

@@ -2,6 +2,7 @@
 #![tactic(auto)]
 
 mod bounds;
+mod command_words;
 mod inputs;
 mod option_bounds;
 mod orders;
@@ -13,6 +14,7 @@ mod tasks;
 mod tips;
 mod words;
 
+pub use command_words::VERSION;
 pub use inputs::{Input, Opener, Readable, bytes_of, input_of};
 pub use option_bounds::OptionBound;
 pub use orders::{Order, Request, command};

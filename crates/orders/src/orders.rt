@@ -14,6 +14,7 @@ ghost use Rattle.orders.specs.Statuses.{IsNoSchedule, status_of};
 use crate::bounds::{
     CACHE, ProcessorCount, bound_of, bounds_of, breadth_of, part_told, processors,
 };
+use crate::command_words::matches_of;
 use crate::inputs::{Opener, STANDARD_INPUT, is_standard};
 use crate::option_bounds::{MOST_CACHE, OptionBound};
 use crate::patterns_told::{are_standard, patterns_told};
@@ -26,7 +27,6 @@ use crate::words::{has_flag, is_native, number_of, word_at};
 use breadths::Breadth;
 use clap::ArgMatches;
 use clap::error::ErrorKind;
-use command_words::matches_of;
 use regmodel::{Effort, Prefix, Settings, read_schedule};
 use std::alloc::Global;
 use std::convert::AsStr;

@@ -9,7 +9,7 @@ ghost use Rattle.orders.specs.PatternTexts.{AreNoPatterns, AreNoTexts, AreTextsO
 use crate::inputs::{Opener, STANDARD_INPUT, bytes_of, is_standard};
 use crate::refusals::Refusal;
 use patterns::{Pattern, read_pattern};
-use reglang::split_line;
+use reglines::split_line;
 use std::alloc::Global;
 
 /// What stands before an outcome in a report.

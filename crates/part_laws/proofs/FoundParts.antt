@@ -20,9 +20,9 @@ use Rattle.report.specs.PlainReport.{Findings, LeastFinding}
 use Rattle.part_texts.specs.FitsPart.{FitsFound, FitsLeast, FitsOutcome, FitsPart}
 use Rattle.part_texts.specs.PartText.{explored_part, least_part}
 use Rattle.part_texts.specs.PlainHead.{FitsHead, PlainHead}
-use Rattle.explorer.specs.Parts.{IsFoundAmong, IsLeastAmong}
-use Rattle.explorer.specs.Searches.{Search, members_below, members_of, reduced_of}
-use Rattle.explorer.specs.Shares.{IsLowestRefused, Tells}
+use Rattle.pieces.specs.Parts.{IsFoundAmong, IsLeastAmong}
+use Rattle.pieces.specs.Searches.{Search, members_below, members_of, reduced_of}
+use Rattle.pieces.specs.Shares.{IsLowestRefused, Tells}
 use Rattle.part_laws.proofs.OutcomeCounts.{few_outcomes}
 use Rattle.part_laws.proofs.OutcomeEnds.{outcome-fits}
 

@@ -18,9 +18,10 @@ use Rattle.part_texts.specs.declared.parts.PartReport.{PartReport}
 use Rattle.merging.specs.Merged.{AreJoined, IsJoined, IsToldBy}
 use Rattle.report.specs.declared.explored.Yield.{Yield}
 use Rattle.report.specs.declared.explored.Yield.TheVariants as merged
-use Rattle.explorer.specs.Searches.{Search, reduced_of, search_of}
-use Rattle.explorer.specs.Shares.{IsLowestRefused, Tells}
-use Rattle.explorer.specs.Parts.{members_of_part}
+use Rattle.pieces.specs.Searches.{Search, reduced_of}
+use Rattle.explorer.specs.Tasks.{search_of}
+use Rattle.pieces.specs.Shares.{IsLowestRefused, Tells}
+use Rattle.pieces.specs.Parts.{members_of_part}
 use Rattle.explorer.proofs.Jobs.{LeastOfWhole, ReportsWhole}
 use Rattle.part_laws.specs.Wholes.{IsFoundIn, IsPartOfSource, IsWholeOf}
 

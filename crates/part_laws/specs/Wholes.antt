@@ -13,10 +13,11 @@ use Rattle.part_texts.specs.declared.parts.PartReport.{PartReport}
 use Rattle.regmodel.specs.Summary.{Summary}
 use Rattle.report.specs.declared.explored.Yield.{Yield}
 use Rattle.report.specs.declared.explored.Yield.TheVariants.{Report, Least}
-use Rattle.explorer.specs.Parts.{members_of_part}
-use Rattle.explorer.specs.Running.{IsExplored}
-use Rattle.explorer.specs.Searches.{Search, search_of}
-use Rattle.explorer.specs.Shares.{IsLowestRefused, Tells}
+use Rattle.pieces.specs.Parts.{members_of_part}
+use Rattle.explorer.specs.Jobs.{IsExplored}
+use Rattle.pieces.specs.Searches.{Search}
+use Rattle.explorer.specs.Tasks.{search_of}
+use Rattle.pieces.specs.Shares.{IsLowestRefused, Tells}
 
 -- of these schedules all is told, or the lowest refused one alone
 abbrev pub IsFoundIn : Search → List (List Letter) → PartFound → Type 0

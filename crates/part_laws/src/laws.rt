@@ -15,10 +15,10 @@ ghost use Rattle.part_texts.specs.PartText.{explored_part, least_part};
 ghost use Rattle.part_texts.specs.PlainHead.{FitsHead, PlainHead};
 ghost use Rattle.part_texts.specs.declared.parts.PartReport.{PartReport};
 ghost use Rattle.merging.specs.Merged.{IsMerged};
-ghost use Rattle.explorer.specs.Parts.{IsLeastOfPart, IsPartExplored};
+ghost use Rattle.explorer.specs.Jobs.{IsLeastOfPart, IsPartExplored};
 ghost use Rattle.part_laws.specs.Wholes.{IsPartOfSource, IsWholeOf};
 
-use explorer::laws::{merged_findings_are_of_both, parts_are_the_whole, the_whole_is_found};
+use pieces::laws::{merged_findings_are_of_both, parts_are_the_whole, the_whole_is_found};
 use reglang::Source;
 use regmodel::laws::{outcomes_are_in_a_total_order, wanted_accesses_are_within};
 

@@ -1,8 +1,5 @@
 //! What a part of an exploration is a part of.
 
-ghost use Rattle.std.specs.Prelude.{◌≡◌, ◌↔◌, IfSome, IsSome};
-ghost use Rattle.part_texts.specs.PlainHead.{FitsHead, head_of};
-
 use regmodel::limits::{MOST_PROCESSES, MOST_SOURCE_BYTES};
 use regmodel::{Part, Settings};
 use std::marker::Model;
@@ -25,7 +22,8 @@ impl Model for PartHead {
 
     ghost view = { λ h. head_of h.part.number h.part.count h.processes h.settings h.source.items };
 
-    ghost invariant = { λ h. FitsHead (head_of h.part.number h.part.count h.processes h.settings h.source.items) };
+    ghost invariant = { λ h.
+        FitsHead (head_of h.part.number h.part.count h.processes h.settings h.source.items) };
 }
 
 impl PartHead {

@@ -14,12 +14,12 @@ use Rattle.reglang.specs.Checks.{AreChecksOf, ChecksAt, checks_after, check_line
 use Rattle.reglang.specs.Contents.{Contents, Body, Text, Kind}
 use Rattle.reglang.specs.Drafts.{Reading, Empty, Between, Inside, Used, checks_in, take_if_said}
 use Rattle.reglang.specs.Faults.{Context, context_after_lines}
-use Rattle.reglang.specs.Forms.{read_line}
+use Rattle.reglines.specs.Forms.{read_line}
 use Rattle.reglang.specs.Grammar.{BlockSays, ElseSays, BodySays, Part, Process, Check, PartsSay, clauses_in, LinesSay, line_said, lines_said, Spells, simple_line}
-use Rattle.reglang.specs.Lines.{lines}
-use Rattle.reglang.specs.declared.arguments.Line.{Line}
-use Rattle.reglang.specs.declared.arguments.Line.TheVariants as line
-use Rattle.reglang.specs.declared.refusals.LineFault.{LineFault}
+use Rattle.reglines.specs.Lines.{lines}
+use Rattle.reglines.specs.declared.arguments.Line.{Line}
+use Rattle.reglines.specs.declared.arguments.Line.TheVariants as line
+use Rattle.reglines.specs.declared.faults.LineFault.{LineFault}
 use Rattle.reglang.proofs.Contexts.{StepsRead, context_of, steps_read}
 
 -- what a check asks, or nothing of another line

@@ -9,26 +9,26 @@ use Rattle.regmodel.specs.declared.statements.Operand.{Operand}
 use Rattle.regmodel.specs.declared.statements.Operand.TheVariants as operand
 use Rattle.regmodel.specs.declared.statements.Target.{Target}
 use Rattle.uses.specs.declared.kinds.Use.{Use}
-use Rattle.reglang.specs.Arguments.{are_of, clause_with, line_with}
+use Rattle.reglines.specs.Arguments.{are_of, clause_with, line_with}
 use Rattle.reglang.specs.Contents.{clause_fits}
-use Rattle.reglang.specs.Forms.{and_more, arguments, clause_of, expr_of, form_of, is_known, is_no_number, keyword_line, kind_of, line_of, number_in, number_to, operand_of, or_fault, property_clause, property_of, read_line, target_of, use_form, use_of}
-use Rattle.reglang.specs.Lines.{is_printable, words}
-use Rattle.reglang.specs.Sorts.{property_sorts, sorts_after}
-use Rattle.reglang.specs.Words.{word_of}
-use Rattle.reglang.specs.declared.arguments.Argument.{Argument}
-use Rattle.reglang.specs.declared.arguments.Argument.TheVariants as argument
-use Rattle.reglang.specs.declared.arguments.Line.{Line}
-use Rattle.reglang.specs.declared.arguments.Line.TheVariants as line
-use Rattle.reglang.specs.declared.sorts.Sort.{Sort}
-use Rattle.reglang.specs.declared.sorts.Sort.TheVariants as sort
-use Rattle.reglang.specs.declared.vocabulary.Keyword.{Keyword}
-use Rattle.reglang.specs.declared.vocabulary.Keyword.TheVariants as keyword
-use Rattle.reglang.specs.declared.vocabulary.Property.{Property}
-use Rattle.reglang.specs.declared.vocabulary.Property.TheVariants as property
-use Rattle.reglang.specs.declared.words.Word.{Word}
-use Rattle.reglang.specs.declared.words.Word.TheVariants as word
-use Rattle.reglang.specs.declared.refusals.LineFault.{LineFault}
-use Rattle.reglang.specs.declared.refusals.LineFault.TheVariants.{NoForm, NoNumber, NotPrintable, UnknownWord}
+use Rattle.reglines.specs.Forms.{and_more, arguments, clause_of, expr_of, form_of, is_known, is_no_number, keyword_line, kind_of, line_of, number_in, number_to, operand_of, or_fault, property_clause, property_of, read_line, target_of, use_form, use_of}
+use Rattle.reglines.specs.Lines.{is_printable, words}
+use Rattle.reglines.specs.Sorts.{property_sorts, sorts_after}
+use Rattle.reglines.specs.Words.{word_of}
+use Rattle.reglines.specs.declared.arguments.Argument.{Argument}
+use Rattle.reglines.specs.declared.arguments.Argument.TheVariants as argument
+use Rattle.reglines.specs.declared.arguments.Line.{Line}
+use Rattle.reglines.specs.declared.arguments.Line.TheVariants as line
+use Rattle.reglines.specs.declared.sorts.Sort.{Sort}
+use Rattle.reglines.specs.declared.sorts.Sort.TheVariants as sort
+use Rattle.reglines.specs.declared.vocabulary.Keyword.{Keyword}
+use Rattle.reglines.specs.declared.vocabulary.Keyword.TheVariants as keyword
+use Rattle.reglines.specs.declared.vocabulary.Property.{Property}
+use Rattle.reglines.specs.declared.vocabulary.Property.TheVariants as property
+use Rattle.reglines.specs.declared.words.Word.{Word}
+use Rattle.reglines.specs.declared.words.Word.TheVariants as word
+use Rattle.reglines.specs.declared.faults.LineFault.{LineFault}
+use Rattle.reglines.specs.declared.faults.LineFault.TheVariants.{NoForm, NoNumber, NotPrintable, UnknownWord}
 
 -- the clause of a check is within its limits
 abbrev pub IsLineFit : Line → Type 0

@@ -13,15 +13,15 @@ use Rattle.reglang.specs.Contents.{Contents, Text, Kind}
 use Rattle.reglang.specs.Drafts.{Frame, First, Second, Turn, opened_of, Reading, Empty, Between, Inside, Used, ◌⊕◌, turns, enter, enter_else, leave, leave_if, leave_repeat, take_line, take_if_said, contents_at_end, read_from, faulty_at, goes_on}
 use Rattle.reglang.specs.Faults as faults
 use Rattle.reglang.specs.Faults.{Context, at_start, context_after_line, context_after_lines, context_after, line_fault, fault_of_line, end_fault, at_line, or_later, fault_from}
-use Rattle.reglang.specs.Forms.{read_line}
+use Rattle.reglines.specs.Forms.{read_line}
 use Rattle.reglang.specs.Grammar.{lines_said, line_said}
 use Rattle.uses.specs.Uses.{is_between, use_fits}
-use Rattle.reglang.specs.declared.arguments.Line.{Line}
-use Rattle.reglang.specs.declared.arguments.Line.TheVariants as line
+use Rattle.reglines.specs.declared.arguments.Line.{Line}
+use Rattle.reglines.specs.declared.arguments.Line.TheVariants as line
 use Rattle.reglang.specs.declared.reader.ReadFault.{ReadFault}
 use Rattle.uses.specs.declared.kinds.Use.{Use}
-use Rattle.reglang.specs.declared.refusals.LineFault.{LineFault}
-use Rattle.reglang.specs.declared.refusals.LineFault.TheVariants.{Misplaced, NoClause, PastLimit}
+use Rattle.reglines.specs.declared.faults.LineFault.{LineFault}
+use Rattle.reglines.specs.declared.faults.LineFault.TheVariants.{Misplaced, NoClause, PastLimit}
 
 -- where the next line stands
 abbrev pub context_of : Reading → Context

@@ -10,14 +10,14 @@ use Rattle.regmodel.specs.Program as program
 use Rattle.regmodel.specs.Program.{Simple, Stop}
 use Rattle.reglang.specs.Contents.{Contents, Body, Text, Kind, IsBodyWithin, IsSourceWithin, clause_fits}
 use Rattle.reglang.specs.Drafts.{Frame, First, Second, Turn, Reading, Empty, Between, Inside, Used, ◌⊕◌, turns, add_simple, enter, enter_else, leave, leave_if, leave_repeat, take_line, take_if_said, BlockFits, FramesFit, statements_around, ContentsFit, InsideFits, UsedFits, ReadingFits}
-use Rattle.reglang.specs.Forms.{read_line}
-use Rattle.reglang.specs.Statements.{simple_of}
+use Rattle.reglines.specs.Forms.{read_line}
+use Rattle.reglines.specs.Statements.{simple_of}
 use Rattle.uses.specs.Uses.{is_between, use_fits}
-use Rattle.reglang.specs.declared.arguments.Line.{Line}
-use Rattle.reglang.specs.declared.arguments.Line.TheVariants as line
+use Rattle.reglines.specs.declared.arguments.Line.{Line}
+use Rattle.reglines.specs.declared.arguments.Line.TheVariants as line
 use Rattle.uses.specs.declared.kinds.Use.{Use}
-use Rattle.reglang.specs.declared.refusals.LineFault.{LineFault}
-use Rattle.reglang.specs.declared.refusals.LineFault.TheVariants.{Misplaced, NoClause, PastLimit}
+use Rattle.reglines.specs.declared.faults.LineFault.{LineFault}
+use Rattle.reglines.specs.declared.faults.LineFault.TheVariants.{Misplaced, NoClause, PastLimit}
 use Rattle.reglang.proofs.ClausesFit.{IsLineFit, IsReadFit, read_fits}
 
 -- ---- blocks one after another

@@ -7,7 +7,7 @@ use Rattle.reglang.specs.Contents.{Contents, IsSourceWithin}
 use Rattle.reglang.specs.Bodies.{body_of}
 use Rattle.reglang.specs.Drafts.{Empty, read_from}
 use Rattle.reglang.specs.Grammar.{Spells}
-use Rattle.reglang.specs.Lines.{lines}
+use Rattle.reglines.specs.Lines.{lines}
 use Rattle.reglang.specs.Sources.{contents_of}
 use Rattle.reglang.specs.Writing.{source_text}
 use Rattle.reglang.specs.declared.reader.ReadFault.{ReadFault}

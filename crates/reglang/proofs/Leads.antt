@@ -14,9 +14,9 @@ use Rattle.regmodel.specs.Program.{Simple, Stop}
 use Rattle.reglang.specs.Contents.{Contents, Body, Text, Kind, IsBodyWithin, IsSourceWithin}
 use Rattle.reglang.specs.Drafts.{Frame, First, Second, Turn, Reading, Empty, Between, Inside, Used, ◌⊕◌, turns, add, add_simple, enter, take_line, with_body, with_clause, BlockFits}
 use Rattle.reglang.specs.Grammar.{Begins, Then, BlockSays, ElseSays, BodySays, Part, Process, Check, PartSays, PartsSay, processes_in, clauses_in, LinesSay, simple_line}
-use Rattle.reglang.specs.declared.arguments.Line.{Line}
-use Rattle.reglang.specs.declared.arguments.Line.TheVariants as line
-use Rattle.reglang.specs.declared.refusals.LineFault.{LineFault}
+use Rattle.reglines.specs.declared.arguments.Line.{Line}
+use Rattle.reglines.specs.declared.arguments.Line.TheVariants as line
+use Rattle.reglines.specs.declared.faults.LineFault.{LineFault}
 use Rattle.reglang.proofs.Joins.{join-stop, join-assoc}
 
 abbrev pub then_take : Result Reading LineFault → (Reading → Result Reading LineFault) → Result Reading LineFault

@@ -1,21 +1,18 @@
-mod LineTexts
 pub mod CheckLines
 mod ClausesFit
-mod Cuts
-mod Digits
-mod FirstWords
+mod Contexts
 mod Fits
 mod Frames
 mod Joins
 mod KnownSpellings
 mod Leads
+mod LineTexts
 mod LineWords
 mod Memory
+mod OneLineMore
 mod Programs
 mod ReadAgain
 mod Readings
 mod Says
 mod SourceTexts
-mod Contexts
-mod OneLineMore
 mod WordTexts

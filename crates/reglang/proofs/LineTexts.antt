@@ -7,8 +7,8 @@ use Rattle.regmodel.specs.Prelude.{Block, block_of, with_stmt}
 use Rattle.regmodel.specs.Program as program
 use Rattle.regmodel.specs.declared.statements.Stmt.TheVariants as stmt
 use Rattle.reglang.specs.Writing.{line_text, lines_text, else_lines, block_lines}
-use Rattle.reglang.specs.declared.arguments.Line.{Line}
-use Rattle.reglang.specs.declared.arguments.Line.TheVariants as line
+use Rattle.reglines.specs.declared.arguments.Line.{Line}
+use Rattle.reglines.specs.declared.arguments.Line.TheVariants as line
 
 -- one line and its end
 abbrev pub ended : Line → List ℕ

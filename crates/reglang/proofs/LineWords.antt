@@ -12,26 +12,26 @@ use Rattle.regmodel.specs.declared.clauses.Clause.{Clause}
 use Rattle.regmodel.specs.declared.statements.Expr.TheVariants as expr
 use Rattle.regmodel.specs.declared.clauses.Clause.TheVariants as clause
 use Rattle.regmodel.specs.Limits.{target_fits, operand_fits, expr_fits}
-use Rattle.reglang.specs.Arguments.{are_of, clause_parts, clause_with, line_parts, line_with, use_parts}
+use Rattle.reglines.specs.Arguments.{are_of, clause_parts, clause_with, line_parts, line_with, use_parts}
 use Rattle.reglang.specs.Contents.{clause_fits}
-use Rattle.reglang.specs.Forms.{and_more, arguments, clause_of, expr_of, form_of, is_known, is_no_number, keyword_line, line_of, or_fault, target_of, use_of}
-use Rattle.reglang.specs.Sorts.{property_sorts, sorts_after}
+use Rattle.reglines.specs.Forms.{and_more, arguments, clause_of, expr_of, form_of, is_known, is_no_number, keyword_line, line_of, or_fault, target_of, use_of}
+use Rattle.reglines.specs.Sorts.{property_sorts, sorts_after}
 use Rattle.reglang.specs.Writing.{argument_words, arguments_words, clause_words, expr_words, later_words, line_words, target_word, use_words}
 use Rattle.uses.specs.declared.kinds.Use.{Use}
 use Rattle.uses.specs.declared.kinds.Use.TheVariants as use_line
-use Rattle.reglang.specs.declared.arguments.Argument.{Argument}
-use Rattle.reglang.specs.declared.arguments.Argument.TheVariants as argument
-use Rattle.reglang.specs.declared.sorts.Sort.{Sort}
-use Rattle.reglang.specs.declared.sorts.Sort.TheVariants as sort
-use Rattle.reglang.specs.declared.vocabulary.Keyword.{Keyword}
-use Rattle.reglang.specs.declared.vocabulary.Keyword.TheVariants as keyword
-use Rattle.reglang.specs.declared.vocabulary.Property.{Property}
-use Rattle.reglang.specs.declared.vocabulary.Property.TheVariants as property
-use Rattle.reglang.specs.declared.words.Word.{Word}
-use Rattle.reglang.specs.declared.arguments.Line.{Line}
-use Rattle.reglang.specs.declared.arguments.Line.TheVariants as line
-use Rattle.reglang.specs.declared.refusals.LineFault.TheVariants.{NoForm}
-use Rattle.reglang.proofs.FirstWords.{keyword_line_from}
+use Rattle.reglines.specs.declared.arguments.Argument.{Argument}
+use Rattle.reglines.specs.declared.arguments.Argument.TheVariants as argument
+use Rattle.reglines.specs.declared.sorts.Sort.{Sort}
+use Rattle.reglines.specs.declared.sorts.Sort.TheVariants as sort
+use Rattle.reglines.specs.declared.vocabulary.Keyword.{Keyword}
+use Rattle.reglines.specs.declared.vocabulary.Keyword.TheVariants as keyword
+use Rattle.reglines.specs.declared.vocabulary.Property.{Property}
+use Rattle.reglines.specs.declared.vocabulary.Property.TheVariants as property
+use Rattle.reglines.specs.declared.words.Word.{Word}
+use Rattle.reglines.specs.declared.arguments.Line.{Line}
+use Rattle.reglines.specs.declared.arguments.Line.TheVariants as line
+use Rattle.reglines.specs.declared.faults.LineFault.TheVariants.{NoForm}
+use Rattle.reglines.proofs.FirstWords.{keyword_line_from}
 use Rattle.reglang.proofs.WordTexts.{word_fits}
 
 -- an argument within its limits

@@ -5,10 +5,10 @@ use Rattle.std.specs.Prelude.{◌&&◌, is_none, IsOk}
 use Rattle.reglang.specs.Checks.{line_at}
 use Rattle.reglang.specs.Drafts.{Reading, take_if_said, IsRefusalOf, IsWantOf}
 use Rattle.reglang.specs.Faults.{Context, WantsMemory, are_faultless, asks, fault_of_line}
-use Rattle.reglang.specs.Forms.{read_line}
-use Rattle.reglang.specs.LineFaults.{refusal_code}
-use Rattle.reglang.specs.declared.arguments.Line.{Line}
-use Rattle.reglang.specs.declared.refusals.LineFault.{LineFault}
+use Rattle.reglines.specs.Forms.{read_line}
+use Rattle.reglang.specs.Refusals.{refusal_code}
+use Rattle.reglines.specs.declared.arguments.Line.{Line}
+use Rattle.reglines.specs.declared.faults.LineFault.{LineFault}
 use Rattle.reglang.specs.declared.refusals.LineRefusal.{LineRefusal}
 use Rattle.reglang.specs.declared.refusals.LineRefusal.TheVariants as refusal
 use Rattle.reglang.proofs.Contexts.{StepsRead, context_of, steps_read}

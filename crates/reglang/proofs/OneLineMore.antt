@@ -11,8 +11,8 @@ use Rattle.regmodel.specs.Program as program
 use Rattle.regmodel.specs.Program.{Stop}
 use Rattle.reglang.specs.Contents.{Contents}
 use Rattle.reglang.specs.Drafts.{Frame, First, Second, Turn, Inside, Reading, Answers, add, enter, leave_if, leave_repeat, turns, frame_of, frames_of, is_turn, ◌⊕◌}
-use Rattle.reglang.specs.declared.refusals.LineFault.{LineFault}
-use Rattle.reglang.specs.declared.refusals.LineFault.TheVariants.{PastLimit}
+use Rattle.reglines.specs.declared.faults.LineFault.{LineFault}
+use Rattle.reglines.specs.declared.faults.LineFault.TheVariants.{PastLimit}
 use Rattle.reglang.proofs.Frames.{turns-held}
 use Rattle.reglang.specs.declared.draft.Draft.{Draft}
 use Rattle.reglang.specs.declared.draft.Open.{Open}

@@ -8,14 +8,14 @@ use Rattle.std.proofs.lemmas.List.Elements.{All-from_recursion}
 use Rattle.std.proofs.lemmas.List.Folds.{list_all-append}
 use Rattle.std.proofs.lemmas.List.Splits.{slice_split_at, slice_split_none}
 use Rattle.std.proofs.lemmas.List.Sums.{AllPass-from_list_all}
-use Rattle.reglang.specs.Forms.{line_of, read_line}
+use Rattle.reglines.specs.Forms.{line_of, read_line}
 use Rattle.reglang.specs.Grammar.{lines_said, line_said}
-use Rattle.reglang.specs.Lines.{is_empty, is_printable, lines, without_empty_end, words}
-use Rattle.reglang.specs.Words.{word_of}
+use Rattle.reglines.specs.Lines.{is_empty, is_printable, lines, without_empty_end, words}
+use Rattle.reglines.specs.Words.{word_of}
 use Rattle.reglang.specs.Writing.{line_text, line_words, lines_text, word_text, words_text}
-use Rattle.reglang.specs.declared.arguments.Line.{Line}
-use Rattle.reglang.specs.declared.words.Word.{Word}
-use Rattle.reglang.specs.declared.refusals.LineFault.TheVariants.{NotPrintable}
+use Rattle.reglines.specs.declared.arguments.Line.{Line}
+use Rattle.reglines.specs.declared.words.Word.{Word}
+use Rattle.reglines.specs.declared.faults.LineFault.TheVariants.{NotPrintable}
 use Rattle.reglang.proofs.LineWords.{line_again, line_fits, words_fit}
 use Rattle.reglang.proofs.WordTexts.{is_plain, plain_word, word_again, word_fits}
 

@@ -7,16 +7,17 @@ use Rattle.std.proofs.lemmas.List.Elements.{All-from_recursion, recursion_from_A
 use Rattle.reglang.specs.Contents.{Contents}
 use Rattle.reglang.specs.Drafts.{Reading, Empty, Between, take_line, take_if_said, contents_at_end, read_from, faulty_at, goes_on, IsRefusalOf}
 use Rattle.reglang.specs.Faults.{are_faultless, at_start, context_after_lines, first_fault}
-use Rattle.reglang.specs.Forms.{read_line}
+use Rattle.reglines.specs.Forms.{read_line}
 use Rattle.reglang.specs.Grammar.{Spells, lines_said, line_said}
-use Rattle.reglang.specs.Lines.{lines}
-use Rattle.reglang.specs.declared.arguments.Line.{Line}
+use Rattle.reglines.specs.Lines.{lines}
+use Rattle.reglines.specs.declared.arguments.Line.{Line}
 use Rattle.reglang.specs.declared.reader.ReadFault.{ReadFault}
 use Rattle.reglang.specs.declared.refusals.LineRefusal.{LineRefusal}
 use Rattle.reglang.specs.declared.refusals.LineRefusal.TheVariants as refusal
-use Rattle.reglang.specs.LineFaults.{code_of, refusal_code}
-use Rattle.reglang.specs.declared.refusals.LineFault.{LineFault}
-use Rattle.reglang.specs.declared.refusals.LineFault.TheVariants.{Misplaced, NoClause, NoForm, NoNumber, NoRegisters, NotPrintable, PastLimit, UnknownWord}
+use Rattle.reglines.specs.LineFaults.{code_of}
+use Rattle.reglang.specs.Refusals.{refusal_code}
+use Rattle.reglines.specs.declared.faults.LineFault.{LineFault}
+use Rattle.reglines.specs.declared.faults.LineFault.TheVariants.{Misplaced, NoClause, NoForm, NoNumber, NoRegisters, NotPrintable, PastLimit, UnknownWord}
 use Rattle.reglang.proofs.Leads.{takes, then_take, source_leads}
 use Rattle.reglang.proofs.Says.{reads_spelled}
 use Rattle.reglang.proofs.Contexts.{Agrees, StepsRead, context_of, reads_first, steps_read}

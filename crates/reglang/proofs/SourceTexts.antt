@@ -16,8 +16,8 @@ use Rattle.uses.specs.Uses.{is_between, is_mark, use_fits}
 use Rattle.reglang.specs.Writing.{block_lines, body_lines, check_line, else_lines, process_lines, source_lines, source_text}
 use Rattle.uses.specs.declared.kinds.Use.{Use}
 use Rattle.uses.specs.declared.kinds.Use.TheVariants as use_line
-use Rattle.reglang.specs.declared.arguments.Line.{Line}
-use Rattle.reglang.specs.declared.arguments.Line.TheVariants as line
+use Rattle.reglines.specs.declared.arguments.Line.{Line}
+use Rattle.reglines.specs.declared.arguments.Line.TheVariants as line
 use Rattle.uses.proofs.ExpansionLimits.{between, fits}
 use Rattle.reglang.proofs.ReadAgain.{all_formed, lines_said_again}
 use Rattle.reglang.proofs.LineWords.{line_fits, numbers_small}

@@ -10,15 +10,15 @@ use Rattle.std.proofs.lemmas.Str.Parse.{digit_from_value}
 use Rattle.regmodel.specs.declared.statements.Op.TheVariants as op
 use Rattle.regmodel.specs.declared.statements.Operand.TheVariants as operand
 use Rattle.regmodel.specs.Limits.{operand_fits}
-use Rattle.reglang.specs.Lines.{is_empty}
-use Rattle.reglang.specs.Words.{is_digit, is_number, up_to_limit, number_of, only_below, variable_of, before_last, in_brackets, cell_or, cell_or_other, cell_word, variable_or, number_word, value_word, keywords, operators, kinds, properties, spelled_in, word_of}
+use Rattle.reglines.specs.Lines.{is_empty}
+use Rattle.reglines.specs.Words.{is_digit, is_number, up_to_limit, number_of, only_below, variable_of, before_last, in_brackets, cell_or, cell_or_other, cell_word, variable_or, number_word, value_word, keywords, operators, kinds, properties, spelled_in, word_of}
 use Rattle.reglang.specs.Writing.{word_text}
-use Rattle.reglang.specs.declared.vocabulary.Keyword.TheVariants as keyword
-use Rattle.reglang.specs.declared.vocabulary.Kind.TheVariants as kind
-use Rattle.reglang.specs.declared.vocabulary.Property.TheVariants as property
-use Rattle.reglang.specs.declared.words.Word.{Word}
-use Rattle.reglang.specs.declared.words.Word.TheVariants as word
-use Rattle.reglang.proofs.Digits.{digit_range}
+use Rattle.reglines.specs.declared.vocabulary.Keyword.TheVariants as keyword
+use Rattle.reglines.specs.declared.vocabulary.Kind.TheVariants as kind
+use Rattle.reglines.specs.declared.vocabulary.Property.TheVariants as property
+use Rattle.reglines.specs.declared.words.Word.{Word}
+use Rattle.reglines.specs.declared.words.Word.TheVariants as word
+use Rattle.reglines.proofs.Digits.{digit_range}
 
 -- a word that stands in a line within its limits
 abbrev pub word_fits : Word → Bool

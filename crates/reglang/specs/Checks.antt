@@ -1,11 +1,11 @@
 -- Where a line stands in a text, and which lines are checks.
 use Rattle.std.specs.Prelude.{◌≡◌, ℕ, zero, suc, List, [], ◌∷◌, ◌++◌, Option, Some, None, Result, Ok, IfSome, MatchOption, slice_get}
 use Rattle.regmodel.specs.declared.clauses.Clause.{Clause}
-use Rattle.reglang.specs.Lines.{lines}
-use Rattle.reglang.specs.Forms.{read_line}
-use Rattle.reglang.specs.declared.arguments.Line.{Line}
-use Rattle.reglang.specs.declared.refusals.LineFault.{LineFault}
-use Rattle.reglang.specs.declared.arguments.Line.TheVariants as line
+use Rattle.reglines.specs.Lines.{lines}
+use Rattle.reglines.specs.Forms.{read_line}
+use Rattle.reglines.specs.declared.arguments.Line.{Line}
+use Rattle.reglines.specs.declared.faults.LineFault.{LineFault}
+use Rattle.reglines.specs.declared.arguments.Line.TheVariants as line
 
 -- the line with this number, counted from 1
 abbrev pub line_at : ℕ → List ℕ → Option (List ℕ)

@@ -7,8 +7,8 @@ use Rattle.regmodel.specs.Program.{Block, Program}
 use Rattle.uses.specs.Expansions.{expansion}
 use Rattle.uses.specs.Uses.{use_fits}
 use Rattle.uses.specs.declared.kinds.Use.{Use}
-use Rattle.reglang.specs.Arguments.{are_of, clause_parts}
-use Rattle.reglang.specs.Sorts.{property_sorts}
+use Rattle.reglines.specs.Arguments.{are_of, clause_parts}
+use Rattle.reglines.specs.Sorts.{property_sorts}
 
 -- what a process runs: its own statements, or what a use line stands for
 pub data Body : Type 0 where

@@ -1,8 +1,8 @@
 -- Worked examples: the first faults of texts, and a text that spells a source.
 use Rattle.std.specs.Prelude.{◌≡◌, ℕ, Bool, true, false, List, [], ◌∷◌, ◌++◌, Option, Some, None, codes, map, replicate, refl}
 use Rattle.reglang.specs.Faults.{are_faultless, asks, at_start, first_fault}
-use Rattle.reglang.specs.Forms.{read_line}
-use Rattle.reglang.specs.Lines.{lines}
+use Rattle.reglines.specs.Forms.{read_line}
+use Rattle.reglines.specs.Lines.{lines}
 use Rattle.reglang.specs.declared.reader.ReadFault.{ReadFault}
 
 -- a line and the byte that ends it, before more

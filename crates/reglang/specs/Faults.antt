@@ -2,20 +2,21 @@
 use Rattle.std.specs.Prelude.{◌≡◌, ◌≢◌, ℕ, suc, ◌≤◌, Bool, true, false, not, ◌&&◌, if◌then◌else◌, List, [], ◌∷◌, ◌++◌, length, max, take, Option, Some, None, IfSome, is_some, is_none, unwrap_or, option_map, Result, Ok, Err, nat_lt}
 use Rattle.regmodel.specs.declared.limits.TheConstants.{MOST_CHECKS, MOST_OPEN_BLOCKS, MOST_OPEN_REPEATS, MOST_PROCESSES, MOST_REGISTERS, MOST_STATEMENTS}
 use Rattle.reglang.specs.declared.refusals.TheConstants.{NO_MEMORY}
-use Rattle.reglang.specs.LineFaults.{code_of, fault_of}
-use Rattle.reglang.specs.declared.refusals.LineFault.{LineFault}
-use Rattle.reglang.specs.declared.refusals.LineFault.TheVariants.{Misplaced, NoClause, NoRegisters, PastLimit}
+use Rattle.reglines.specs.LineFaults.{code_of}
+use Rattle.reglang.specs.Refusals.{fault_of}
+use Rattle.reglines.specs.declared.faults.LineFault.{LineFault}
+use Rattle.reglines.specs.declared.faults.LineFault.TheVariants.{Misplaced, NoClause, NoRegisters, PastLimit}
 use Rattle.regmodel.specs.Limits.{expr_fits, simple_fits}
 use Rattle.regmodel.specs.Program.{Simple}
-use Rattle.reglang.specs.Lines.{lines}
-use Rattle.reglang.specs.Forms.{read_line}
+use Rattle.reglines.specs.Lines.{lines}
+use Rattle.reglines.specs.Forms.{read_line}
 use Rattle.reglang.specs.Checks.{line_at}
 use Rattle.reglang.specs.Contents.{Contents}
 use Rattle.reglang.specs.Grammar.{Spells, line_said, lines_said}
-use Rattle.reglang.specs.Statements.{simple_of}
+use Rattle.reglines.specs.Statements.{simple_of}
 use Rattle.uses.specs.Uses.{is_between, use_fits}
-use Rattle.reglang.specs.declared.arguments.Line.{Line}
-use Rattle.reglang.specs.declared.arguments.Line.TheVariants as line
+use Rattle.reglines.specs.declared.arguments.Line.{Line}
+use Rattle.reglines.specs.declared.arguments.Line.TheVariants as line
 use Rattle.reglang.specs.declared.reader.ReadFault.{ReadFault}
 use Rattle.reglang.specs.declared.reader.Rejection.{Rejection}
 

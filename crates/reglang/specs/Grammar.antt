@@ -4,12 +4,12 @@ use Rattle.std.specs.List.{flat_map}
 use Rattle.regmodel.specs.declared.clauses.Clause.{Clause}
 use Rattle.regmodel.specs.Program as program
 use Rattle.regmodel.specs.Program.{Block, Simple}
-use Rattle.reglang.specs.Lines.{lines}
-use Rattle.reglang.specs.Forms.{read_line}
+use Rattle.reglines.specs.Lines.{lines}
+use Rattle.reglines.specs.Forms.{read_line}
 use Rattle.reglang.specs.Contents.{Body, Text, Kind, Contents, IsSourceWithin}
-use Rattle.reglang.specs.declared.arguments.Line.{Line}
-use Rattle.reglang.specs.declared.refusals.LineFault.{LineFault}
-use Rattle.reglang.specs.declared.arguments.Line.TheVariants as line
+use Rattle.reglines.specs.declared.arguments.Line.{Line}
+use Rattle.reglines.specs.declared.faults.LineFault.{LineFault}
+use Rattle.reglines.specs.declared.arguments.Line.TheVariants as line
 
 -- one line, and after it lines of which `rest` holds
 pub record Begins (first : Line) (rest : List Line → Type 0) (lines : List Line) : Type 0 where

@@ -6,7 +6,7 @@ use Rattle.regmodel.specs.declared.statements.Operand.TheVariants.{Var}
 use Rattle.regmodel.specs.Program.{Block, Stop, Do, Scan, If, Halt}
 use Rattle.reglang.specs.Contents.{Contents, Text}
 use Rattle.reglang.specs.Grammar.{BlockSays, LinesSay, Process, lines_said}
-use Rattle.reglang.specs.declared.arguments.Line.TheVariants as line
+use Rattle.reglines.specs.declared.arguments.Line.TheVariants as line
 
 -- a process that is done at once
 abbrev halts : Contents

@@ -1,4 +1,3 @@
-pub mod Arguments
 pub mod Bodies
 pub mod CheckExamples
 pub mod Checks
@@ -6,16 +5,9 @@ pub mod Contents
 pub mod Drafts
 pub mod FaultExamples
 pub mod Faults
-pub mod Forms
 pub mod Grammar
 pub mod GrammarExamples
-pub mod LineExamples
-pub mod LineFaults
-pub mod Lines
-pub mod Sorts
+pub mod Refusals
 pub mod Sources
-pub mod Spelling
-pub mod Statements
-pub mod Words
 pub mod Writing
 pub mod WritingExamples

@@ -13,21 +13,21 @@ use Rattle.regmodel.specs.Program as program
 use Rattle.regmodel.specs.Program.{Block}
 use Rattle.regmodel.specs.Blocks.{block_of, with_stmt}
 use Rattle.regmodel.specs.declared.statements.Stmt.{Stmt}
-use Rattle.reglang.specs.Arguments.{clause_parts, line_parts, use_parts}
-use Rattle.reglang.specs.Spelling.{keyword_text, kind_text, operator_text, property_text}
+use Rattle.reglines.specs.Arguments.{clause_parts, line_parts, use_parts}
+use Rattle.reglines.specs.Spelling.{keyword_text, kind_text, operator_text, property_text}
 use Rattle.reglang.specs.Grammar.{simple_line}
 use Rattle.reglang.specs.Contents.{Body, Text, Kind, Contents}
 use Rattle.reglang.specs.Bodies.{body_of}
 use Rattle.reglang.specs.Sources.{contents_of}
 use Rattle.uses.specs.declared.kinds.Use.{Use}
-use Rattle.reglang.specs.declared.arguments.Argument.{Argument}
-use Rattle.reglang.specs.declared.arguments.Argument.TheVariants as argument
+use Rattle.reglines.specs.declared.arguments.Argument.{Argument}
+use Rattle.reglines.specs.declared.arguments.Argument.TheVariants as argument
 use Rattle.reglang.specs.declared.source.Process.{Process}
 use Rattle.reglang.specs.declared.source.Source.{Source}
-use Rattle.reglang.specs.declared.words.Word.{Word}
-use Rattle.reglang.specs.declared.words.Word.TheVariants as word
-use Rattle.reglang.specs.declared.arguments.Line.{Line}
-use Rattle.reglang.specs.declared.arguments.Line.TheVariants as line
+use Rattle.reglines.specs.declared.words.Word.{Word}
+use Rattle.reglines.specs.declared.words.Word.TheVariants as word
+use Rattle.reglines.specs.declared.arguments.Line.{Line}
+use Rattle.reglines.specs.declared.arguments.Line.TheVariants as line
 
 -- a number between two pieces of text
 abbrev pub between : List ℕ → ℕ → List ℕ → List ℕ

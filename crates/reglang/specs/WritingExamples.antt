@@ -10,7 +10,7 @@ use Rattle.regmodel.specs.Program as program
 use Rattle.reglang.specs.Contents.{Text, Kind}
 use Rattle.reglang.specs.Writing.{line_text, source_text}
 use Rattle.uses.specs.declared.kinds.Use.TheVariants as use_line
-use Rattle.reglang.specs.declared.arguments.Line.TheVariants as line
+use Rattle.reglines.specs.declared.arguments.Line.TheVariants as line
 
 pub write_line :
     line_text

@@ -7,11 +7,11 @@ ghost use Rattle.reglang.specs.Drafts as spec;
 ghost use Rattle.reglang.specs.Drafts.{AnswersAtEnd, AnswersLine, Inside, ReadingFits, contents_before, inside_of, is_turn, may_enter, reading_of, take_line};
 ghost use Rattle.reglang.specs.Faults.{may_ask};
 
-use crate::arguments::Line;
 use crate::parts::Parts;
-use crate::refusals::{LineFault, LineRefusal};
+use crate::refusals::LineRefusal;
 use crate::source::Source;
 use arrayvec::ArrayVec;
+use reglines::{Line, LineFault};
 use regmodel::limits::{MOST_OPEN_BLOCKS, MOST_REGISTERS, MOST_STATEMENTS};
 use regmodel::{Expr, Stmt};
 use std::alloc::Global;

@@ -5,14 +5,14 @@ ghost use Rattle.reglang.specs.Bodies.{body_of, is_over};
 ghost use Rattle.reglang.specs.Drafts as spec;
 ghost use Rattle.reglang.specs.Drafts.{Answers, AnswersLine, Between, contents_before, with_body};
 ghost use Rattle.reglang.specs.Faults.{may_ask};
-ghost use Rattle.reglang.specs.declared.arguments.Line.TheVariants as line;
+ghost use Rattle.reglines.specs.declared.arguments.Line.TheVariants as line;
 ghost use Rattle.reglang.specs.declared.source.Process.TheVariants as process;
 
-use crate::arguments::Line;
 use crate::draft::{Draft, OpenProcess};
 use crate::parts::Parts;
-use crate::refusals::{LineFault, LineRefusal};
+use crate::refusals::LineRefusal;
 use crate::source::Process;
+use reglines::{Line, LineFault};
 use regmodel::Clause;
 use regmodel::limits::MOST_PROCESSES;
 use std::alloc::Global;

@@ -3,9 +3,9 @@
 ghost use Rattle.std.specs.Prelude.{◌≡◌, All, true};
 ghost use Rattle.reglang.specs.Bodies.{is_over};
 
-use crate::refusals::LineFault;
 use crate::source::{Process, Source};
 use arrayvec::ArrayVec;
+use reglines::LineFault;
 use regmodel::{Clause, Clauses};
 use std::alloc::Global;
 

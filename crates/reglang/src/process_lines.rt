@@ -3,12 +3,12 @@
 ghost use Rattle.std.specs.Prelude.{◌≡◌, ◌<◌, [], Ok, false};
 ghost use Rattle.reglang.specs.Drafts.{Answers, AnswersLine, ReadingFits, add_to, entered, inside_of, open_with, pushed, take_line};
 ghost use Rattle.reglang.specs.Faults.{may_ask};
-ghost use Rattle.reglang.specs.declared.arguments.Line.TheVariants as line;
+ghost use Rattle.reglines.specs.declared.arguments.Line.TheVariants as line;
 
-use crate::arguments::Line;
 use crate::draft::{Draft, Open, OpenProcess, open_repeats};
-use crate::refusals::{LineFault, LineRefusal};
+use crate::refusals::LineRefusal;
 use crate::source::Process;
+use reglines::{Line, LineFault};
 use regmodel::limits::{MOST_OPEN_REPEATS, MOST_STATEMENTS};
 use regmodel::{Expr, Prog, Stmt, scan_fits};
 use std::alloc::Global;

@@ -4,18 +4,17 @@ ghost use Rattle.std.specs.Prelude.{◌≡◌, ◌<◌, ◌≤◌, ◌++◌, IfE
 ghost use Rattle.reglang.specs.Checks.{AreChecksOf, check_lines, number_of_check};
 ghost use Rattle.reglang.specs.Drafts.{AnswersLine, ReadingFits, checks_in, reading_of, take_if_said};
 ghost use Rattle.reglang.specs.Faults.{HasNoneBefore, IsFirst, IsUnspelled, TellsEnd, TellsMemory, WantsMemory, asks, last_line};
-ghost use Rattle.reglang.specs.Forms as forms;
+ghost use Rattle.reglines.specs.Forms as forms;
 ghost use Rattle.reglang.specs.Grammar.{Spells};
-ghost use Rattle.reglang.specs.LineFaults.{fault_of};
+ghost use Rattle.reglang.specs.Refusals.{fault_of};
 ghost use Rattle.reglang.specs.Sources.{check_lines_of, contents_of};
 
-use crate::arguments::Line;
 use crate::draft::Draft;
-use crate::forms::{read_line, split_line};
 use crate::laws::{each_check_is_that_of_its_clause, what_is_spelled_is_known};
 use crate::refusals::LineRefusal;
 use crate::source::Source;
 use arrayvec::ArrayVec;
+use reglines::{Line, read_line, split_line};
 use std::alloc::Global;
 use std::fmt;
 use thiserror::Error;

@@ -8,7 +8,7 @@ ghost use Rattle.reglang.specs.Contents.{clause_fits};
 ghost use Rattle.reglang.specs.Bodies.{is_over};
 
 use arrayvec::ArrayVec;
-use regmodel::{Clause, Clauses, OutOfMemory, Prog, Stmt};
+use regmodel::{Clauses, OutOfMemory, Prog, Stmt};
 use std::alloc::Global;
 use uses::{Use, expand};
 

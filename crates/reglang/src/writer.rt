@@ -9,9 +9,9 @@ ghost use Rattle.reglang.specs.Writing.{process_text, processes_text, stmts_text
 mod lines;
 mod words;
 
-use crate::arguments::Line;
 use crate::source::{Process, Source};
 use lines::push_line;
+use reglines::Line;
 use regmodel::{Clause, OutOfMemory, Stmt};
 
 /// Appends the one text that is written of a source: its `registers` line, its processes and its

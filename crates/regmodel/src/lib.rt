@@ -26,6 +26,6 @@ pub use outcomes::{End, Judge, Outcome, ProcEnd};
 pub use parts::Part;
 pub use programs::Prog;
 pub use schedule_texts::{read_schedule, write_schedule};
-pub use schedules::{Letter, Prefix};
+pub use schedules::{Letter, Prefix, letter_at, number_of};
 pub use settings::{SettingFault, Settings};
 pub use statements::{Expr, Op, Operand, Stmt, Target};

@@ -23,11 +23,18 @@ impl Model for Settings {
 
     ghost Value = { spec.Settings };
 
-    ghost view = { λ s. record { length = s.length; crashes = s.crashes; workers = s.workers; cut = s.cut; room = s.room } };
+    ghost view = { λ s. spec.settings_of s.length s.crashes s.workers s.cut s.room };
 
-    ghost invariant = { λ s. spec.AreSettingsWithin (record { length = s.length; crashes = s.crashes; workers = s.workers; cut = s.cut; room = s.room }) };
+    ghost invariant = { λ s.
+        spec.AreSettingsWithin (spec.settings_of s.length s.crashes s.workers s.cut s.room) };
 
-    ghost inverse = { λ b. record { length = b.length; crashes = b.crashes; workers = b.workers; cut = b.cut; room = b.room } };
+    ghost inverse = { λ b. record {
+      length = b.length;
+      crashes = b.crashes;
+      workers = b.workers;
+      cut = b.cut;
+      room = b.room;
+    } };
 }
 
 /// The code of a length past its limit.

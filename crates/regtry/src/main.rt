@@ -22,7 +22,8 @@ struct System<'a> {
 impl Opener for System<'_> {
     type Reader = Input<Stdin, File>;
 
-    ghost opens = { λ system path file. is_standard path ≡ true → file ≡ Some (input.Standard system.standard) };
+    ghost opens = { λ system path file. is_standard path ≡ true
+        → file ≡ Some (input.Standard system.standard) };
 
     fn open(&self, path: &str) -> Result<Input<Stdin, File>, FileFault> {
         let rt = self.rt;

@@ -2,7 +2,7 @@
 use Rattle.std.specs.Prelude.{ℕ, ◌==◌, if◌then◌else◌, List, [], ◌++◌, Option, Some, None, codes, decimal}
 use Rattle.machine.specs.declared.culprits.Culprit.{Culprit}
 use Rattle.machine.specs.declared.culprits.Culprit.TheVariants.{Register, Cell, Value, Turns}
-use Rattle.reglang.specs.Spelling.{operator_text}
+use Rattle.reglines.specs.Spelling.{operator_text}
 use Rattle.regmodel.specs.declared.faults.TheConstants.{NO_PLACE, NO_VALUE, TOO_MANY_TURNS}
 use Rattle.regmodel.specs.declared.limits.TheConstants.{CELLS}
 use Rattle.verdict.specs.OriginText.{origin_text}

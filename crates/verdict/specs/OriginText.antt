@@ -3,7 +3,7 @@ use Rattle.std.specs.Prelude.{ℕ, ◌==◌, if◌then◌else◌, List, [], ◌+
 use Rattle.explanations.specs.Origins.{line_told, path_told}
 use Rattle.explanations.specs.Shown.{shown}
 use Rattle.reglang.specs.Checks.{line_at}
-use Rattle.reglang.specs.Lines.{without_indent}
+use Rattle.reglines.specs.Lines.{without_indent}
 
 -- the file that a line comes from, where a line before it tells another one than that of the text
 abbrev pub of_file_text : List ℕ → List ℕ

@@ -4,11 +4,11 @@ use Rattle.std.specs.List.{position_from}
 use Rattle.regmodel.specs.declared.statements.Expr.TheVariants.{Two}
 use Rattle.regmodel.specs.declared.statements.Op.{Op}
 use Rattle.regmodel.specs.declared.statements.Op.TheVariants.{Equal, Less}
-use Rattle.reglang.specs.Forms.{read_line}
-use Rattle.reglang.specs.Lines.{lines}
-use Rattle.reglang.specs.declared.arguments.Line.{Line}
-use Rattle.reglang.specs.declared.arguments.Line.TheVariants.{Repeat}
-use Rattle.reglang.specs.declared.refusals.LineFault.{LineFault}
+use Rattle.reglines.specs.Forms.{read_line}
+use Rattle.reglines.specs.Lines.{lines}
+use Rattle.reglines.specs.declared.arguments.Line.{Line}
+use Rattle.reglines.specs.declared.arguments.Line.TheVariants.{Repeat}
+use Rattle.reglines.specs.declared.faults.LineFault.{LineFault}
 use Rattle.verdict.specs.OriginText.{line_text}
 
 -- an operator that gives 1 or 0

@@ -8,7 +8,7 @@ ghost use Rattle.verdict.specs.Faults as faults;
 use crate::origin_text::LineOrigin;
 use drawing::{Drawing, statement_line};
 use machine::Culprit;
-use reglang::Spelled;
+use reglines::Spelled;
 use regmodel::faults::{NO_PLACE, NO_VALUE, TOO_MANY_TURNS};
 use regmodel::limits::CELLS;
 use regmodel::{End, ProcEnd};

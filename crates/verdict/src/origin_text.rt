@@ -3,7 +3,7 @@
 ghost use Rattle.verdict.specs.OriginText as spec;
 
 use explanations::{origin_of, shown_line};
-use reglang::without_indent;
+use reglines::without_indent;
 use std::io::Write;
 use texts::{Block, Text, WriteFault};
 

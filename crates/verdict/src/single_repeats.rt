@@ -1,11 +1,11 @@
 //! Lines that repeat as often as a comparison says: once, or not at all.
 
 ghost use Rattle.std.specs.Prelude.{◌≡◌};
-ghost use Rattle.reglang.specs.Forms as forms;
+ghost use Rattle.reglines.specs.Forms as forms;
 ghost use Rattle.verdict.specs.SingleRepeats as spec;
 
 use crate::origin_text::{LineOrigin, LineTold};
-use reglang::{Line, read_line, split_line};
+use reglines::{Line, read_line, split_line};
 use regmodel::{Expr, Op};
 use std::io::Write;
 use texts::{Block, Text, WriteFault};

@@ -180,9 +180,7 @@ pub fn breach_for(
         l.0 l.1 result) }
 {
     the_first_refused_is_a_schedule();
-    let Some((schedule, _)) = least.least() else {
-        unreachable!()
-    };
+    let (schedule, _) = least.least().unwrap();
     let source = spelling.source;
     let mut world = World::new(machines, source.registers(), settings.crashes());
     let drawing = drawing_of(&mut world, source, schedule);

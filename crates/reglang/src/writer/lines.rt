@@ -4,9 +4,8 @@ ghost use Rattle.std.specs.Prelude.{◌≡◌, ◌++◌, OnOk, codes};
 ghost use Rattle.reglang.specs.Writing as spec;
 ghost use Rattle.reglang.specs.Writing.{argument_words, arguments_text, spaced};
 
-use crate::arguments::{Argument, Line, clause_parts, line_parts, use_parts};
-use crate::words::Word;
 use crate::writer::words::push_word;
+use reglines::{Argument, Line, Word, clause_parts, line_parts, use_parts};
 use regmodel::{Expr, Operand, OutOfMemory, Target};
 
 /// The word of a target.

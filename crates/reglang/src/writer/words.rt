@@ -4,9 +4,8 @@ ghost use Rattle.std.specs.Prelude.{◌≡◌, ◌++◌, OnOk, decimal};
 ghost use Rattle.reglang.specs.Writing as spec;
 ghost use Rattle.reglang.specs.Writing.{between};
 
-use crate::vocabulary::Spelled;
-use crate::words::Word;
 use itoa::Buffer;
+use reglines::{Spelled, Word};
 use regmodel::{Operand, OutOfMemory};
 
 /// Appends the digits of a number.

@@ -2,7 +2,7 @@ use Rattle.std.proofs.Common.{◌≡◌, false}
 use Rattle.std.proofs.lemmas.Result.{IfErr-weaker, IfOk-weaker, err_from_is_err_and}
 use Rattle.machine.specs.Meaning.{all_programs}
 use Rattle.reglang.specs.Sources.{source_programs}
-use Rattle.explorer.proofs.GrownLists.{last_has}
+use Rattle.pieces.proofs.GrownLists.{last_has}
 use Rattle.cli.proofs.aims.found_by.Goals as goal
 
 pub returns-in-Check-clause-found : goal.returns-in-Check-clause-found

@@ -1,6 +1,6 @@
 use Rattle.std.proofs.Common.{◌≡◌, length}
 use Rattle.drawing.specs.RegisterNames.{first_name}
-use Rattle.reglang.specs.Lines.{lines}
+use Rattle.reglines.specs.Lines.{lines}
 use Rattle.drawing.proofs.names.first_name.Given as goal
 
 -- no line so far gives a name

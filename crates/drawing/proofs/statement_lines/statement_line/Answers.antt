@@ -1,6 +1,6 @@
 use Rattle.std.proofs.Common.{◌≡◌, suc, ◌+◌, ◌-◌, ◌∷◌, ap, sym, ◌∙◌, arith}
 use Rattle.std.specs.Prelude.{slice_get}
-use Rattle.reglang.specs.Lines.{lines}
+use Rattle.reglines.specs.Lines.{lines}
 use Rattle.drawing.specs.StatementLines.{statements_after}
 use Rattle.drawing.proofs.StatementsPassed.{more-here, none-here}
 use Rattle.drawing.proofs.statement_lines.statement_line.Goals as goal

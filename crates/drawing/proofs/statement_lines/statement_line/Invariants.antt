@@ -1,6 +1,6 @@
 use Rattle.std.proofs.Common.{◌≡◌, ◌+◌, ◌≤◌, length}
 use Rattle.std.specs.Prelude.{slice_get}
-use Rattle.reglang.specs.Lines.{lines}
+use Rattle.reglines.specs.Lines.{lines}
 use Rattle.drawing.specs.StatementLines.{statement_line, statements_after}
 use Rattle.drawing.proofs.statement_lines.statement_line.Given as goal
 

@@ -1,6 +1,6 @@
 use Rattle.std.proofs.Common.{◌≡◌, ℕ, List, ◌∷◌, ◌++◌, length, ap, sym, ◌∙◌}
 use Rattle.std.proofs.lemmas.Result.{err_from_is_err_and}
-use Rattle.reglang.specs.declared.vocabulary.Property.{Property}
+use Rattle.reglines.specs.declared.vocabulary.Property.{Property}
 use Rattle.texts.proofs.Appending.{after_text, fault_before}
 use Rattle.explanations.specs.ClauseForms.{clause_words, clauses_listed, parting}
 use Rattle.explanations.proofs.clause_forms.+put_clauses.Goals as goal

@@ -1,5 +1,5 @@
 use Rattle.std.proofs.Common.{◌≡◌, map, drop}
-use Rattle.reglang.specs.Words.{spelled_in}
+use Rattle.reglines.specs.Words.{spelled_in}
 use Rattle.explanations.proofs.idioms.here_in.Given as goal
 
 abbrev pub invariant-loop-foreign : goal.invariant-loop-foreign

@@ -1,6 +1,6 @@
 use Rattle.std.proofs.Common.{◌≡◌, length, slice_get}
 use Rattle.reglang.specs.Checks.{line_at}
-use Rattle.reglang.specs.Lines.{lines}
+use Rattle.reglines.specs.Lines.{lines}
 use Rattle.explanations.proofs.lines.line_at.Given as goal
 
 abbrev pub invariant-loop-line : goal.invariant-loop-line

@@ -1,5 +1,5 @@
 use Rattle.std.proofs.Common.{◌≡◌, length}
-use Rattle.reglang.specs.Lines.{words}
+use Rattle.reglines.specs.Lines.{words}
 use Rattle.explanations.specs.Misfits.{misfit_of}
 use Rattle.explanations.proofs.misfits.first_misfit.Given as goal
 

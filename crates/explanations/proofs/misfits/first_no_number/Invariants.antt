@@ -1,6 +1,6 @@
 use Rattle.std.proofs.Common.{◌≡◌, length}
-use Rattle.reglang.specs.Forms.{is_no_number}
-use Rattle.reglang.specs.Lines.{words}
+use Rattle.reglines.specs.Forms.{is_no_number}
+use Rattle.reglines.specs.Lines.{words}
 use Rattle.explanations.specs.Misfits.{first_that}
 use Rattle.explanations.proofs.misfits.first_no_number.Given as goal
 

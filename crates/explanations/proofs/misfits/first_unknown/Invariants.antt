@@ -1,5 +1,5 @@
 use Rattle.std.proofs.Common.{◌≡◌, length}
-use Rattle.reglang.specs.Lines.{words}
+use Rattle.reglines.specs.Lines.{words}
 use Rattle.explanations.specs.Misfits.{first_that, is_unknown}
 use Rattle.explanations.proofs.misfits.first_unknown.Given as goal
 

@@ -1,6 +1,6 @@
 use Rattle.std.proofs.Common.{rules, ◌≡◌, ◌+◌, ◌-◌, ◌<◌, take, ap, sym, subst, ◌∙◌, arith}
 use Rattle.explanations.specs.OpenBlocks.{innermost, open_after, open_behind}
-use Rattle.reglang.specs.Lines.{lines}
+use Rattle.reglines.specs.Lines.{lines}
 use Rattle.explanations.proofs.BlocksBehind.{past_line, past_none}
 use Rattle.explanations.proofs.open_blocks.open_block.Goals as goal
 use Rattle.explanations.proofs.open_blocks.open_block.Goals.{in-Some+then-number-count, in_default}

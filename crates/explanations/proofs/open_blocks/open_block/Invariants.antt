@@ -1,6 +1,6 @@
 use Rattle.std.proofs.Common.{◌≡◌, ◌-◌, ◌≤◌, length, take}
 use Rattle.explanations.specs.OpenBlocks.{open_after, open_behind}
-use Rattle.reglang.specs.Lines.{lines}
+use Rattle.reglines.specs.Lines.{lines}
 use Rattle.explanations.proofs.open_blocks.open_block.Given as goal
 
 abbrev pub invariant-loop-line : goal.invariant-loop-line

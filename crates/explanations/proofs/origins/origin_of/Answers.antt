@@ -1,6 +1,6 @@
 use Rattle.std.proofs.Common.{◌≡◌, suc, ◌∷◌, ◌+◌, ◌-◌, length, take, ap, sym, ◌∙◌, arith}
 use Rattle.explanations.specs.Origins.{number_behind, path_behind}
-use Rattle.reglang.specs.Lines.{lines}
+use Rattle.reglines.specs.Lines.{lines}
 use Rattle.explanations.proofs.origins.origin_of.Goals as goal
 
 pub loop-line-preserved : goal.loop-line-preserved

@@ -1,6 +1,6 @@
 use Rattle.std.proofs.Common.{◌≡◌, ◌+◌, ◌≤◌, length, take}
 use Rattle.explanations.specs.Origins.{line_told, number_behind, path_behind, path_told}
-use Rattle.reglang.specs.Lines.{lines}
+use Rattle.reglines.specs.Lines.{lines}
 use Rattle.explanations.proofs.origins.origin_of.Given as goal
 
 abbrev pub invariant-loop-line : goal.invariant-loop-line

@@ -5,8 +5,9 @@ use Rattle.regmodel.specs.declared.schedules.Letter.{Letter}
 use Rattle.part_texts.specs.PlainHead.{AreOfOne}
 use Rattle.part_texts.specs.declared.parts.PartReport.{PartReport}
 use Rattle.tallies.specs.Merging.{lower_of}
-use Rattle.explorer.specs.Parts.{members_of_part}
-use Rattle.explorer.specs.Searches.{Search, reduced_of, search_of}
+use Rattle.pieces.specs.Parts.{members_of_part}
+use Rattle.pieces.specs.Searches.{Search, reduced_of}
+use Rattle.explorer.specs.Tasks.{search_of}
 use Rattle.part_laws.specs.Wholes.{IsFoundIn, IsPartOfSource}
 use Rattle.part_laws.proofs.JoinedParts.{all_found, each_found, gathered, gathered-balanced, some_count, whole_found}
 use Rattle.part_laws.proofs.laws.merged_parts_are_the_whole.Goals as goal

@@ -4,8 +4,9 @@ use Rattle.regmodel.specs.declared.parts.Part.{Part}
 use Rattle.world.specs.Fit.{AreFit}
 use Rattle.reglang.specs.Sources.{source_programs}
 use Rattle.lists.specs.EveryNth.{every_nth}
-use Rattle.explorer.specs.Cutting.{pieces_at}
-use Rattle.explorer.specs.Searches.{Search, search_of}
+use Rattle.pieces.specs.Cutting.{pieces_at}
+use Rattle.pieces.specs.Searches.{Search}
+use Rattle.explorer.specs.Tasks.{search_of}
 use Rattle.part_laws.proofs.FoundParts.{explored-fits, lowest-fits}
 use Rattle.part_laws.proofs.laws.parts_can_be_read.Goals as goal
 

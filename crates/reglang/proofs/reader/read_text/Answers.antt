@@ -1,5 +1,5 @@
 use Rattle.std.proofs.Common.{◌≡◌, Err, length, max, ◌∙◌, ap, arith, sym}
-use Rattle.reglang.specs.LineFaults.{code_of}
+use Rattle.reglines.specs.LineFaults.{code_of}
 use Rattle.reglang.proofs.CheckLines.{all_kept, checks_counted, kept_on}
 use Rattle.reglang.proofs.Fits.{read_on_fits}
 use Rattle.reglang.proofs.Memory.{ran_out}

@@ -1,7 +1,7 @@
 use Rattle.std.proofs.Common.{◌≡◌, ◌+◌, ◌≤◌, ◌++◌, length}
 use Rattle.reglang.specs.Drafts.{ReadingFits, checks_in, reading_of}
 use Rattle.reglang.specs.Checks.{check_lines, checks_after}
-use Rattle.reglang.specs.Lines.{lines}
+use Rattle.reglines.specs.Lines.{lines}
 use Rattle.reglang.proofs.Readings.{IsLeft}
 use Rattle.reglang.proofs.reader.read_text.Given as goal
 

@@ -2,7 +2,7 @@ use Rattle.std.proofs.Common.{◌++◌, ap, sym, ◌∙◌}
 use Rattle.regmodel.specs.Prelude.{block_of, with_stmt}
 use Rattle.regmodel.proofs.Rows.{with_stmt-If, with_stmt-Repeat}
 use Rattle.reglang.specs.Writing.{block_lines, lines_text, else_lines}
-use Rattle.reglang.specs.declared.arguments.Line.TheVariants as line
+use Rattle.reglines.specs.declared.arguments.Line.TheVariants as line
 use Rattle.reglang.proofs.LineTexts.{ended, on_ok, else_text, if_text, repeat_text}
 use Rattle.reglang.proofs.writer.+writing.Goals as goal
 

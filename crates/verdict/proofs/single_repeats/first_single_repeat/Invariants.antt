@@ -1,7 +1,7 @@
 use Rattle.std.proofs.Common.{◌≡◌, ◌+◌, ◌≤◌, length}
 use Rattle.std.specs.List.{position_from}
-use Rattle.reglang.specs.Forms.{read_line}
-use Rattle.reglang.specs.Lines.{lines}
+use Rattle.reglines.specs.Forms.{read_line}
+use Rattle.reglines.specs.Lines.{lines}
 use Rattle.verdict.specs.SingleRepeats.{first_single_repeat, says_single_repeat}
 use Rattle.verdict.proofs.single_repeats.first_single_repeat.Given as goal
 

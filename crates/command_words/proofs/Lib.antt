@@ -1,4 +1,0 @@
-pub mod PlainCommands
-pub mod AddedWords
-pub mod NamedSubcommands
-pub mod ParsedCommands

@@ -1,9 +1,0 @@
-use Rattle.std.proofs.Common.{◌≡◌, length, map, take}
-use Rattle.reglang.specs.declared.arguments.Argument.TheVariants.{Number}
-use Rattle.reglang.proofs.arguments.numbers.Given as goal
-
-abbrev pub invariant-loop-number : goal.invariant-loop-number
-invariant-loop-number l = record {
-  numbers : l.arguments.items ≡ map Number (take l.number-index l.numbers);
-  long : length l.arguments.items ≡ l.number-index;
-}

@@ -1,0 +1,3 @@
+mod Cuts
+pub mod Digits
+pub mod FirstWords

@@ -1,0 +1,9 @@
+pub mod Arguments
+pub mod Forms
+pub mod LineExamples
+pub mod LineFaults
+pub mod Lines
+pub mod Sorts
+pub mod Spelling
+pub mod Statements
+pub mod Words
