@@ -10,7 +10,7 @@ ghost use Rattle.cli.specs.Understanding.{resumed_of_all};
 ghost use Rattle.cli.specs.declared.machines.ProcessMachine.TheVariants as process;
 
 use explorer::Understanding;
-use machine::{Interp, Machine, Told};
+use machine::{Ahead, Interp, Machine, Told};
 use natives::{Grid, MakeFault, NameSlots, Names, Split, Tree};
 use reglang::{Source, Spelling, Use};
 use regmodel::{OutOfMemory, Pending, Reply};
@@ -92,25 +92,14 @@ impl Machine for ProcessMachine {
         }
     }
 
-    fn most_accesses(&self) -> Option<u32> {
+    fn ahead(&self) -> Option<Ahead> {
         match self {
-            ProcessMachine::Text(machine) => machine.most_accesses(),
-            ProcessMachine::Split(machine) => machine.most_accesses(),
-            ProcessMachine::Grid(machine) => machine.most_accesses(),
-            ProcessMachine::Tree(machine) => machine.most_accesses(),
-            ProcessMachine::Name(machine) => machine.most_accesses(),
-            ProcessMachine::Names(machine) => machine.most_accesses(),
-        }
-    }
-
-    fn last_write(&self, register: u8) -> Option<u32> {
-        match self {
-            ProcessMachine::Text(machine) => machine.last_write(register),
-            ProcessMachine::Split(machine) => machine.last_write(register),
-            ProcessMachine::Grid(machine) => machine.last_write(register),
-            ProcessMachine::Tree(machine) => machine.last_write(register),
-            ProcessMachine::Name(machine) => machine.last_write(register),
-            ProcessMachine::Names(machine) => machine.last_write(register),
+            ProcessMachine::Text(machine) => machine.ahead(),
+            ProcessMachine::Split(machine) => machine.ahead(),
+            ProcessMachine::Grid(machine) => machine.ahead(),
+            ProcessMachine::Tree(machine) => machine.ahead(),
+            ProcessMachine::Name(machine) => machine.ahead(),
+            ProcessMachine::Names(machine) => machine.ahead(),
         }
     }
 

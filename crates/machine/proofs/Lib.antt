@@ -4,7 +4,6 @@ pub mod CellLists
 pub mod CheckedNumbers
 pub mod ForgottenTargets
 pub mod KeptStates
-pub mod LastAccesses
 pub mod NumberedBlocks
 pub mod PaddedValues
 pub mod PastReplies

@@ -20,7 +20,6 @@ use Rattle.machine.specs.declared.states.KeptState.{KeptState}
 use Rattle.machine.specs.Rest.{Asks, from_place, rest_from}
 use Rattle.machine.specs.Forgetting.{forgotten}
 use Rattle.machine.specs.Keeping.{IsStart, LeadsTo, state_at}
-use Rattle.machine.specs.Lasts.{accesses_of, last_write}
 use Rattle.machine.specs.Sparse.{past_sparse, sparse, spread}
 use Rattle.machine.specs.Paths.{answer_at}
 use Rattle.machine.specs.StateNumbers.{access_numbers, resumed_by}
@@ -91,34 +90,6 @@ a_write_is_answered env r v s = refl
 pub a_scan_is_answered : (env : Env) (cell first count : ℕ) (s : Replies)
     → answer_at (access.Scan first count) (InCells cell) env s ≡ answer_scan env cell first count s
 a_scan_is_answered env cell first count s = refl
-
--- ---- how far they go
-pub two_accesses : accesses_of write_and_read.body ≡ 2
-two_accesses = refl
-
-pub the_first_is_the_last_write : last_write 0 write_and_read.body ≡ 1
-the_first_is_the_last_write = refl
-
-pub three_accesses : accesses_of three_writes.body ≡ 3
-three_accesses = refl
-
-pub the_third_is_the_last_write : last_write 0 three_writes.body ≡ 3
-the_third_is_the_last_write = refl
-
-pub no_other_register_is_written : last_write 1 three_writes.body ≡ 0
-no_other_register_is_written = refl
-
--- a `repeat` of unknown count may make 99 turns, and a write of unknown register may come to each
-abbrev pub reads_and_writes : Block
-reads_and_writes =
-    Repeat (One (operand.Var 0))
-    (Do (Read (target.Var 1) (operand.Number 0))
-    (Do (Write (operand.Var 1) (One (operand.Number 5)))
-    Stop))
-    Stop
-
-pub the_last_of_99_turns : last_write 7 reads_and_writes ≡ 198
-the_last_of_99_turns = refl
 
 -- ---- what is over stays so, whatever comes
 pub a_fault_stays :

@@ -1,3 +1,4 @@
+pub mod Ahead
 pub mod Bits
 mod Culprits
 pub mod Examples
@@ -6,7 +7,6 @@ pub mod Following
 pub mod Forgetting
 pub mod Interps
 pub mod Keeping
-pub mod Lasts
 pub mod Meaning
 pub mod Paths
 pub mod Rest

@@ -1,16 +1,12 @@
 //! The interpreter: a machine that runs a program's statements.
 
 ghost use Rattle.std.specs.Prelude.{◌≡◌, ℕ, ◌+◌, ◌<◌, ◌≤◌, IfOk, length, true};
-ghost use Rattle.std.specs.Option.{ForSome};
-ghost use Rattle.regmodel.specs.declared.limits.TheConstants.{MOST_REGISTERS};
 ghost use Rattle.regmodel.specs.Prelude.{program_of, IsReplyTo};
 ghost use Rattle.regmodel.specs.Lawful.{IsAtStart};
 ghost use Rattle.regmodel.specs.Kept.{values_in};
 ghost use Rattle.machine.specs.Keeping.{IsKept, IsStart, RanPast, kept_at, state_at};
-ghost use Rattle.machine.specs.Lasts.{AreWrittenBy, EndsBy};
 ghost use Rattle.machine.specs.Rest.{Asks, pending_in};
 
-use crate::lasts::{REGISTERS, accesses_of, last_writes};
 use crate::states::{KeptState, State};
 use crate::{Machine, Told};
 use regmodel::limits::MOST_LETTERS;
@@ -32,17 +28,10 @@ pub struct Interp {
     /// How many places are known, from the start on. None is after an end, and the last one is not
     /// where more replies came than are kept: the present state stands past them then.
     known: usize,
-    /// How many accesses the program does at most, where that is known.
-    most: Option<u32>,
-    /// By how many it has written to each register for the last time, where that is known.
-    lasts: [Option<u32>; REGISTERS],
     ghost room: { at < length kept.items },
     ghost fits: { known ≤ length kept.items },
     ghost asks: { (place : ℕ) → Asks (program_of prog) (state_at kept.items place) },
     ghost follows: { IsKept (program_of prog) kept.items known },
-    ghost ends: { ForSome most (λ n. EndsBy (program_of prog) n) },
-    ghost writes: { AreWrittenBy (program_of prog) lasts },
-    ghost registers: { length lasts ≡ MOST_REGISTERS },
 }
 
 impl Interp {
@@ -61,15 +50,11 @@ impl Interp {
             state: State::over(),
         };
         let kept = vec![in alloc; blank; PLACES]?;
-        let most = accesses_of(prog.body());
-        let lasts = last_writes(prog.body());
         let mut interp = Interp {
             prog,
             kept,
             at: 0,
             known: 0,
-            most,
-            lasts,
         };
         interp.reset();
         Ok(interp)
@@ -177,19 +162,6 @@ impl Machine for Interp {
             self.known = self.known.min(self.at);
             let state = self.kept[self.at].state;
             self.kept[self.at].state.go_on(&state, &self.prog, reply);
-        }
-    }
-
-    fn most_accesses(&self) -> Option<u32> {
-        self.most
-    }
-
-    fn last_write(&self, register: u8) -> Option<u32> {
-        let place = usize::from(register);
-        if place < REGISTERS {
-            self.lasts[place]
-        } else {
-            None
         }
     }
 

@@ -8,14 +8,14 @@ ghost use Rattle.regmodel.specs.declared.accesses.Pending.TheVariants.{Done};
 ghost use Rattle.regmodel.specs.Kept.{values_in};
 ghost use Rattle.regmodel.specs.Lawful.{IsAtStart};
 ghost use Rattle.regmodel.specs.Reply as spec;
+ghost use Rattle.machine.specs.Ahead.{IsAhead};
 ghost use Rattle.machine.specs.Following.{Follows};
-ghost use Rattle.machine.specs.Lasts.{EndsBy, WritesBy};
 ghost use Rattle.machine.specs.Meaning.{IsSameMachine, Meaning};
 ghost use Rattle.machine.specs.Telling.{Tells};
 
+mod ahead;
 mod culprits;
 mod interp;
-mod lasts;
 mod numbering;
 mod resume;
 mod run;
@@ -25,6 +25,7 @@ mod states;
 mod stops;
 mod values;
 
+pub use ahead::Ahead;
 pub use culprits::Culprit;
 pub use interp::Interp;
 use regmodel::{Pending, Reply};
@@ -67,19 +68,10 @@ pub trait Machine: Drop + Send {
         ensures goes_on { (s : Replies)
             → (means self.new).rest s ≡ (means self.old).rest (reply.now ∷ s) };
 
-    /// How many accesses its program does at most, from its start on; None where it cannot tell.
-    fn most_accesses(&self) -> Option<u32>
-        ensures { IfSome result (λ most. EndsBy (means self.now).program most) }
+    /// What its program may still do from where it stands; None where it cannot tell.
+    fn ahead(&self) -> Option<Ahead>
+        ensures { IfSome result (IsAhead (means self.now).rest) }
     {
-        None
-    }
-
-    /// By how many accesses from its start on its program has written to a register for the last
-    /// time, 0 where it never does; None where it cannot tell.
-    fn last_write(&self, register: u8) -> Option<u32>
-        ensures { IfSome result (λ last. WritesBy (means self.now).program register last) }
-    {
-        let _ = register;
         None
     }
 
@@ -163,17 +155,9 @@ pub fn tell_box(machine: &Box<dyn Machine + Send>, numbers: &mut Told) -> bool
     machine.tell(numbers)
 }
 
-/// How many accesses a boxed machine's program does at most, where it can tell.
-pub fn most_accesses_of_box(machine: &Box<dyn Machine + Send>) -> Option<u32>
-    ensures { IfSome result (λ most. EndsBy (means machine.now).program most) }
+/// What a boxed machine's program may still do from where it stands, where it can tell.
+pub fn ahead_of_box(machine: &Box<dyn Machine + Send>) -> Option<Ahead>
+    ensures { IfSome result (IsAhead (means machine.now).rest) }
 {
-    machine.most_accesses()
-}
-
-/// By how many accesses a boxed machine's program has written to a register for the last time,
-/// where it can tell.
-pub fn last_write_of_box(machine: &Box<dyn Machine + Send>, register: u8) -> Option<u32>
-    ensures { IfSome result (λ last. WritesBy (means machine.now).program register last) }
-{
-    machine.last_write(register)
+    machine.ahead()
 }

@@ -15,15 +15,6 @@ use machine::{Machine, Told, value_of};
 use regmodel::Pending;
 use uses::Use;
 
-/// How many accesses it does at most: it marks, tries, closes and looks.
-const STEPS: u32 = 4;
-
-/// By how many accesses it has marked.
-const MARKED: u32 = 1;
-
-/// By how many accesses it has closed the door.
-const CLOSED: u32 = 3;
-
 /// Where a splitter stands.
 #[derive(Clone, Copy)]
 enum SplitStage {
@@ -119,20 +110,6 @@ impl Machine for Split {
             SplitStage::At(SplitterStep::Looks) => SplitStage::Down,
             over => over,
         };
-    }
-
-    fn most_accesses(&self) -> Option<u32> {
-        Some(STEPS)
-    }
-
-    fn last_write(&self, register: u8) -> Option<u32> {
-        if register == self.base + 1 {
-            Some(CLOSED)
-        } else if register == self.base {
-            Some(MARKED)
-        } else {
-            Some(0)
-        }
     }
 
     fn end(&mut self) {
