@@ -5,10 +5,10 @@ use Rattle.regmodel.specs.declared.accesses.Pending.TheVariants as pending
 use Rattle.regmodel.specs.declared.statements.Expr.TheVariants.{One}
 use Rattle.regmodel.specs.declared.statements.Operand.TheVariants as operand
 use Rattle.regmodel.specs.declared.statements.Target.TheVariants as target
-use Rattle.regmodel.specs.Program.{Block, Program, Stop, Do, Read, Write, Repeat, Emit}
+use Rattle.regmodel.specs.Program.{Program, Stop, Do, Read, Write, Repeat, Emit}
 use Rattle.regmodel.specs.Act.{answer_read, answer_scan, answer_write}
 use Rattle.regmodel.specs.Reply.{Replies, one}
-use Rattle.regmodel.specs.Values.{Env, InVar, start_env, store}
+use Rattle.regmodel.specs.Values.{Env, start_env}
 use Rattle.machine.specs.declared.run.BlockExit.TheVariants as block
 use Rattle.machine.specs.declared.run.Frame.{Frame}
 use Rattle.machine.specs.declared.run.StmtPart.TheVariants.{At, Turn}
@@ -18,7 +18,6 @@ use Rattle.machine.specs.declared.values.Place.TheVariants as place
 use Rattle.machine.specs.declared.values.Store.{Store}
 use Rattle.machine.specs.declared.states.KeptState.{KeptState}
 use Rattle.machine.specs.Rest.{Asks, from_place, rest_from}
-use Rattle.machine.specs.Forgetting.{forgotten}
 use Rattle.machine.specs.Keeping.{IsStart, LeadsTo, state_at}
 use Rattle.machine.specs.Sparse.{past_sparse, sparse, spread}
 use Rattle.machine.specs.Paths.{answer_at}
@@ -47,10 +46,6 @@ pub its_reply_is_emitted : from_place write_and_read at_the_read start_env (one 
     ≡ pending.Done (record { items = 7 ∷ [] })
 its_reply_is_emitted = refl
 
--- what variable 0 holds at the read is overwritten by its reply
-pub it_is_forgotten : forgotten at_the_read (store start_env (InVar 0) 9) ≡ start_env
-it_is_forgotten = refl
-
 -- ---- three turns of a write
 abbrev pub three_writes : Program
 three_writes = record {
@@ -65,10 +60,6 @@ three_writes = record {
 abbrev pub in_the_second_turn : List Frame
 in_the_second_turn =
     record { at = 0; part = Turn 1 } ∷ record { at = 0; part = At (access.Write 0 5) Nowhere } ∷ []
-
-pub a_write_forgets_nothing : forgotten in_the_second_turn (store start_env (InVar 0) 9)
-    ≡ store start_env (InVar 0) 9
-a_write_forgets_nothing = refl
 
 pub one_more_write : from_place three_writes in_the_second_turn start_env (one 0 ∷ [])
     ≡ pending.Wants (access.Write 0 5)

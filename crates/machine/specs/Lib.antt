@@ -4,10 +4,12 @@ mod Culprits
 pub mod Examples
 pub mod Exits
 pub mod Following
-pub mod Forgetting
 pub mod Interps
 pub mod Keeping
 pub mod Meaning
+pub mod NumberSets
+pub mod OutlookTables
+pub mod Outlooks
 pub mod Paths
 pub mod Rest
 pub mod Runs

@@ -5,10 +5,12 @@ ghost use Rattle.regmodel.specs.Prelude.{program_of, IsReplyTo};
 ghost use Rattle.regmodel.specs.Lawful.{IsAtStart};
 ghost use Rattle.regmodel.specs.Kept.{values_in};
 ghost use Rattle.machine.specs.Keeping.{IsKept, IsStart, RanPast, kept_at, state_at};
+ghost use Rattle.machine.specs.OutlookTables.{IsTableOf};
 ghost use Rattle.machine.specs.Rest.{Asks, pending_in};
 
+use crate::outlook_table::OutlookTable;
 use crate::states::{KeptState, State};
-use crate::{Machine, Told};
+use crate::{Ahead, Machine, Told};
 use regmodel::limits::MOST_LETTERS;
 use regmodel::{OutOfMemory, Pending, Prog, Reply};
 use std::alloc::Global;
@@ -28,9 +30,12 @@ pub struct Interp {
     /// How many places are known, from the start on. None is after an end, and the last one is not
     /// where more replies came than are kept: the present state stands past them then.
     known: usize,
+    /// What each statement of the program may still do.
+    table: OutlookTable,
     ghost room: { at < length kept.items },
     ghost fits: { known ≤ length kept.items },
     ghost asks: { (place : ℕ) → Asks (program_of prog) (state_at kept.items place) },
+    ghost tells: { ∥ IsTableOf table (program_of prog).body ∥₁ },
     ghost follows: { IsKept (program_of prog) kept.items known },
 }
 
@@ -38,7 +43,7 @@ impl Interp {
     ghost use Rattle.machine.specs.Interps.{WentPast, state_of};
 
     /// An interpreter of this program, at its start. An error comes where memory for the kept
-    /// states is refused, and the program is dropped then. No later call takes memory.
+    /// states or for its table is refused, and the program is dropped then. No later call takes memory.
     pub fn make(alloc: Global, prog: Prog) -> Result<Interp, OutOfMemory>
         ensures same { IfOk result
             (λ m. (⟦<Interp as Machine>⟧.means m).program ≡ program_of prog) }
@@ -49,12 +54,14 @@ impl Interp {
             reply: Reply::none(),
             state: State::over(),
         };
+        let table = OutlookTable::make(alloc, prog.body())?;
         let kept = vec![in alloc; blank; PLACES]?;
         let mut interp = Interp {
             prog,
             kept,
             at: 0,
             known: 0,
+            table,
         };
         interp.reset();
         Ok(interp)
@@ -165,6 +172,10 @@ impl Machine for Interp {
         }
     }
 
+    fn ahead(&self) -> Option<Ahead> {
+        self.kept[self.at].state.ahead(&self.table)
+    }
+
     fn end(&mut self) {
         self.at = 0;
         self.known = 0;
@@ -172,6 +183,9 @@ impl Machine for Interp {
     }
 
     fn tell(&self, numbers: &mut Told) -> bool {
-        self.kept[self.at].state.tell(numbers).is_some()
+        self.kept[self.at]
+            .state
+            .tell(&self.table, numbers)
+            .is_some()
     }
 }

@@ -1,13 +1,15 @@
 //! What a program holds, its variables, its cells and the numbers that it has emitted, and what its
 //! expressions are worth.
 
-ghost use Rattle.std.specs.Prelude.{◌≡◌, ◌≤◌, length, replicate, slice_index, slice_set};
+ghost use Rattle.std.specs.Prelude.{◌≡◌, ◌+◌, ◌≤◌, ℕ, if◌then◌else◌, length, replicate, slice_index, slice_set};
 ghost use Rattle.regmodel.specs.Kept.{values_in};
 ghost use Rattle.regmodel.specs.Values.{within, below_or_fault, operand_value, expr_value, apply_op, target_place, store, store_from, InCell};
 ghost use Rattle.regmodel.specs.declared.limits.TheConstants.{CELLS, MOST_NUMBERS};
+ghost use Rattle.machine.specs.NumberSets.{has};
 ghost use Rattle.machine.specs.Sparse.{sparse};
 ghost use Rattle.machine.specs.Stores.{env_of, as_place, as_place_or_fault, reply_stored, values_of};
 
+use crate::sets::NumberSet;
 use crate::value_of;
 use regmodel::faults::{NO_PLACE, NO_VALUE};
 use regmodel::limits::{CELLS, GREATEST_VALUE, MOST_NUMBERS};
@@ -53,6 +55,24 @@ impl<const N: usize> Row<N> {
             }
             self.places[i] = value;
         }
+    }
+
+    /// The values whose numbers are in a set, in which the first one has this number, and 0 in place
+    /// of each other one.
+    pub(crate) fn kept(&self, live: NumberSet, first: u8) -> Row<N>
+        requires { first + N ≤ 64 }
+        ensures long { length (values_of result) ≡ length (values_of self.now) }
+        ensures values { (i : ℕ) → slice_index (values_of result) i
+            ≡ (if has live (first + i) then slice_index (values_of self.now) i else 0) }
+    {
+        let mut row = Row::zeros();
+        for i in 0..N {
+            if !live.has(first + i as u8) {
+                continue;
+            }
+            row.put(i, self.get(i));
+        }
+        row
     }
 
     /// The first values, behind which all are 0.

@@ -12,4 +12,4 @@ pub returns : goal.returns
 returns c = λ told.
     let program = program_of c.args.self.now.prog in
     let here = kept_at-index c.args.self.now.kept.items c.args.self.now.at c.index.result.now c.args.self.now.room c.index.ensures in
-    subst (λ kept. Tells (resumed_by program) (rest_in program kept.state) (numbers_in c.args.numbers.now) (numbers_in c.tell.new.numbers)) here (where_some c.tell.result c.tell.ensures (sym c.is_some.ensures ∙ told) program)
+    subst (λ kept. Tells (resumed_by program) (rest_in program kept.state) (numbers_in c.args.numbers.now) (numbers_in c.tell.new.numbers)) here (where_some c.tell.result c.tell.ensures (sym c.is_some.ensures ∙ told) program c.args.self.now.tells c.args.self.now.prog.few_registers)
