@@ -46,6 +46,7 @@ class Block:
     way: str
     statements: List[Statement] = field(default_factory=list)
     never: Dict[int, Place] = field(default_factory=dict)
+    is_written: bool = True
     end: int = 0
 
     def everything(self) -> Iterator[Statement]:
@@ -100,7 +101,7 @@ class Source:
         statement = self.opened[-1].statements[-1]
         statement.last = at
         if block.way == "then":
-            statement.blocks.append(Block("else" if word == "else" else "unwritten", end=at))
+            statement.blocks.append(Block("else", is_written=word == "else", end=at))
             self.opened += statement.blocks[1:] if word == "else" else []
 
     def covered(self) -> List[Block]:

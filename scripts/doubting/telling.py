@@ -7,7 +7,7 @@ from coverage import Coverage, Point
 from statements import Block, Place, Statement
 
 STRAIGHT = ("set", "read", "write", "scan")
-NEVER = {"then": "is never true", "else": "is never false", "unwritten": "is never false", "turn": "takes no turn"}
+NEVER = {"then": "is never true", "else": "is never false", "turn": "takes no turn"}
 LISTS = (
     ("other", "that no check notices, with other outcomes"),
     ("same", "that no check notices, with the same outcomes"),
