@@ -28,7 +28,7 @@ class Answer(NamedTuple):
 
 
 class Calls:
-    """The calls of the program: so many at once, each for so many seconds; a terminal is told how many there were."""
+    """The calls of the program: so many at once, each for so many seconds. A terminal is told how many."""
 
     def __init__(self, jobs: int, limit: float):
         self.seats, self.limit, self.count = threading.Semaphore(jobs), limit, 0
@@ -37,7 +37,8 @@ class Calls:
         """A call of the program with this standard input; nothing where it takes longer than it may."""
         with self.seats:
             self.count += 1
-            self.tell(f"doubt: {self.count} checks")
+            if sys.stderr.isatty():
+                sys.stderr.write(f"\rdoubt: {self.count} checks")
             try:
                 return subprocess.run(
                     [PROGRAM, *words], input=text, capture_output=True, text=True, timeout=self.limit
@@ -45,10 +46,11 @@ class Calls:
             except subprocess.TimeoutExpired:
                 return None
 
-    def tell(self, line: str) -> None:
-        """Writes a line over the last one, on a terminal."""
+    def clear(self) -> None:
+        """Takes away what a terminal was told."""
         if sys.stderr.isatty():
-            sys.stderr.write(f"\r{line}\x1b[K")
+            sys.stderr.write("\r\x1b[K")
+            sys.stderr.flush()
 
 
 @dataclass
