@@ -21,8 +21,8 @@ class Change(NamedTuple):
 
 
 class Verdict(NamedTuple):
-    """What comes of a change: `kind` is noticed, other (outcomes), same (outcomes) or unfinished; and the check
-    line that it breaks first, or none where a process is at fault."""
+    """What comes of a change: it is noticed, leads to other outcomes or the same, or is unfinished; and the
+    check line that it breaks first, or none where a process is at fault."""
 
     change: Change
     kind: str
@@ -133,6 +133,7 @@ class Trial:
 
     def breaks(self, change: Change, check: Statement) -> bool:
         """Whether a change breaks a check line where the others are left out."""
-        lines = (it for it in change.text.split("\n") if it.split()[:1] != ["check"] or it.split() == check.words)
-        answer = self.program.check("\n".join(lines), "--allow-faults")
+        lines = [(line, line.split()) for line in change.text.split("\n")]
+        text = "\n".join(line for line, words in lines if words[:1] != ["check"] or words == check.words)
+        answer = self.program.check(text, "--allow-faults")
         return answer is not None and not answer.holds

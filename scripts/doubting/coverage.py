@@ -38,8 +38,8 @@ def most_emitted(block: Block) -> int:
 
 
 def muted(statement: Statement, counter: str) -> List[str]:
-    """The lines in place of an `emit`: it is evaluated where it may be at fault, and counted where it may be the
-    ninth one, by a sum that is too great then."""
+    """The lines in place of an `emit`: it is evaluated where it may be at fault, and counted where it may be
+    the ninth one, by a sum that is too great then."""
     may_fail = len(statement.words) > 2 or "[v" in statement.words[1]
     evaluated = [" ".join(["if", *statement.words[1:]]), "fi"] if may_fail else []
     return evaluated + ([f"set {counter} {counter} + {MOST_NUMBER // MOST_EMITTED}"] if counter else [])

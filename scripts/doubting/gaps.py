@@ -29,8 +29,8 @@ class Gap(NamedTuple):
 
 
 class Gaps:
-    """The gaps of a source: those that are known, those of which it was not finished whether they are gaps, and
-    the marks `# never` to whose places a schedule comes."""
+    """The gaps of a source: those that are known, those of which it was not finished whether they are gaps,
+    and the marks `# never` to whose places a schedule comes."""
 
     def __init__(self, covered: Coverage):
         self.covered = covered
@@ -49,7 +49,8 @@ class Gaps:
                 yield self.gap(None, block, at)
                 return
             for inner in statement.blocks:
-                yield from self.of_block(inner) if inner in self.covered.last else [self.gap(statement, inner, 0)]
+                is_taken = inner in self.covered.last
+                yield from self.of_block(inner) if is_taken else [self.gap(statement, inner, 0)]
 
     def gap(self, chooser: Optional[Statement], block: Block, at: int) -> Gap:
         """The gap that begins at a point of a block."""

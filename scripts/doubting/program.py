@@ -10,6 +10,7 @@ from typing import Dict, List, NamedTuple, Optional
 
 PROGRAM = os.environ.get("REGTRY") or str(Path(__file__).resolve().parents[2] / "regtry")
 REFUSED, COULD_NOT = 2, 3
+BOUNDS = {"--length": "64", "--crashes": "0"}
 
 
 class Failure(Exception):
@@ -70,3 +71,15 @@ class Program:
         if ran.returncode not in (0, 1):
             raise Failure(ran.stderr.strip(), REFUSED if ran.returncode == REFUSED else COULD_NOT)
         return Answer(ran.returncode == 0, ran.stdout)
+
+    def bounds(self) -> str:
+        """The bounds of the check, as it says them."""
+        letters, crashes = (int(self.options.get(it, [other])[0]) for it, other in BOUNDS.items())
+        told = counted(crashes, "crash") if crashes else "no crashes"
+        return f"up to {counted(letters, 'letter')} and {told}"
+
+
+def counted(number: int, what: str) -> str:
+    """A number of things."""
+    plural = "es" if what.endswith("h") else "s"
+    return f"{number} {what}{'' if number == 1 else plural}"

@@ -1,11 +1,12 @@
 """What is said of a source, in words and as JSON."""
 
 from itertools import groupby
-from typing import Any, Dict, Iterator, List, Optional
+from typing import Any, Dict, Iterator, List, Tuple
 
 from changes import Trial, Verdict
 from coverage import Coverage
 from gaps import Gap, Gaps
+from program import counted
 from statements import Place, Statement
 
 NEVER = {"then": "is never true", "else": "is never false", "turn": "takes no turn"}
@@ -14,11 +15,6 @@ LISTS = {
     "same": "that no check notices, with the same outcomes",
     "unfinished": "not finished: give a greater --limit",
 }
-
-
-def counted(number: int, what: str) -> str:
-    """A number of things."""
-    return f"{number} {what if number == 1 else what + ('es' if what.endswith('ch') else 's')}"
 
 
 def key(place: Place) -> Any:
@@ -36,8 +32,8 @@ def run(statements: List[Statement]) -> str:
 
 def runs(gap: Gap, is_meant: bool) -> str:
     """The lines of a gap that are meant never to run, or the others."""
-    groups = ((is_this, [it for it, _ in group]) for is_this, group in groupby(gap.statements, lambda it: it[1]))
-    return ", ".join(run(statements) for is_this, statements in groups if is_this is is_meant)
+    groups = groupby(gap.statements, lambda it: it[1])
+    return ", ".join(run([it for it, _ in group]) for is_this, group in groups if is_this is is_meant)
 
 
 def gap_words(gap: Gap) -> str:
@@ -64,7 +60,8 @@ def coverage_lines(covered: Coverage, bounds: str) -> Iterator[str]:
         besides = " that is not meant never to run" if gaps.known else ""
         yield f"each statement and branch{besides} is executed, {bounds}"
     yield from (f"  {gap_words(it)}" for it in gaps.doubts)
-    yield from (f"  {run([one for one, _ in it.statements])}: not finished: give a greater --limit" for it in gaps.unfinished if it.statements)
+    for gap in filter(lambda it: it.statements, gaps.unfinished):
+        yield f"  {run([it for it, _ in gap.statements])}: not finished: give a greater --limit"
     yield from (f"  {it}: marked `# never`, and a schedule comes there" for it in gaps.belied)
     yield from (f"  {runs(it, True)}: meant never to run" for it in gaps.known if it.those(True))
     yield from (f"  {use.place}: `{use}` is left alone" for use in source.uses())
@@ -95,11 +92,11 @@ def change_lines(trial: Trial) -> Iterator[str]:
             yield f"  {statement.place}, `{statement}`: {', '.join(it.what for it in group)}"
 
 
-def coverage_data(covered: Coverage) -> Dict[str, Any]:
-    """What is known of statements and branches, for JSON."""
+def coverage_data(covered: Coverage) -> Tuple[Dict[str, Any], bool]:
+    """What is known of statements and branches, for JSON, and whether it is a doubt."""
     gaps = Gaps(covered)
     ways = [(it.chooser, it.way) for it in gaps.known if it.chooser and it.is_branch]
-    return {
+    data = {
         "never": [key(it.place) for gap in gaps.known for it in gap.those(False)],
         "meant_never": [key(it.place) for gap in gaps.known for it in gap.those(True)],
         "branches": [{"line": key(it.place), "way": way} for it, way in ways],
@@ -107,23 +104,24 @@ def coverage_data(covered: Coverage) -> Dict[str, Any]:
         "left_alone": [key(it.place) for it in covered.source.uses()],
         "open": [key(it.place) for gap in gaps.unfinished for it, _ in gap.statements],
     }
+    return data, bool(gaps.doubts or gaps.belied or gaps.unfinished)
 
 
-def change_data(trial: Trial) -> Dict[str, Any]:
-    """What is known of changes, for JSON."""
-
-    def told(verdict: Verdict) -> Dict[str, Any]:
-        return {"line": key(verdict.change.statement.place), "change": verdict.change.what}
-
-    return {
+def change_data(trial: Trial) -> Tuple[Dict[str, Any], bool]:
+    """What is known of changes, for JSON, and whether it is a doubt. `ended` asks of the length."""
+    checks = trial.source.checks
+    told: Dict[str, List[Dict[str, Any]]] = {kind: [] for kind in (*LISTS, "noticed")}
+    for it in trial.verdicts:
+        told[it.kind].append({"line": key(it.change.statement.place), "change": it.change.what})
+    data = {
         "changes": len(trial.verdicts),
         "checks": [
-            {"line": key(it.place), "check": str(it), "first": len(trial.noticed_by(it)), "is_broken": trial.is_broken(it)}
-            for it in trial.source.checks
+            {"line": key(it.place), "check": str(it), "first": len(trial.noticed_by(it))} for it in checks
         ],
+        "hidden": [key(it.place) for it in trial.hidden],
         "faults": len(trial.noticed_by(None)),
-        "unnoticed": [
-            {**told(it), "same": it.kind == "same"} for it in trial.verdicts if it.kind in ("other", "same")
-        ],
-        "unfinished": [told(it) for it in trial.verdicts if it.kind == "unfinished"],
+        "unnoticed": [{**it, "same": kind == "same"} for kind in ("other", "same") for it in told[kind]],
+        "unfinished": told["unfinished"],
     }
+    asked = (it for it in checks if it.words[1] != "ended")
+    return data, len(told["noticed"]) < len(trial.verdicts) or not all(map(trial.is_broken, asked))
