@@ -63,8 +63,14 @@ class Coverage:
                 self.unfinished.update(probes)
             elif answer.holds:
                 self.dead.update(probes)
-            for number in PROBED.findall(answer.text if answer else ""):
-                self.last[probes[int(number)].block] = probes[int(number)].at
+            else:
+                self.note([probes[int(number)] for number in PROBED.findall(answer.text)])
+
+    def note(self, reached: List[Point]) -> None:
+        """Notes the points to which a schedule comes."""
+        if not reached:
+            raise Failure("the program tells no probe, and says that one is found", COULD_NOT)
+        self.last.update((point.block, point.at) for point in reached)
 
     def answer(self, program: Program, probes: List[Point]) -> Optional[Answer]:
         """What a check says of the source with probes."""

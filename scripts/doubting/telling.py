@@ -50,7 +50,9 @@ def coverage_lines(covered: Coverage, bounds: str) -> Iterator[str]:
     everything = [it for block in source.covered() for it in block.everything()]
     statements = counted(len(everything), "statement")
     branches = counted(sum(len(it.blocks) for it in everything), "branch")
-    if gaps.doubts:
+    if not everything:
+        yield "each process has a `use` line"
+    elif gaps.doubts:
         never = sum(len(it.those(False)) for it in gaps.doubts)
         ways = sum(it.is_branch for it in gaps.doubts)
         yield f"{never} of {statements} and {ways} of {branches} are never executed, {bounds}:"
@@ -80,6 +82,9 @@ def check_words(check: Statement, trial: Trial) -> str:
 
 def change_lines(trial: Trial) -> Iterator[str]:
     """What is said of changes."""
+    if not trial.verdicts:
+        yield "there is nothing to change"
+        return
     noticed = sum(it.kind == "noticed" for it in trial.verdicts)
     yield f"{counted(len(trial.verdicts), 'change')}, one at a time: {noticed} noticed"
     yield from (f"  {it} ({it.place}): {check_words(it, trial)}" for it in trial.source.checks)
@@ -123,5 +128,5 @@ def change_data(trial: Trial) -> Tuple[Dict[str, Any], bool]:
         "unnoticed": [{**it, "same": kind == "same"} for kind in ("other", "same") for it in told[kind]],
         "unfinished": told["unfinished"],
     }
-    asked = (it for it in checks if it.words[1] != "ended")
+    asked = [it for it in checks if it.words[1] != "ended"] if trial.verdicts else []
     return data, len(told["noticed"]) < len(trial.verdicts) or not all(map(trial.is_broken, asked))
