@@ -65,7 +65,8 @@ def coverage_lines(covered: Coverage, bounds: str) -> Iterator[str]:
     for gap in filter(lambda it: it.statements, gaps.unfinished):
         yield f"  {run([it for it, _ in gap.statements])}: not finished: give a greater --limit"
     yield from (f"  {it}: marked `# never`, and a schedule comes there" for it in gaps.belied)
-    yield from (f"  {runs(it, True)}: meant never to run" for it in gaps.known if it.those(True))
+    meant = ", ".join(runs(it, True) for it in gaps.known if it.those(True))
+    yield from [f"  meant never to run: {meant}"] if meant else []
     yield from (f"  {use.place}: `{use}` is left alone" for use in source.uses())
 
 
