@@ -1,18 +1,17 @@
 """Which statements and branches some schedule executes: where no process is known to come, a probe stands.
 
-A probe emits 0 and a number, and halts; no `use` line emits a 0, and each `emit` of the source is left out, so
-a name that is 0 is that of a process that came to a probe."""
+A probe emits 0 and its number, and halts; nothing of its block stands behind it. No `use` line emits a 0, and
+what the source emits is left out, so who has the name 0 came to a probe."""
 
 import re
-from dataclasses import dataclass, field
-from typing import Dict, Iterator, List, NamedTuple, Set, Tuple
+from typing import Iterator, List, NamedTuple, Set
 
-from program import Failure, Program
-from sources import LENGTHS, most
-from statements import Block, Source, Statement, spelled
+from program import COULD_NOT, Failure, Program
+from sources import most
+from statements import Block, Source, Statement
 
 PROBED = re.compile(r"\bdone 0 (\d+)")
-MOST_STATEMENTS, MOST_EMITTED, PROBE = 200, 8, 3
+MOST_STATEMENTS, MOST_EMITTED, PROBE, COUNTED = 200, 8, 3, 3
 
 
 class Point(NamedTuple):
@@ -21,127 +20,97 @@ class Point(NamedTuple):
     block: Block
     at: int
 
+    def matters(self) -> bool:
+        """Whether it shows what is executed: it is a branch, behind an access, before another statement, or
+        marked."""
+        before, behind = self.block.statements[: self.at][-1:], self.block.statements[self.at :][:1]
+        is_next = any(it.is_access for it in before) or any(not it.is_access for it in behind)
+        return self.at == 0 or is_next or self.at in self.block.never
 
-@dataclass
+
+def most_emitted(block: Block) -> int:
+    """How many numbers a block emits at most, whatever is read."""
+
+    def tree(block: Block) -> list:
+        return [(0, it.words, [tree(inner) for inner in it.blocks]) for it in block.statements]
+
+    return most(tree(block), ("emit",))
+
+
+def muted(statement: Statement, counter: str) -> List[str]:
+    """The lines in place of an `emit`: it is evaluated, and where there may be a ninth number it is counted."""
+    lines = [" ".join(["if", *statement.words[1:]]), "fi"]
+    return lines + [f"if {counter} = {MOST_EMITTED}", "halt", "fi", f"set {counter} {counter} + 1"] * bool(counter)
+
+
 class Coverage:
-    """What is known of a source: the last point of each block to which a process comes, the points to which
-    none does, and those of which that was not finished."""
+    """What is known of a source: the last point of each block to which a process comes (`last`), and of which
+    points it is proved or not finished that none does."""
 
-    source: Source
-    last: Dict[Block, int] = field(default_factory=dict)
-    dead: Set[Point] = field(default_factory=set)
-    unfinished: Set[Point] = field(default_factory=set)
+    def __init__(self, source: Source, program: Program):
+        self.source = source
+        self.last = {block: 0 for block in source.processes}
+        self.dead: Set[Point] = set()
+        self.unfinished: Set[Point] = set()
+        while True:
+            probes = [*self.probes()]
+            if not probes:
+                return
+            answer = program.check(self.probed(probes), "--allow-faults")
+            if answer is None:
+                self.unfinished.update(probes)
+            elif answer.holds:
+                self.dead.update(probes)
+            for number in PROBED.findall(answer.text if answer else ""):
+                self.last[probes[int(number)].block] = probes[int(number)].at
 
     def is_executed(self, block: Block, at: int) -> bool:
         """Whether a schedule executes this statement of a block: an access is done, another one begun."""
         return self.last.get(block, -1) >= at + block.statements[at].is_access
 
-    def open_points(self, process: Block) -> List[Point]:
-        """The points of a process of which it is not known yet whether one comes to them."""
-        if is_ready_made(process):
-            return []
-        return [it for it in frontier(process, self.last) if it not in self.dead | self.unfinished]
+    def may_execute(self, block: Block, at: int) -> bool:
+        """Whether a schedule executes this statement, or that was not finished."""
+        return self.is_executed(block, at) or any(it.block is block for it in self.unfinished)
 
-    def is_known(self, block: Block) -> bool:
-        """Whether it was finished which statements of a block are executed."""
-        return not any(point.block is block for point in self.unfinished)
+    def next_points(self, block: Block) -> Iterator[Point]:
+        """The next point of a block and of each within it, where it is not known yet."""
+        last = self.last.get(block, -1)
+        for inner in (it for statement in block.statements[: last + 1] for it in statement.blocks):
+            yield from self.next_points(inner)
+        further = (Point(block, at) for at in range(last + 1, len(block.statements) + 1))
+        point = next(filter(Point.matters, further), None)
+        if point and point not in self.dead and point not in self.unfinished:
+            yield point
 
+    def probes(self) -> Iterator[Point]:
+        """The points at which probes are put in next: of each process as many as fit."""
+        for process in self.source.covered():
+            words = [it.words[0] for it in process.everything()]
+            room = MOST_STATEMENTS - len(words) - COUNTED * words.count("emit") * bool(self.counter(process))
+            yield from [*self.next_points(process)][: max(1, room // PROBE)]
 
-def matters(block: Block, at: int) -> bool:
-    """Whether it matters if a process comes to a point: by it a statement is executed, or it is marked."""
-    is_behind_access = at > 0 and block.statements[at - 1].is_access
-    is_before_other = at < len(block.statements) and not block.statements[at].is_access
-    return at == 0 or is_behind_access or is_before_other or at in block.never
+    def counter(self, process: Block) -> str:
+        """A variable that counts what a process emits, where that may be too much; else nothing."""
+        if most_emitted(process) <= MOST_EMITTED:
+            return ""
+        named = " ".join(word for it in process.everything() for word in it.words)
+        free = (f"v{it}" for it in range(15, -1, -1) if not re.search(rf"v{it}\b", named))
+        for variable in free:
+            return variable
+        raise Failure("a process that may emit a ninth number leaves no variable to count them", COULD_NOT)
 
-
-def frontier(block: Block, last: Dict[Block, int]) -> Iterator[Point]:
-    """The next points of a block and of those within it, behind those that are reached."""
-    reached = last.get(block, -1)
-    for statement in block.statements[: reached + 1]:
-        for inner in statement.blocks:
-            yield from frontier(inner, last)
-    further = (at for at in range(reached + 1, len(block.statements) + 1) if matters(block, at))
-    yield from (Point(block, at) for at in [*further][:1])
-
-
-def tree(block: Block) -> list:
-    """A block as `sources` has it."""
-    return [(it.place, it.words, [tree(inner) for inner in it.blocks]) for it in block.statements]
-
-
-def free_target(process: Block) -> str:
-    """A variable or a cell that a process does not name."""
-    named = {word for it in process.everything() for word in it.words}
-    cells = [] if any(word.startswith("[v") for word in named) else [f"[{it}]" for it in range(32)]
-    scanned = any(it.words[0] == "scan" for it in process.everything())
-    for target in [f"v{it}" for it in range(16)] + ([] if scanned else cells):
-        if not any(target in word for word in named):
-            return target
-    raise Failure("a process that may emit a ninth number leaves no variable free to count them", 3)
-
-
-class Probing:
-    """The spelling of a process with probes, and without what it emits."""
-
-    def __init__(self, process: Block, numbers: Dict[Point, int]):
-        self.numbers = numbers
-        self.counter = free_target(process) if most(tree(process), ("emit",)) > MOST_EMITTED else ""
-
-    def block(self, block: Block) -> List[str]:
-        """The lines of a block: behind a probe stands nothing."""
-        lines: List[str] = []
-        for at in range(len(block.statements) + 1):
-            if Point(block, at) in self.numbers:
-                return [*lines, "emit 0", f"emit {self.numbers[Point(block, at)]}", "halt"]
-            lines += [line for it in block.statements[at : at + 1] for line in self.statement(it)]
-        return lines
-
-    def statement(self, statement: Statement) -> List[str]:
-        """The lines of a statement: what is emitted is evaluated, and counted where it may be a ninth number."""
-        if statement.words[0] != "emit":
-            return spelled(statement, self.block)
-        evaluated = [" ".join(["if", *statement.words[1:]]), "fi"]
-        if not self.counter:
-            return evaluated
-        full = [f"if {self.counter} = {MOST_EMITTED}", "halt", "fi"]
-        return [*evaluated, *full, f"set {self.counter} {self.counter} + 1"]
-
-
-def is_ready_made(process: Block) -> bool:
-    """Whether a process is a `use` line, which is left alone."""
-    return process.statements[:1] != [] and process.statements[0].words[0] == "use"
-
-
-def probed(source: Source, points: Dict[Block, List[Point]]) -> Tuple[str, Dict[int, Point]]:
-    """A source with probes at these points of its processes, as many as fit; and the point of each number."""
-    numbers: Dict[Point, int] = {}
-    lines: Dict[Block, List[str]] = {}
-    for process in source.processes:
-        if is_ready_made(process):
-            lines[process] = [" ".join(process.statements[0].words)]
-            continue
-        plain = Probing(process, {}).block(process)
-        room = MOST_STATEMENTS - sum(line.split()[0] in LENGTHS for line in plain)
-        fitting = points[process][: max(1, room // PROBE)]
-        numbers.update((point, len(numbers) + it) for it, point in enumerate(fitting, 1))
-        lines[process] = Probing(process, numbers).block(process)
-    return source.text(["check atmost 0 0"], lines.__getitem__), {number: it for it, number in numbers.items()}
-
-
-def cover(source: Source, program: Program) -> Coverage:
-    """What is known of a source within the bounds: probes are put in until no schedule comes to one."""
-    covered = Coverage(source)
-    covered.last = {process: 0 for process in source.processes}
-    while True:
-        points = {it: [*covered.open_points(it)] for it in source.processes}
-        if not any(points.values()):
-            return covered
-        text, by_number = probed(source, points)
-        answer = program.check(text, "--allow-faults")
-        if answer is None:
-            covered.unfinished.update(by_number.values())
-        elif answer.status == 0:
-            covered.dead.update(by_number.values())
-        else:
-            reached = (by_number[int(number)] for number in PROBED.findall(answer.text))
-            covered.last.update({point.block: point.at for point in reached})
+    def probed(self, probes: List[Point]) -> str:
+        """The source with probes, and without check lines."""
+        pieces = [[line] for line in self.source.lines]
+        for check in self.source.checks:
+            pieces[check.first] = []
+        for process in self.source.covered():
+            counter = self.counter(process)
+            for statement in (it for it in process.everything() if it.words[0] == "emit"):
+                pieces[statement.first] = muted(statement, counter)
+        for number, (block, at) in reversed([*enumerate(probes)]):
+            first = [it.first for it in block.statements[at:]] + [block.end]
+            pieces[first[0] : block.end] = [[] for _ in range(first[0], block.end)]
+            opening = ["else"] if block.way == "unwritten" else []
+            pieces[block.end] = [*opening, "emit 0", f"emit {number}", "halt", *pieces[block.end]]
+        return "\n".join([line for piece in pieces for line in piece] + ["check atmost 0 0", ""])

@@ -1,14 +1,12 @@
-"""The statements of a source that the program accepts, with the places that it tells of them."""
+"""The statements of a source that the program accepts, with the places that it tells of its lines."""
 
 import re
 from dataclasses import dataclass, field
-from typing import Callable, Dict, Iterator, List, NamedTuple, Optional, Tuple
+from typing import Dict, Iterator, List, NamedTuple, Optional
 
-ACCESSES = ("read", "write", "scan")
-CLOSINGS = {"if": "fi", "repeat": "done"}
-ORIGIN = re.compile(r' *#line +(0|[1-9]\d*)(?: +"(\S*)"(?: .*)?| .*)?')
-NEVER = re.compile(r" *# *never *(?:: *(.*?))? *")
-MOST_NUMBER = 1000000000
+ORIGIN = re.compile(r' *#line +(0|[1-9]\d{0,9})(?: +(?:"(\S*)"|\S+))?(?: .*)?')
+NEVER = re.compile(r" *# *never *(:.*)?")
+WAYS, MOST_NUMBER = {"if": "then", "repeat": "turn"}, 1000000000
 
 
 class Place(NamedTuple):
@@ -17,29 +15,34 @@ class Place(NamedTuple):
     line: int
     file: Optional[str]
 
+    def __str__(self) -> str:
+        return f"line {self.line}" + (f" of {self.file}" if self.file else "")
+
 
 @dataclass(eq=False)
 class Statement:
-    """A statement: its words, and the blocks of an `if` (both) or of a `repeat`."""
+    """A statement, with its blocks, and the lines of the text on which it begins and ends, counted from 0."""
 
-    place: Place
     words: List[str]
+    place: Place
+    first: int
+    last: int
     blocks: List["Block"] = field(default_factory=list)
 
     @property
     def is_access(self) -> bool:
-        """Whether it is a step."""
-        return self.words[0] in ACCESSES
+        return self.words[0] in ("read", "write", "scan")
 
 
 @dataclass(eq=False)
 class Block:
-    """Statements one after another. Point N of a block is behind N of them; `never` has the points that are
-    marked, each with the place of the mark and its reason."""
+    """Statements one after another, up to the line `end`. Point N of a block is behind N of its statements;
+    `never` has those that a comment marks."""
 
+    way: str
     statements: List[Statement] = field(default_factory=list)
-    never: Dict[int, Tuple[Place, str]] = field(default_factory=dict)
-    is_written: bool = True
+    never: Dict[int, Place] = field(default_factory=dict)
+    end: int = 0
 
     def everything(self) -> Iterator[Statement]:
         """Its statements and those within them, in the order of the text."""
@@ -49,78 +52,70 @@ class Block:
                 yield from block.everything()
 
 
-@dataclass
 class Source:
-    """What a source says: its first line, its check lines, and a block for each process."""
-
-    registers: int
-    checks: List[Statement]
-    processes: List[Block]
-
-    def text(self, checks: List[str], spelled: Callable[[Block], List[str]]) -> str:
-        """A source with these check lines, in the lines behind the first, and its processes spelled so."""
-        lines = [f"registers {self.registers}", *checks]
-        for process in self.processes:
-            lines += ["process", *spelled(process), "end"]
-        return "".join(f"{line}\n" for line in lines)
-
-
-def spelled(statement: Statement, inner: Callable[[Block], List[str]]) -> List[str]:
-    """The lines of a statement, with its blocks spelled so."""
-    lines = [" ".join(statement.words)]
-    for at, block in enumerate(statement.blocks):
-        within = inner(block)
-        lines += (["else"] if at and within else []) + within
-    return lines + ([CLOSINGS[statement.words[0]]] if statement.blocks else [])
-
-
-def told_lines(text: str, path: str) -> Iterator[Tuple[Place, str]]:
-    """Each line with its place, as the program tells it."""
-    line, file = 1, path
-    for words in text.split("\n"):
-        yield Place(line, None if file == path else file), words
-        told = ORIGIN.fullmatch(words)
-        is_told = told and int(told[1]) <= MOST_NUMBER
-        line = int(told[1]) if is_told else line + 1
-        file = told[2] if is_told and told[2] is not None else file
-
-
-class Reader:
-    """Reads a text line by line."""
+    """The lines of a text, where each comes from, its check lines, and a block for each process."""
 
     def __init__(self, text: str, path: str):
-        self.lines = told_lines(text, path)
-
-    def source(self) -> Source:
-        """The source that the text is."""
-        source = Source(0, [], [])
-        for place, line in self.lines:
+        self.path, self.lines = path, text.split("\n")
+        self.places = [*places(self.lines, path)]
+        self.checks: List[Statement] = []
+        self.processes: List[Block] = []
+        self.opened: List[Block] = []
+        for at, line in enumerate(self.lines):
             words = line.split()
-            if words[:1] == ["registers"]:
-                source.registers = int(words[1])
-            elif words[:1] == ["check"]:
-                source.checks.append(Statement(place, words))
-            elif words[:1] == ["process"]:
-                source.processes.append(self.block()[0])
-        return source
-
-    def block(self) -> Tuple[Block, str]:
-        """The statements up to the word that closes their block, and that word."""
-        block = Block()
-        for place, line in self.lines:
-            words, mark = line.split(), NEVER.fullmatch(line)
-            if mark:
-                block.never[len(block.statements)] = place, mark[1] or ""
+            if self.opened and NEVER.fullmatch(line):
+                block = self.opened[-1]
+                block.never[len(block.statements)] = self.places[at]
             elif words and not words[0].startswith("#"):
-                if words[0] in ("else", "fi", "done", "end"):
-                    return block, words[0]
-                block.statements.append(Statement(place, words, [*self.blocks(words[0])]))
-        raise ValueError("the program accepts no text that ends within a block")
+                self.take(at, words)
 
-    def blocks(self, opened: str) -> Iterator[Block]:
-        """The blocks of a statement that begins with this word."""
-        if opened in CLOSINGS:
-            first, closed_by = self.block()
-            yield first
-            if opened == "if":
-                yield self.block()[0] if closed_by == "else" else Block(is_written=False)
+    def take(self, at: int, words: List[str]) -> None:
+        """Takes the next line that has words."""
+        if words[0] == "registers":
+            self.registers = int(words[1])
+        elif words[0] == "check":
+            self.checks.append(Statement(words, self.places[at], at, at))
+        elif words[0] == "process":
+            self.opened.append(Block("process"))
+            self.processes += self.opened
+        elif words[0] in ("else", "fi", "done", "end"):
+            self.close(at, words[0])
+        else:
+            statement = Statement(words, self.places[at], at, at)
+            self.opened[-1].statements.append(statement)
+            if words[0] in WAYS:
+                statement.blocks.append(Block(WAYS[words[0]]))
+                self.opened += statement.blocks
+
+    def close(self, at: int, word: str) -> None:
+        """Closes the block that is open; an `if` has two, also where the second is not written."""
+        block = self.opened.pop()
+        block.end = at
+        if not self.opened:
+            return
+        statement = self.opened[-1].statements[-1]
+        statement.last = at
+        if block.way == "then":
+            statement.blocks.append(Block("else" if word == "else" else "unwritten", end=at))
+            self.opened += statement.blocks[1:] if word == "else" else []
+
+    def covered(self) -> List[Block]:
+        """The processes that are not left alone, as one with a `use` line is."""
+        return [it for it in self.processes if not any(other.words[0] == "use" for other in it.statements)]
+
+    def edited(self, first: int, last: int, lines: List[str]) -> str:
+        """The text with other lines in the place of some; where the lines behind come from is told as before."""
+        place = self.places[last + 1]
+        origin = f'#line {place.line} "{place.file or "-"}"'
+        return "\n".join([*self.lines[:first], *lines, origin, *self.lines[last + 1 :]])
+
+
+def places(lines: List[str], path: str) -> Iterator[Place]:
+    """Where each line comes from, as the program tells it."""
+    line, file = 1, path
+    for text in lines:
+        yield Place(line, None if file == path else file)
+        told = ORIGIN.fullmatch(text)
+        is_told = told is not None and int(told[1]) <= MOST_NUMBER
+        line = int(told[1]) if is_told else line + 1
+        file = told[2] if is_told and told[2] is not None else file
