@@ -5,9 +5,9 @@ from typing import Iterator, List, NamedTuple, Optional, Set
 
 from coverage import Coverage
 from program import Program
-from statements import MOST_NUMBER, Block, Place, Source, Statement
+from statements import MOST_NUMBER, OWN, Block, Place, Source, Statement
 
-BROKEN = re.compile(r".* fails(?:, and no shorter one)?: check .* \(line (\d+)(?: of (\S+))?\)")
+BROKEN = re.compile(r".* fails(?:, and no shorter one)?: check .* \(line (\d+)(?: of (\S*))?\)")
 
 
 class Change(NamedTuple):
@@ -87,7 +87,7 @@ def changes(covered: Coverage, block: Block) -> Iterator[Change]:
 def broken_check(source: Source, text: str) -> Optional[Statement]:
     """The check line of which it is told that it is broken."""
     found = BROKEN.match(text)
-    place = found and Place(int(found[1]), None if found[2] in ("-", source.path) else found[2])
+    place = found and Place(int(found[1]), None if found[2] in (OWN, source.path) else found[2])
     return next((it for it in source.checks if it.place == place), None)
 
 

@@ -111,6 +111,6 @@ class Coverage:
         for number, (block, at) in reversed([*enumerate(probes)]):
             first = [it.first for it in block.statements[at:]] + [block.end]
             pieces[first[0] : block.end] = [[] for _ in range(first[0], block.end)]
-            opening = ["else"] if block.way == "unwritten" else []
+            opening = [] if block.is_written else ["else"]
             pieces[block.end] = [*opening, "emit 0", f"emit {number}", "halt", *pieces[block.end]]
         return "\n".join([line for piece in pieces for line in piece] + ["check atmost 0 0", ""])

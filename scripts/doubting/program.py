@@ -2,6 +2,7 @@
 
 import os
 import subprocess
+import sys
 import threading
 from dataclasses import dataclass
 from pathlib import Path
@@ -26,25 +27,44 @@ class Answer(NamedTuple):
     text: str
 
 
-@dataclass
-class Program:
-    """The program with some options, the seconds that a call may take, and seats for calls at once."""
+class Calls:
+    """The calls of the program: so many at once, each for so many seconds; a terminal is told how many there were."""
 
-    options: Dict[str, List[str]]
-    limit: float
-    seats: threading.Semaphore
+    def __init__(self, jobs: int, limit: float):
+        self.seats, self.limit, self.count = threading.Semaphore(jobs), limit, 0
 
-    def check(self, text: str, *more: str, path: str = "-") -> Optional[Answer]:
-        """What `check` says of a text, or of a file; nothing where it takes longer than it may."""
-        options = {"--workers": ["1"], **self.options, **{it: [] for it in more}}
-        words = [word for name, values in options.items() for word in (name, *values)]
+    def run(self, words: List[str], text: str) -> "Optional[subprocess.CompletedProcess[str]]":
+        """A call of the program with this standard input; nothing where it takes longer than it may."""
         with self.seats:
+            self.count += 1
+            self.tell(f"doubt: {self.count} checks")
             try:
-                ran = subprocess.run(
-                    [PROGRAM, "check", *words, "--", path], input=text, capture_output=True, text=True, timeout=self.limit
+                return subprocess.run(
+                    [PROGRAM, *words], input=text, capture_output=True, text=True, timeout=self.limit
                 )
             except subprocess.TimeoutExpired:
                 return None
+
+    def tell(self, line: str) -> None:
+        """Writes a line over the last one, on a terminal."""
+        if sys.stderr.isatty():
+            sys.stderr.write(f"\r{line}\x1b[K")
+
+
+@dataclass
+class Program:
+    """The program with the options of a source."""
+
+    options: Dict[str, List[str]]
+    calls: Calls
+
+    def check(self, text: str, *more: str, path: str = "-") -> Optional[Answer]:
+        """What `check` says of a text, or of a file; nothing where that is not finished."""
+        options = {"--workers": ["1"], **self.options, **{it: [] for it in more}}
+        words = [word for name, values in options.items() for word in (name, *values)]
+        ran = self.calls.run(["check", *words, "--", path], text)
+        if ran is None:
+            return None
         if ran.returncode not in (0, 1):
             raise Failure(ran.stderr.strip(), REFUSED if ran.returncode == REFUSED else COULD_NOT)
         return Answer(ran.returncode == 0, ran.stdout)

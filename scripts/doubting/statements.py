@@ -6,7 +6,7 @@ from typing import Dict, Iterator, List, NamedTuple, Optional
 
 ORIGIN = re.compile(r' *#line +(0|[1-9]\d{0,9})(?: +(?:"(\S*)"|\S+))?(?: .*)?')
 NEVER = re.compile(r" *# *never *(:.*)?")
-WAYS, MOST_NUMBER = {"if": "then", "repeat": "turn"}, 1000000000
+OWN, WAYS, MOST_NUMBER = "-", {"if": "then", "repeat": "turn"}, 1000000000
 
 
 class Place(NamedTuple):
@@ -29,8 +29,12 @@ class Statement:
     last: int
     blocks: List["Block"] = field(default_factory=list)
 
+    def __str__(self) -> str:
+        return " ".join(self.words)
+
     @property
     def is_access(self) -> bool:
+        """Whether it is a step."""
         return self.words[0] in ("read", "write", "scan")
 
 
@@ -42,6 +46,7 @@ class Block:
     way: str
     statements: List[Statement] = field(default_factory=list)
     never: Dict[int, Place] = field(default_factory=dict)
+    is_written: bool = True
     end: int = 0
 
     def everything(self) -> Iterator[Statement]:
@@ -96,17 +101,21 @@ class Source:
         statement = self.opened[-1].statements[-1]
         statement.last = at
         if block.way == "then":
-            statement.blocks.append(Block("else" if word == "else" else "unwritten", end=at))
+            statement.blocks.append(Block("else", is_written=word == "else", end=at))
             self.opened += statement.blocks[1:] if word == "else" else []
 
     def covered(self) -> List[Block]:
-        """The processes that are not left alone, as one with a `use` line is."""
-        return [it for it in self.processes if not any(other.words[0] == "use" for other in it.statements)]
+        """The processes without a `use` line."""
+        return [it for it in self.processes if not any(other in self.uses() for other in it.statements)]
+
+    def uses(self) -> List[Statement]:
+        """The `use` lines, which are left alone."""
+        return [it for block in self.processes for it in block.statements if it.words[0] == "use"]
 
     def edited(self, first: int, last: int, lines: List[str]) -> str:
         """The text with other lines in the place of some; where the lines behind come from is told as before."""
-        place = self.places[last + 1]
-        origin = f'#line {place.line} "{place.file or "-"}"'
+        line, file = self.places[last + 1]
+        origin = f'#line {line} "{OWN if file is None else file}"'
         return "\n".join([*self.lines[:first], *lines, origin, *self.lines[last + 1 :]])
 
 

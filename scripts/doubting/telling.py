@@ -7,12 +7,13 @@ from coverage import Coverage, Point
 from statements import Block, Place, Statement
 
 STRAIGHT = ("set", "read", "write", "scan")
-NEVER = {"then": "is never true", "else": "is never false", "unwritten": "is never false", "turn": "takes no turn"}
+NEVER = {"then": "is never true", "else": "is never false", "turn": "takes no turn"}
 LISTS = (
-    ("other", "{} no check notices, and they lead to other outcomes:"),
-    ("same", "{} no check notices, and they lead to the same outcomes:"),
-    ("unfinished", "{} not finished within {} seconds each:"),
+    ("other", "that no check notices, with other outcomes"),
+    ("same", "that no check notices, with the same outcomes"),
+    ("unfinished", "not finished: give a greater --limit"),
 )
+EACH = "each statement and branch"
 
 
 class Gap(NamedTuple):
@@ -27,15 +28,20 @@ class Gap(NamedTuple):
     is_known: bool
 
     @property
+    def is_branch(self) -> bool:
+        """Whether it is a branch that is meant to run."""
+        return self.chooser is not None and not self.is_meant
+
+    @property
     def is_doubt(self) -> bool:
-        """Whether something of it is not meant."""
-        return self.is_known and bool(self.never or self.chooser and not self.is_meant)
+        """Whether something of it is meant to run."""
+        return self.is_known and bool(self.never or self.is_branch)
 
     def words(self) -> str:
         """What is said of it."""
         cause = "no process gets so far"
         if self.chooser:
-            cause = f"`{' '.join(self.chooser.words)}` ({self.chooser.place}) {NEVER[self.way]}"
+            cause = f"`{self.chooser}` ({self.chooser.place}) {NEVER[self.way]}"
         return f"{lines_of(self.never)}: {cause}" if self.never else cause
 
 
@@ -62,7 +68,8 @@ class Worth:
 
     def __init__(self, covered: Coverage, bounds: str):
         self.covered, self.bounds = covered, bounds
-        self.verdicts: Optional[List[Verdict]] = None
+        self.verdicts: List[Verdict] = []
+        self.fails = ""
         self.belied: List[Place] = []
         self.gaps = [gap for process in covered.source.covered() for gap in self.gaps_of(process)]
 
@@ -109,67 +116,91 @@ class Worth:
 
     def is_doubtful(self) -> bool:
         """Whether there is something to say."""
-        unnoticed = any(it.kind != "noticed" for it in self.verdicts or [])
-        return bool(self.belied or self.covered.unfinished or unnoticed or self.untouched()) or any(
-            it.is_doubt for it in self.gaps
-        )
+        of_changes = self.fails or self.unbroken() or any(it.kind != "noticed" for it in self.verdicts)
+        return bool(of_changes or any(it.is_doubt or not it.is_known for it in self.gaps) or self.belied)
 
-    def untouched(self) -> List[Statement]:
-        """The check lines that no change breaks first; `ended` asks of the length alone."""
-        broken = {it.check for it in self.verdicts or []}
-        checks = self.covered.source.checks if self.verdicts is not None else []
-        return [it for it in checks if it not in broken and it.words[1] != "ended"]
+    def first_of(self, check: Optional[Statement]) -> List[Verdict]:
+        """The changes that break a check line first, or leave a process at fault."""
+        return [it for it in self.verdicts if it.kind == "noticed" and it.check is check]
+
+    def unbroken(self) -> List[Statement]:
+        """The check lines that no change breaks first, but for `ended`, which asks of the length."""
+        checks = [it for it in self.covered.source.checks if it.words[1] != "ended"] if self.verdicts else []
+        return [it for it in checks if not self.first_of(it)]
 
     # In words
 
     def coverage_lines(self) -> Iterator[str]:
         """What is said of statements and branches."""
-        everything = [it for block in self.covered.source.covered() for it in block.everything()]
+        source = self.covered.source
+        everything = [it for block in source.covered() for it in block.everything()]
         doubts = [it for it in self.gaps if it.is_doubt]
-        never = sum(len(it.never) for it in doubts)
-        ways = sum(bool(it.chooser) and not it.is_meant for it in doubts)
-        told = f"{never} of {counted(len(everything), 'statement')} and {ways} of "
-        told += counted(sum(len(it.blocks) for it in everything), "branch")
         if doubts:
-            yield f"{told} are never executed, {self.bounds}:"
-        elif not self.covered.unfinished:
-            besides = " that is not meant never to run" * any(it.meant or it.is_meant for it in self.gaps)
-            yield f"each statement and branch{besides} is executed, {self.bounds}"
+            statements = f"{sum(len(it.never) for it in doubts)} of {counted(len(everything), 'statement')}"
+            branches = f"{sum(it.is_branch for it in doubts)} of {sum(len(it.blocks) for it in everything)} branches"
+            yield f"{statements} and {branches} are never executed, {self.bounds}:"
+        else:
+            most = EACH + (" of which it was finished" if self.covered.unfinished else "")
+            besides = " that is not meant never to run" if any(it.meant or it.is_meant for it in self.gaps) else ""
+            yield f"{most}{besides} is executed, {self.bounds}"
         yield from (f"  {it.words()}" for it in doubts)
-        yield from (f"  not finished: whether {it.words()}" for it in self.gaps if not it.is_known)
-        yield from (f"  {it}: marked as never, and a schedule comes there" for it in self.belied)
+        yield from (f"  not finished, whether it is so: {it.words()}" for it in self.gaps if not it.is_known)
+        yield from (f"  {it}: is marked `# never`, and a schedule comes there" for it in self.belied)
         yield from (f"  {lines_of(it.meant)}: meant never to run" for it in self.gaps if it.meant)
-        for process in self.covered.source.processes:
-            if process not in self.covered.source.covered():
-                yield f"  {process.statements[0].place}: `{' '.join(process.statements[0].words)}` is left alone"
+        for use in source.uses():
+            yield f"  {use.place}: `{use}` is left alone"
+
+    def check_words(self, check: Statement) -> str:
+        """What is said of a check line."""
+        first = self.first_of(check)
+        if not first:
+            return "only a schedule that is cut off breaks it" if check.words[1] == "ended" else "no change breaks it"
+        places = [*dict.fromkeys(str(it.change.statement.place) for it in first)]
+        told = f"{counted(len(first), 'change')} {'breaks' if len(first) == 1 else 'break'} it first"
+        return told + (f", of {places[0]} alone" if len(places) == 1 else "")
 
     def change_lines(self) -> Iterator[str]:
         """What is said of changes."""
-        verdicts = self.verdicts
-        noticed = [it for it in verdicts if it.kind == "noticed"]
-        yield f"{len(verdicts)} changes, one at a time, of which {len(noticed)} are noticed:"
+        if self.fails:
+            yield f"it fails as it is, so that changes are not tried: {self.fails}"
+            return
+        noticed = sum(it.kind == "noticed" for it in self.verdicts)
+        yield f"{counted(len(self.verdicts), 'change')}, one at a time: {noticed} are noticed"
         for check in self.covered.source.checks:
-            first = [it for it in noticed if it.check is check]
-            told = f"{counted(len(first), 'change')} break{'s' if len(first) == 1 else ''} it first"
-            yield f"  {' '.join(check.words)} ({check.place}): {told if first else 'no change breaks it'}"
-        faults = sum(it.check is None for it in noticed)
-        yield from [f"  a process at fault: {counted(faults, 'change')}"] if faults else []
+            yield f"  {check} ({check.place}): {self.check_words(check)}"
+        if self.first_of(None):
+            yield f"  a process at fault: by {counted(len(self.first_of(None)), 'change')}"
         for kind, heading in LISTS:
-            told = [it.change for it in verdicts if it.kind == kind]
-            yield from [heading.format(counted(len(told), "change"), 0)] if told else []
+            told = [it.change for it in self.verdicts if it.kind == kind]
+            yield from [f"{len(told)} {heading}:"] if told else []
             for statement in dict.fromkeys(it.statement for it in told):
-                whats = "; ".join(it.what for it in told if it.statement is statement)
-                yield f"  {statement.place} `{' '.join(statement.words)}`: {whats}"
+                whats = ", ".join(it.what for it in told if it.statement is statement)
+                yield f"  {statement.place}, `{statement}`: {whats}"
 
     # As JSON
 
     def data(self) -> Dict[str, Any]:
         """The same for JSON."""
-        gaps = [it for it in self.gaps if it.is_known]
-        ways = [(it.chooser, it.way) for it in gaps if it.chooser and not it.is_meant]
+        known = [it for it in self.gaps if it.is_known]
+        ways = [(key(it.chooser.place), it.way) for it in known if it.chooser and it.is_branch]
+        told = {kind: [it.change for it in self.verdicts if it.kind == kind] for kind in ("other", "same", "unfinished")}
         return {
-            "never": [key(it.place) for gap in gaps for it in gap.never],
-            "meant_never": [key(it.place) for gap in gaps for it in gap.meant],
-            "branches": [{"line": key(it.place), "way": way} for it, way in ways],
+            "never": [key(it.place) for gap in known for it in gap.never],
+            "meant_never": [key(it.place) for gap in known for it in gap.meant],
+            "branches": [{"line": line, "way": way} for line, way in ways],
             "belied": [key(it) for it in self.belied],
+            "left_alone": [key(it.place) for it in self.covered.source.uses()],
+            "fails": self.fails or None,
+            "checks": [
+                {"line": key(it.place), "check": str(it), "first": len(self.first_of(it))}
+                for it in self.covered.source.checks
+            ],
+            "faults": len(self.first_of(None)),
+            "unnoticed": [
+                {"line": key(it.statement.place), "change": it.what, "same": kind == "same"}
+                for kind in ("other", "same")
+                for it in told[kind]
+            ],
+            "unfinished": [key(it.statement.place) for it in told["unfinished"]]
+            + [key(it.place) for gap in self.gaps if not gap.is_known for it in gap.never],
         }
