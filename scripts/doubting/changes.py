@@ -1,6 +1,8 @@
 """Changes of a source, one at a time, and which check notices each."""
 
 import re
+from concurrent.futures import Executor
+from itertools import repeat
 from typing import Iterator, List, NamedTuple, Optional, Set
 
 from coverage import Coverage
@@ -19,8 +21,8 @@ class Change(NamedTuple):
 
 
 class Verdict(NamedTuple):
-    """What comes of a change: `kind` is noticed, other (outcomes), same (outcomes) or unfinished; and the check
-    line that it breaks first, or none where a process is at fault."""
+    """What comes of a change: it is noticed, leads to other outcomes or the same, or is unfinished; and the
+    check line that it breaks first, or none where a process is at fault."""
 
     change: Change
     kind: str
@@ -91,12 +93,28 @@ def broken_check(source: Source, text: str) -> Optional[Statement]:
     return next((it for it in source.checks if it.place == place), None)
 
 
-class Judge:
-    """Judges changes of a source by its check lines, and by its outcomes."""
+class Trial:
+    """The trial of all changes of a source by its check lines and its outcomes."""
 
-    def __init__(self, source: Source, text: str, program: Program):
-        self.source, self.program = source, program
+    def __init__(self, covered: Coverage, text: str, program: Program, pool: Executor):
+        self.source, self.program = covered.source, program
         self.outcomes = self.outcomes_of(text)
+        every = [it for process in self.source.covered() for it in changes(covered, process)]
+        self.verdicts = [*pool.map(self.verdict, every)]
+        noticed = [it.change for it in self.verdicts if it.kind == "noticed"]
+        self.hidden = [
+            check
+            for check in self.source.checks
+            if not self.noticed_by(check) and any(pool.map(self.breaks, noticed, repeat(check)))
+        ]
+
+    def noticed_by(self, check: Optional[Statement]) -> List[Verdict]:
+        """The changes that break a check line first, or leave a process at fault."""
+        return [it for it in self.verdicts if it.kind == "noticed" and it.check is check]
+
+    def is_broken(self, check: Statement) -> bool:
+        """Whether some change breaks a check line."""
+        return check in self.hidden or bool(self.noticed_by(check))
 
     def outcomes_of(self, text: str) -> Optional[Set[str]]:
         """The outcomes of a text."""
@@ -109,6 +127,13 @@ class Judge:
         if answer and not answer.holds:
             return Verdict(change, "noticed", broken_check(self.source, answer.text))
         outcomes = self.outcomes_of(change.text) if answer else None
-        if outcomes is None:
+        if outcomes is None or self.outcomes is None:
             return Verdict(change, "unfinished")
         return Verdict(change, "same" if outcomes == self.outcomes else "other")
+
+    def breaks(self, change: Change, check: Statement) -> bool:
+        """Whether a change breaks a check line where the others are left out."""
+        lines = [(line, line.split()) for line in change.text.split("\n")]
+        text = "\n".join(line for line, words in lines if words[:1] != ["check"] or words == check.words)
+        answer = self.program.check(text, "--allow-faults")
+        return answer is not None and not answer.holds

@@ -4,14 +4,14 @@ A probe emits 0 and its number, and halts; nothing of its block stands behind it
 what the source emits is left out, so who has the name 0 came to a probe."""
 
 import re
-from typing import Iterator, List, NamedTuple, Set
+from typing import Iterator, List, NamedTuple, Optional, Set
 
-from program import COULD_NOT, Failure, Program
+from program import COULD_NOT, REFUSED, Answer, Failure, Program
 from sources import most
-from statements import Block, Source, Statement
+from statements import MOST_NUMBER, Block, Source, Statement
 
 PROBED = re.compile(r"\bdone 0 (\d+)")
-MOST_STATEMENTS, MOST_EMITTED, PROBE, COUNTED = 200, 8, 3, 3
+MOST_STATEMENTS, MOST_EMITTED, PROBE = 200, 8, 3
 
 
 class Point(NamedTuple):
@@ -38,9 +38,11 @@ def most_emitted(block: Block) -> int:
 
 
 def muted(statement: Statement, counter: str) -> List[str]:
-    """The lines in place of an `emit`: it is evaluated, and where there may be a ninth number it is counted."""
-    lines = [" ".join(["if", *statement.words[1:]]), "fi"]
-    return lines + [f"if {counter} = {MOST_EMITTED}", "halt", "fi", f"set {counter} {counter} + 1"] * bool(counter)
+    """The lines in place of an `emit`: it is evaluated where it may be at fault, and counted where it may be
+    the ninth one, by a sum that is too great then."""
+    may_fail = len(statement.words) > 2 or "[v" in statement.words[1]
+    evaluated = [" ".join(["if", *statement.words[1:]]), "fi"] if may_fail else []
+    return evaluated + ([f"set {counter} {counter} + {MOST_NUMBER // MOST_EMITTED}"] if counter else [])
 
 
 class Coverage:
@@ -56,13 +58,22 @@ class Coverage:
             probes = [*self.probes()]
             if not probes:
                 return
-            answer = program.check(self.probed(probes), "--allow-faults")
+            answer = self.answer(program, probes)
             if answer is None:
                 self.unfinished.update(probes)
             elif answer.holds:
                 self.dead.update(probes)
             for number in PROBED.findall(answer.text if answer else ""):
                 self.last[probes[int(number)].block] = probes[int(number)].at
+
+    def answer(self, program: Program, probes: List[Point]) -> Optional[Answer]:
+        """What a check says of the source with probes."""
+        try:
+            return program.check(self.probed(probes), "--allow-faults")
+        except Failure as failure:
+            if failure.status != REFUSED:
+                raise
+            raise Failure("a process has too many statements or open blocks to put a probe in", COULD_NOT)
 
     def is_executed(self, block: Block, at: int) -> bool:
         """Whether a schedule executes this statement of a block: an access is done, another one begun."""
@@ -86,7 +97,7 @@ class Coverage:
         """The points at which probes are put in next: of each process as many as fit."""
         for process in self.source.covered():
             words = [it.words[0] for it in process.everything()]
-            room = MOST_STATEMENTS - len(words) - COUNTED * words.count("emit") * bool(self.counter(process))
+            room = MOST_STATEMENTS - len(words) - words.count("emit") * bool(self.counter(process))
             yield from [*self.next_points(process)][: max(1, room // PROBE)]
 
     def counter(self, process: Block) -> str:

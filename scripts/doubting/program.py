@@ -10,6 +10,7 @@ from typing import Dict, List, NamedTuple, Optional
 
 PROGRAM = os.environ.get("REGTRY") or str(Path(__file__).resolve().parents[2] / "regtry")
 REFUSED, COULD_NOT = 2, 3
+BOUNDS = {"--length": "64", "--crashes": "0"}
 
 
 class Failure(Exception):
@@ -28,7 +29,7 @@ class Answer(NamedTuple):
 
 
 class Calls:
-    """The calls of the program: so many at once, each for so many seconds; a terminal is told how many there were."""
+    """The calls of the program: so many at once, each for so many seconds. A terminal is told how many."""
 
     def __init__(self, jobs: int, limit: float):
         self.seats, self.limit, self.count = threading.Semaphore(jobs), limit, 0
@@ -37,7 +38,8 @@ class Calls:
         """A call of the program with this standard input; nothing where it takes longer than it may."""
         with self.seats:
             self.count += 1
-            self.tell(f"doubt: {self.count} checks")
+            if sys.stderr.isatty():
+                sys.stderr.write(f"\rdoubt: {self.count} checks")
             try:
                 return subprocess.run(
                     [PROGRAM, *words], input=text, capture_output=True, text=True, timeout=self.limit
@@ -45,10 +47,11 @@ class Calls:
             except subprocess.TimeoutExpired:
                 return None
 
-    def tell(self, line: str) -> None:
-        """Writes a line over the last one, on a terminal."""
+    def clear(self) -> None:
+        """Takes away what a terminal was told."""
         if sys.stderr.isatty():
-            sys.stderr.write(f"\r{line}\x1b[K")
+            sys.stderr.write("\r\x1b[K")
+            sys.stderr.flush()
 
 
 @dataclass
@@ -68,3 +71,15 @@ class Program:
         if ran.returncode not in (0, 1):
             raise Failure(ran.stderr.strip(), REFUSED if ran.returncode == REFUSED else COULD_NOT)
         return Answer(ran.returncode == 0, ran.stdout)
+
+    def bounds(self) -> str:
+        """The bounds of the check, as it says them."""
+        letters, crashes = (int(self.options.get(it, [other])[0]) for it, other in BOUNDS.items())
+        told = counted(crashes, "crash") if crashes else "no crashes"
+        return f"up to {counted(letters, 'letter')} and {told}"
+
+
+def counted(number: int, what: str) -> str:
+    """A number of things."""
+    plural = "es" if what.endswith("h") else "s"
+    return f"{number} {what}{'' if number == 1 else plural}"

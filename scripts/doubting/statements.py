@@ -113,7 +113,7 @@ class Source:
         return [it for block in self.processes for it in block.statements if it.words[0] == "use"]
 
     def edited(self, first: int, last: int, lines: List[str]) -> str:
-        """The text with other lines in the place of some; where the lines behind come from is told as before."""
+        """The text with other lines in the place of some; lines behind them are told as before."""
         line, file = self.places[last + 1]
         origin = f'#line {line} "{OWN if file is None else file}"'
         return "\n".join([*self.lines[:first], *lines, origin, *self.lines[last + 1 :]])
