@@ -1,7 +1,7 @@
 //! What a schedule that fails breaks.
 
-ghost use Rattle.std.specs.Prelude.{◌≡◌, IfSome, IsNone, None, false, is_some, true};
-ghost use Rattle.regmodel.specs.Prelude.{IsSchedule};
+ghost use Rattle.std.specs.Prelude.{◌≡◌, IfSome, IsNone, None, false, is_some, map, true};
+ghost use Rattle.regmodel.specs.Prelude.{IsSchedule, program_of};
 ghost use Rattle.machine.specs.Meaning.{all_programs};
 ghost use Rattle.reglang.specs.Sources.{contents_of, source_programs};
 ghost use Rattle.report.specs.PlainCheck.{IsPlainCheck};
@@ -23,7 +23,7 @@ use drawing::{Drawing, draw};
 use machine::Machine;
 use reglang::{Source, Spelling};
 use regmodel::laws::the_first_refused_is_a_schedule;
-use regmodel::{Outcome, Prefix, Settings};
+use regmodel::{Outcome, Prefix, Prog, Settings};
 use report::{Checked, Exploration, Least};
 use world::World;
 
@@ -125,16 +125,19 @@ impl Verdict {
 }
 
 /// Whether the source holds that a text spells, and what its least failing schedule breaks, where
-/// one fails. The machines, one a process, lead to its drawing. Takes no memory.
+/// one fails. The machines, one a process, lead to its drawing; the programs tell which checks no
+/// outcome could break. Takes no memory.
 pub fn verdict_on(
     spelling: &Spelling<'_>,
     machines: Vec<Box<dyn Machine + Send>>,
     settings: Settings,
     allows_faults: bool,
+    programs: &[Prog],
     checked: Checked,
 ) -> Verdict
     requires machines { all_programs means machines.items
         ≡ source_programs spelling.now.source.now }
+    requires programs { map program_of programs.now ≡ source_programs spelling.now.source.now }
     requires checked { IsPlainCheck (source_programs spelling.now.source.now)
         settings.length settings.crashes
         (meets_demands (contents_of spelling.now.source.now).clauses allows_faults) checked }
@@ -154,7 +157,7 @@ pub fn verdict_on(
             let clauses = spelling.source.clauses().list();
             Verdict::Holds(Unbroken {
                 asked: asked_of(clauses, allows_faults),
-                gaps: gaps_of(spelling, &exploration),
+                gaps: gaps_of(spelling, programs, &exploration),
                 exploration,
             })
         }
