@@ -15,7 +15,9 @@ use explorer::{Effort, Gate, Job, least_failing, run_check};
 use machine::Machine;
 use std::sync::Wait;
 use std::thread::Threads;
-use verdict::{Demands, Strictness, Verdict, breach_for, verdict_on, without_ended};
+use verdict::{
+    Demands, Strictness, Verdict, breach_for, programs_of, verdict_on, without_ended,
+};
 
 /// What a check finds first of all schedules, as the last list of machines shows.
 // In a frame of its own, which other orders do not touch: a verdict takes some 40 KB
@@ -46,7 +48,15 @@ pub fn checked<H: Threads + Wait + Sync, G: Gate>(
     let job = Job::whole(run.alloc, source, effort, &judge, run.gate, &made);
     match run_check(run.rt, &job, lists) {
         Ok(found) => {
-            let verdict = verdict_on(&run.spelling, own, effort.settings, allows_faults, found);
+            let programs = programs_of(run.alloc, source)?;
+            let verdict = verdict_on(
+                &run.spelling,
+                own,
+                effort.settings,
+                allows_faults,
+                programs.as_slice(),
+                found,
+            );
             Ok(Finding::Verdict(Box::new(run.alloc, verdict)?, shortest))
         }
         Err(fault) => Err(AnswerFault::Run(fault)),

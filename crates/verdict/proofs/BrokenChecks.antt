@@ -1,5 +1,5 @@
--- The line of the first check that an outcome breaks, and that a schedule has no letter that is refused.
-use Rattle.std.proofs.Common.{◌≡◌, ℕ, suc, ◌<◌, Bool, true, false, cond, List, ◌++◌, length, get_or, take, drop, drop-cons, Some, None, IfSome, MatchOption, slice_get, refl, ap, sym, subst, ◌∙◌}
+-- The line of the check that is named of those that an outcome breaks, and that a schedule has no letter that is refused.
+use Rattle.std.proofs.Common.{◌≡◌, ℕ, suc, ◌<◌, Bool, true, false, cond, List, ◌++◌, length, get_or, take, drop, drop-cons, Option, Some, None, IfSome, MatchOption, slice_get, refl, ap, sym, subst, ◌∙◌}
 use Rattle.std.specs.Prelude.{nat_lt}
 use Rattle.std.specs.List.{position, position_or_len}
 use Rattle.std.proofs.lemmas.Bool.{ltb-true}
@@ -16,7 +16,8 @@ use Rattle.reglang.proofs.CheckLines.{own_line}
 use Rattle.world.specs.Stops.{IsStopped}
 use Rattle.world.specs.declared.BadLetter.{BadLetter}
 use Rattle.verdict.specs.Breaches.{IsBrokenLine}
-use Rattle.verdict.specs.Demands.{breaks}
+use Rattle.verdict.specs.Demands.{breaks, breaks_by_fault, named_at}
+use Rattle.verdict.specs.declared.demands.Strictness.{Strictness}
 use Rattle.verdict.specs.EmptyRanges.{is_empty_at, is_empty_range}
 
 first_there : (t : Bool) (i n place : ℕ) → nat_lt i n ≡ t → Some place ≡ cond t (Some i) None → place < n
@@ -26,14 +27,24 @@ first_there false i n place h e = absurd cc
 pub place_there : {X : Type 0} (test : X → Bool) (xs : List X) (place : ℕ) → Some place ≡ position test xs → place < length xs
 place_there test xs place e = first_there (nat_lt (position_or_len test xs) (length xs)) (position_or_len test xs) (length xs) place refl e
 
--- the line of the first clause asked that is broken
-pub broken_line_is : (text : List ℕ) (clauses : List Clause) (asks : Bool) (ends : List ProcEnd) (place line : ℕ) (is_empty : Bool) → is_empty ≡ is_empty_at clauses place → Some place ≡ position (breaks asks ends) clauses → slice_get (check_lines text) place ≡ Some line → AreChecksOf text clauses → IsBrokenLine text clauses asks ends line is_empty
-broken_line_is text clauses asks ends place line is_empty empty first number checks =
+named_there_by : (clauses : List Clause) (ends : List ProcEnd) (asks faulted : Bool) (place : ℕ) (first : Option ℕ) → first ≡ position (breaks false ends) clauses
+    → Some place ≡ elim first [ Some own ↦ Some own | None ↦ cond faulted None (position (breaks asks ends) clauses) ] → place < length clauses
+named_there_by clauses ends asks faulted place (Some own) found named = place_there (breaks false ends) clauses place (named ∙ found)
+named_there_by clauses ends asks true place None found named = absurd cc
+named_there_by clauses ends asks false place None found named = place_there (breaks asks ends) clauses place named
+
+named_there : (strictness : Strictness) (clauses : List Clause) (ends : List ProcEnd) (place : ℕ) → Some place ≡ named_at strictness clauses ends → place < length clauses
+named_there strictness clauses ends place named =
+    named_there_by clauses ends strictness.asks_ended (breaks_by_fault strictness.allows_faults ends) place (position (breaks false ends) clauses) refl named
+
+-- the line of the clause that is named
+pub broken_line_is : (text : List ℕ) (clauses : List Clause) (strictness : Strictness) (ends : List ProcEnd) (place line : ℕ) (is_empty : Bool) → is_empty ≡ is_empty_at clauses place → Some place ≡ named_at strictness clauses ends → slice_get (check_lines text) place ≡ Some line → AreChecksOf text clauses → IsBrokenLine text clauses strictness ends line is_empty
+broken_line_is text clauses strictness ends place line is_empty empty named number checks =
     let own = get_or clauses place clause.NoFault in
-    let inside = place_there (breaks asks ends) clauses place first in
+    let inside = named_there strictness clauses ends place named in
     record {
       place = place;
-      first = sym first;
+      named = sym named;
       number = number;
       clause = own;
       broken = slice_get-get_or clauses place clause.NoFault inside;

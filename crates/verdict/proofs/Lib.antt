@@ -1,6 +1,10 @@
 mod Beginnings
 mod BrokenChecks
 mod Causes
+mod EmittedFlows
+mod FewNames
 mod GapRows
+mod NamesEmitted
 mod NumbersEmitted
+mod ProgramRows
 mod VainPatterns

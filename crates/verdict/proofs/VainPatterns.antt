@@ -18,6 +18,7 @@ use Rattle.verdict.specs.Emissions.{EmitsAtMost, most_emitted}
 use Rattle.verdict.specs.Shortfalls.{are_in_vain, asked_by, numbers_of, shortfall_in}
 use Rattle.verdict.specs.declared.shortfalls.Shortfall.{Shortfall}
 use Rattle.verdict.proofs.NumbersEmitted.{act_of-emits}
+use Rattle.verdict.proofs.ProgramRows.{StandFrom, first_stands, others_stand, stand_all}
 
 -- how a process stands that emits at most so many numbers
 few_numbers : (most : ℕ) (p : Pending) (crashed : Bool) → EmitsAtMost most p → numbers_of (cond crashed Crashed (end_of p)) ≤ most
@@ -39,10 +40,6 @@ one_of_them most asked false matched this others found h k b e f = refl
 one_of_them most asked true matched this others found h k true e f = let enough = h refl in absurd (omega (arith, enough, ltb-true most asked e))
 one_of_them most asked true matched this others found h k false e f = k f
 
--- programs that stand in a list of all from a place on
-abbrev StandFrom : List Program → ℕ → List Program → Type 0
-StandFrom all k rest = (j : ℕ) (s : Replies) → pending_at all (k + j) s ≡ pending_at rest j s
-
 none_from : (all : List Program) (w : Schedule) (rest : List Program) (k : ℕ) → StandFrom all k rest → (standings : List StandingPattern) (number process : ℕ) (found : Shortfall)
     → shortfall_in number process (map most_emitted rest) standings ≡ Some found → matches standings (map (proc_end all w) (range_with_len k (length rest))) ≡ false
 none_from all w [] k there standings number process found e = absurd (cc e)
@@ -50,18 +47,15 @@ none_from all w (program ∷ rest) k there [] number process found e = absurd (c
 none_from all w (program ∷ rest) k there (s ∷ standings) number process found e =
     let most = most_emitted program in
     let own = replies all w k in
-    let place : k ≡ k + 0 = omega arith in
-    let here : pending_at all k own ≡ act_of program own = ap (λ p. pending_at all p own) place ∙ there 0 own in
-    let emits : EmitsAtMost most (pending_after all w k) = rw here (act_of-emits program own) in
+    let emits : EmitsAtMost most (pending_after all w k) = rw (first_stands all k program rest own there) (act_of-emits program own) in
     let few = few_numbers most (pending_after all w k) (list_any (is_crash_of k) w) emits in
-    let next : StandFrom all (k + 1) rest = λ j t. let further : (k + 1) + j ≡ k + suc j = omega arith in ap (λ p. pending_at all p t) further ∙ there (suc j) t in
     one_of_them most (asked_by s) (allows s (proc_end all w k)) (matches standings (map (proc_end all w) (range_with_len (k + 1) (length rest)))) _ _ found
     (λ allowed. let asks = asks_no_more s (proc_end all w k) allowed in omega (arith, asks, few))
-    (none_from all w rest (k + 1) next standings number (process + 1) found) (nat_lt most (asked_by s)) refl e
+    (none_from all w rest (k + 1) (others_stand all k program rest there) standings number (process + 1) found) (nat_lt most (asked_by s)) refl e
 
 pub none_matches : (programs : List Program) (w : Schedule) (number : ℕ) (pattern : List StandingPattern) (found : Shortfall)
     → shortfall_in number 0 (map most_emitted programs) pattern ≡ Some found → matches pattern (outcome_of programs w) ≡ false
-none_matches programs w number pattern found = none_from programs w programs 0 (λ j s. let same : 0 + j ≡ j = omega arith in ap (λ p. pending_at programs p s) same) pattern number 0 found
+none_matches programs w number pattern found = none_from programs w programs 0 (stand_all programs) pattern number 0 found
 
 -- ---- where each pattern does
 

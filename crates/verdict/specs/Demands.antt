@@ -1,5 +1,6 @@
 -- What a check demands of an outcome, and what it looks for.
-use Rattle.std.specs.Prelude.{◌&&◌, ◌||◌, Bool, true, false, not, List, [], ◌∷◌, filter}
+use Rattle.std.specs.Prelude.{◌&&◌, ◌||◌, ℕ, Bool, true, false, not, if◌then◌else◌, List, [], ◌∷◌, Option, Some, None, filter}
+use Rattle.std.specs.List.{position}
 use Rattle.regmodel.specs.declared.clauses.Clause.{Clause}
 use Rattle.regmodel.specs.declared.clauses.Clause.TheVariants.{Ended, NoFault}
 use Rattle.regmodel.specs.declared.outcomes.ProcEnd.{ProcEnd}
@@ -25,6 +26,19 @@ clauses_asked false clauses = filter (λ clause. not (is_ended clause)) clauses
 -- an outcome breaks a clause that is asked
 abbrev pub breaks : Bool → List ProcEnd → Clause → Bool
 breaks asks_ended ends clause = is_asked asks_ended clause && not (meets clause ends)
+
+-- a process is at fault, and that is not allowed
+abbrev pub breaks_by_fault : Bool → List ProcEnd → Bool
+breaks_by_fault allows_faults ends = not allows_faults && not (meets NoFault ends)
+
+-- the place of the clause that is named of those that an outcome breaks and that are asked: of the
+-- first but `ended`; of `ended` where there is none, and no process is at fault that may not be
+abbrev pub named_at : Strictness → List Clause → List ProcEnd → Option ℕ
+named_at strictness clauses ends = elim (position (breaks false ends) clauses) [
+  | Some place ↦ Some place
+  | None ↦ if breaks_by_fault strictness.allows_faults ends then None
+      else position (breaks strictness.asks_ended ends) clauses
+]
 
 -- an outcome meets what a check demands where it meets all clauses, and no process is at fault
 -- unless that is allowed

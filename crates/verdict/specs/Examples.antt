@@ -15,7 +15,7 @@ use Rattle.breadths.specs.declared.breadths.Breadth.{Breadth}
 use Rattle.breadths.specs.declared.breadths.Room.{Room}
 use Rattle.breadths.specs.declared.breadths.Room.TheVariants.{Places, Usual, Whole}
 use Rattle.patterns.specs.declared.patterns.StandingPattern.TheVariants.{Any, Done, Just}
-use Rattle.verdict.specs.Demands.{clauses_asked, meets_demands}
+use Rattle.verdict.specs.Demands.{clauses_asked, meets_demands, named_at}
 use Rattle.verdict.specs.EmptyRanges.{is_empty_range}
 use Rattle.verdict.specs.FaultText.{culprit_text, fault_line, reason_text}
 use Rattle.verdict.specs.Excesses.{first_excess}
@@ -53,6 +53,22 @@ pub asked_for_no_fault :
     (idle (end.Fault 2) ∷ [])
     ≡ false
 asked_for_no_fault = refl
+
+-- `ended`, `distinct` and `atmost 9 0` in this order: the one that is named where faults are not
+-- allowed
+abbrev named : List ProcEnd → Option ℕ
+named = named_at (record { asks_ended = true; allows_faults = false })
+    (clause.Ended ∷ clause.Distinct ∷ clause.AtMost 9 0 ∷ [])
+
+pub other_before_ended :
+    named (idle (end.Done (record { items = 9 ∷ [] })) ∷ idle end.Running ∷ []) ≡ Some 2
+other_before_ended = refl
+
+pub fault_before_ended : named (idle (end.Fault 2) ∷ idle end.Running ∷ []) ≡ None
+fault_before_ended = refl
+
+pub ended_alone : named (idle end.Crashed ∷ idle end.Running ∷ []) ≡ Some 0
+ended_alone = refl
 
 -- no number is from 5 to 3, and one is from 3 to 3
 pub from_five_to_three : is_empty_range (clause.Within 5 3) ≡ true

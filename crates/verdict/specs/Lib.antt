@@ -10,6 +10,8 @@ pub mod FaultText
 pub mod Faults
 pub mod Gaps
 pub mod Listings
+pub mod NameExamples
+pub mod Names
 pub mod Onsets
 pub mod OriginText
 pub mod ShellWords

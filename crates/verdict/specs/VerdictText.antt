@@ -22,6 +22,8 @@ use Rattle.verdict.specs.declared.verdicts.Verdict.TheVariants.{Fails, Holds}
 use Rattle.verdict.specs.declared.demands.Asked.{Asked}
 use Rattle.verdict.specs.declared.demands.Asked.TheVariants.{Checks, Faults, Nothing}
 use Rattle.verdict.specs.declared.gaps.Gap.{Gap}
+use Rattle.verdict.specs.declared.gaps.Reason.{Reason}
+use Rattle.verdict.specs.declared.gaps.Reason.TheVariants.{Unemitted, NoName, FewNamed, EachNumber, Wanting}
 use Rattle.verdict.specs.declared.reach.Reach.{Reach}
 
 -- the ending of a noun, but for one thing
@@ -152,9 +154,20 @@ abbrev pub want_text : Subject → List ℕ
 want_text Named = codes ": no process ever had a name.\n"
 want_text Done = codes ": no process was ever done.\n"
 
+-- why no outcome could break a check
+abbrev pub why_text : Reason → List ℕ
+why_text (Unemitted number) = codes ": no process emits " ++ decimal number ++ codes ".\n"
+why_text (NoName number) =
+    codes ": no process emits " ++ decimal number ++ codes " as its first number, which is its name.\n"
+why_text (FewNamed count) =
+    codes ": at most " ++ counted count (codes "process") (codes "es")
+    ++ codes " can have this name.\n"
+why_text EachNumber = codes ": each number is in this range.\n"
+why_text (Wanting subject) = want_text subject
+
 -- a check that no outcome could break, and why
 abbrev pub gap_text : List ℕ → Gap → List ℕ
-gap_text text gap = line_text text gap.line ++ want_text gap.want
+gap_text text gap = line_text text gap.line ++ why_text gap.reason
 
 -- such checks, one a line
 abbrev pub gaps_text : List ℕ → List Gap → List ℕ

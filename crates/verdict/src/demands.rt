@@ -3,7 +3,7 @@
 ghost use Rattle.std.specs.Prelude.{◌≡◌, false};
 ghost use Rattle.std.specs.List.{list_any, position};
 ghost use Rattle.regmodel.specs.Judging.{is_faulty, meets};
-ghost use Rattle.verdict.specs.Demands.{asked_of, breaks, clauses_asked};
+ghost use Rattle.verdict.specs.Demands.{asked_of, breaks, clauses_asked, named_at};
 
 use arrayvec::ArrayVec;
 use regmodel::{Clause, Clauses, End, Judge, Outcome};
@@ -72,9 +72,28 @@ pub fn without_ended(clauses: &Clauses) -> Clauses
     Clauses::new(asked)
 }
 
+/// The place of the clause that is named of those that are asked and that an outcome breaks,
+/// counted from 0: the first one but `ended`. `ended` is named where there is no other, and no
+/// process is at fault that may not be.
+pub(crate) fn named_at(
+    clauses: &[Clause],
+    strictness: Strictness,
+    outcome: &Outcome,
+) -> Option<usize>
+    ensures { result ≡ named_at strictness clauses.now outcome.now }
+{
+    if let Some(place) = first_broken(clauses, false, outcome) {
+        return Some(place);
+    }
+    if !strictness.allows_faults && some_faulty(outcome) {
+        return None;
+    }
+    first_broken(clauses, strictness.asks_ended, outcome)
+}
+
 /// The place of the first clause that is asked and that an outcome breaks, counted from 0; `ended`
 /// may be left out.
-pub(crate) fn first_broken(clauses: &[Clause], asks_ended: bool, outcome: &Outcome) -> Option<usize>
+fn first_broken(clauses: &[Clause], asks_ended: bool, outcome: &Outcome) -> Option<usize>
     ensures { result ≡ position (breaks asks_ended outcome.now) clauses.now }
 {
     clauses

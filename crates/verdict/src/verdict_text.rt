@@ -8,7 +8,7 @@ ghost use Rattle.verdict.specs.VerdictText.{verdict_text};
 use crate::counts::{Counted, Letters, UpTo};
 use crate::demands::Asked;
 use crate::faults::{FaultLine, FaultTold};
-use crate::gaps::Gap;
+use crate::gaps::{Gap, Reason};
 use crate::origin_text::{LineOrigin, LineTold};
 use crate::reach::{Reach, reach_of};
 use crate::show_commands::ShowCommand;
@@ -240,9 +240,34 @@ impl Text for GapLines<'_> {
                 text: self.text,
                 line: gap.line,
             });
-            (check, wanting(gap.want)).put(out, block)?;
+            (check, ReasonTold(gap.reason)).put(out, block)?;
         }
         Ok(())
+    }
+}
+
+/// Why no outcome could break a check.
+#[derive(Clone, Copy)]
+struct ReasonTold(Reason);
+
+impl Text for ReasonTold {
+    ghost text = { λ told. spec.why_text told.0 };
+
+    fn put<W: Write>(&self, out: &mut W, block: &mut Block) -> Result<(), WriteFault> {
+        let emits = ": no process emits ";
+        match self.0 {
+            Reason::Unemitted(number) => (emits, number, ".\n").put(out, block),
+            Reason::NoName(number) => {
+                let first = " as its first number, which is its name.\n";
+                (emits, number, first).put(out, block)
+            }
+            Reason::FewNamed(count) => {
+                let most = Counted(u64::from(count), "process", "es");
+                (": at most ", most, " can have this name.\n").put(out, block)
+            }
+            Reason::EachNumber => ": each number is in this range.\n".put(out, block),
+            Reason::Wanting(want) => wanting(want).put(out, block),
+        }
     }
 }
 

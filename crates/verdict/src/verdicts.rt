@@ -1,20 +1,19 @@
 //! What a schedule that fails breaks.
 
-ghost use Rattle.std.specs.Prelude.{◌≡◌, IfSome, IsNone, false, is_some, true};
-ghost use Rattle.regmodel.specs.Judging.{meets_all};
-ghost use Rattle.regmodel.specs.Prelude.{IsSchedule};
+ghost use Rattle.std.specs.Prelude.{◌≡◌, IfSome, IsNone, None, false, is_some, map, true};
+ghost use Rattle.regmodel.specs.Prelude.{IsSchedule, program_of};
 ghost use Rattle.machine.specs.Meaning.{all_programs};
 ghost use Rattle.reglang.specs.Sources.{contents_of, source_programs};
 ghost use Rattle.report.specs.PlainCheck.{IsPlainCheck};
 ghost use Rattle.report.specs.PlainReport.{IsPlainLeast};
 ghost use Rattle.verdict.specs.Breaches.{IsBreachOf, IsBrokenLine, IsCauseOf};
-ghost use Rattle.verdict.specs.Demands.{clauses_asked, demands_of, meets_demands};
+ghost use Rattle.verdict.specs.Demands.{demands_of, meets_demands, named_at};
 ghost use Rattle.verdict.specs.Drawn.{IsDrawn};
 ghost use Rattle.drawing.specs.Pictures.{IsWorldOf};
 ghost use Rattle.verdict.specs.Verdicts.{IsVerdictFor};
 ghost use Rattle.world.specs.Sound.{IsSoundWorld, budget_of, world_programs};
 
-use crate::demands::{Asked, Strictness, asked_of, first_broken};
+use crate::demands::{Asked, Strictness, asked_of, named_at};
 use crate::empty_ranges::is_empty_at;
 use crate::faults::{ProcessFault, first_fault};
 use crate::gaps::{Gap, gaps_of};
@@ -24,7 +23,7 @@ use drawing::{Drawing, draw};
 use machine::Machine;
 use reglang::{Source, Spelling};
 use regmodel::laws::the_first_refused_is_a_schedule;
-use regmodel::{Outcome, Prefix, Settings};
+use regmodel::{Outcome, Prefix, Prog, Settings};
 use report::{Checked, Exploration, Least};
 use world::World;
 
@@ -33,14 +32,16 @@ use world::World;
 pub enum Cause {
     /// Its outcome breaks a check.
     Check {
-        /// The line of the first check that it breaks, counted from 1.
+        /// The line of the check that it breaks, counted from 1: of several the first one but
+        /// `ended`.
         line: u64,
         /// Whether it is a check that each name breaks, since no number is in its range.
         is_empty: bool,
         /// The lowest process at fault, where there is one, also where that is allowed.
         fault: Option<ProcessFault>,
     },
-    /// Its outcome breaks no check, but a process is at fault: the lowest one.
+    /// Its outcome breaks no check but `ended`, and a process is at fault that may not be: the
+    /// lowest one.
     Fault(ProcessFault),
 }
 
@@ -124,16 +125,19 @@ impl Verdict {
 }
 
 /// Whether the source holds that a text spells, and what its least failing schedule breaks, where
-/// one fails. The machines, one a process, lead to its drawing. Takes no memory.
+/// one fails. The machines, one a process, lead to its drawing; the programs tell which checks no
+/// outcome could break. Takes no memory.
 pub fn verdict_on(
     spelling: &Spelling<'_>,
     machines: Vec<Box<dyn Machine + Send>>,
     settings: Settings,
     allows_faults: bool,
+    programs: &[Prog],
     checked: Checked,
 ) -> Verdict
     requires machines { all_programs means machines.items
         ≡ source_programs spelling.now.source.now }
+    requires programs { map program_of programs.now ≡ source_programs spelling.now.source.now }
     requires checked { IsPlainCheck (source_programs spelling.now.source.now)
         settings.length settings.crashes
         (meets_demands (contents_of spelling.now.source.now).clauses allows_faults) checked }
@@ -153,7 +157,7 @@ pub fn verdict_on(
             let clauses = spelling.source.clauses().list();
             Verdict::Holds(Unbroken {
                 asked: asked_of(clauses, allows_faults),
-                gaps: gaps_of(spelling, &exploration),
+                gaps: gaps_of(spelling, programs, &exploration),
                 exploration,
             })
         }
@@ -197,11 +201,11 @@ fn cause_of(spelling: &Spelling<'_>, strictness: Strictness, drawing: &Drawing) 
     requires { demands_of strictness (contents_of spelling.now.source.now).clauses drawing.now.ends
         ≡ false }
     ensures { IsCauseOf spelling.now.text.now (contents_of spelling.now.source.now).clauses
-        strictness.asks_ended drawing.now.stops drawing.now.ends result }
+        strictness drawing.now.stops drawing.now.ends result }
 {
     let fault = first_fault(spelling.text, drawing);
     let outcome = drawing.outcome();
-    if let Some((line, is_empty)) = broken_line(spelling, strictness.asks_ended, outcome) {
+    if let Some((line, is_empty)) = broken_line(spelling, strictness, outcome) {
         return Cause::Check {
             line,
             is_empty,
@@ -212,18 +216,21 @@ fn cause_of(spelling: &Spelling<'_>, strictness: Strictness, drawing: &Drawing) 
     Cause::Fault(fault)
 }
 
-/// The line of the first check of a source that is asked and that an outcome breaks, and whether
-/// each name breaks it, since no number is in its range; `ended` may be left out. None where it
-/// breaks none.
-fn broken_line(spelling: &Spelling<'_>, asks_ended: bool, outcome: &Outcome) -> Option<(u64, bool)>
+/// The line of the check of a source that is named of those that an outcome breaks, and whether
+/// each name breaks it, since no number is in its range. None where none is named: it breaks none,
+/// or `ended` alone beside a process at fault that may not be.
+fn broken_line(
+    spelling: &Spelling<'_>,
+    strictness: Strictness,
+    outcome: &Outcome,
+) -> Option<(u64, bool)>
     ensures line { IfSome result (λ (line, is_empty). IsBrokenLine spelling.now.text.now
-        (contents_of spelling.now.source.now).clauses asks_ended outcome.now line is_empty) }
+        (contents_of spelling.now.source.now).clauses strictness outcome.now line is_empty) }
     ensures none { IsNone result
-        → meets_all (clauses_asked asks_ended (contents_of spelling.now.source.now).clauses)
-        outcome.now ≡ true }
+        → named_at strictness (contents_of spelling.now.source.now).clauses outcome.now ≡ None }
 {
     let clauses = spelling.source.clauses().list();
-    let Some(place) = first_broken(clauses, asks_ended, outcome) else {
+    let Some(place) = named_at(clauses, strictness, outcome) else {
         return None;
     };
     Some((spelling.check_line(place), is_empty_at(clauses, place)))

@@ -1,4 +1,5 @@
-use Rattle.std.proofs.Common.{◌+◌, arith, sym, ◌∙◌}
+use Rattle.std.proofs.Common.{◌+◌, arith, map, sym, ◌∙◌}
+use Rattle.regmodel.specs.Prelude.{program_of}
 use Rattle.reglang.specs.Sources.{contents_of}
 use Rattle.verdict.specs.Gaps.{gap_at}
 use Rattle.verdict.proofs.GapRows.{length_more, with_none, with_one}
@@ -7,7 +8,7 @@ use Rattle.verdict.proofs.gaps.gaps_of.Goals.{in-Some, in_default}
 
 pub loop-i-preserved : goal.loop-i-preserved
 loop-i-preserved c =
-    let at = gap_at c.args.spelling.now.text.now (contents_of c.args.spelling.now.source.now).clauses c.args.found.now.found.outcomes in
+    let at = gap_at c.args.spelling.now.text.now (map program_of c.args.programs.now) (contents_of c.args.spelling.now.source.now).clauses c.args.found.now.found.outcomes in
     let so_far = c.loop-i.invariant in
     elim c.match-gap_at.branch [
       | in-Some w ↦ rw w.gaps-is (record {
