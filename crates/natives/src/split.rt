@@ -1,7 +1,8 @@
 //! Splitters: a process leaves its number, tries a door and closes it, and stops, goes right or
 //! goes down by what it read.
 
-ghost use Rattle.std.specs.Prelude.{◌≡◌, ◌+◌, ◌≤◌};
+ghost use Rattle.std.specs.Prelude.{◌≡◌, ◌+◌, ◌<◌, ◌≤◌, ℕ};
+ghost use Rattle.std.specs.Int.{bit_at};
 ghost use Rattle.uses.specs.declared.kinds.Use.TheVariants as kind;
 ghost use Rattle.natives.specs.Makes.{IsMadeFor};
 ghost use Rattle.regmodel.specs.declared.limits.TheConstants.{MOST_REGISTERS};
@@ -11,7 +12,7 @@ use crate::MakeFault;
 use crate::limits::check_fits;
 use crate::numbers::{done, done_with};
 use crate::splitters::SplitterStep;
-use machine::{Machine, Told, value_of};
+use machine::{Ahead, Machine, Told, value_of};
 use regmodel::Pending;
 use uses::Use;
 
@@ -112,6 +113,24 @@ impl Machine for Split {
         };
     }
 
+    fn ahead(&self) -> Option<Ahead> {
+        let last = mask_with(0, self.base);
+        let door = mask_with(0, self.base + 1);
+        let both = mask_with(last, self.base + 1);
+        let (accesses, reads, writes) = match self.stage {
+            SplitStage::At(SplitterStep::Marks) => (4, both, both),
+            SplitStage::At(SplitterStep::Tries) => (3, both, door),
+            SplitStage::At(SplitterStep::Closes) => (2, last, door),
+            SplitStage::At(SplitterStep::Looks) => (1, last, 0),
+            _ => (0, 0, 0),
+        };
+        Some(Ahead {
+            accesses,
+            reads,
+            writes,
+        })
+    }
+
     fn end(&mut self) {
         self.stage = SplitStage::Ended;
     }
@@ -119,4 +138,13 @@ impl Machine for Split {
     fn tell(&self, numbers: &mut Told) -> bool {
         numbers.put(self.stage.number()).is_some()
     }
+}
+
+/// A mask of registers, with one more.
+fn mask_with(mask: u64, register: u8) -> u64
+    requires { register < 64 }
+    ensures there { bit_at result register ≡ 1 }
+    ensures kept { (r : ℕ) → bit_at mask r ≡ 1 → bit_at result r ≡ 1 }
+{
+    mask | 1 << register
 }
