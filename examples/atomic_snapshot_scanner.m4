@@ -26,11 +26,13 @@ parts(v3)
     else
       # It takes what the writer of one that moved twice scanned.
       if v5 = MOVES
-deeper(parts(v2))
+deeper(parts(v2, ifelse(MOVES, 2, last)))
         set v7 v9
         set v4 1
       fi
       if v6 = MOVES
+ifelse(MOVES, 2, `        # never: process 1 updates once
+')dnl
 deeper(parts(v3))
         set v7 v9
         set v4 1
@@ -39,7 +41,10 @@ deeper(parts(v3))
     if v4
 deeper(deeper(ends(v7)))
       halt
+enough(`    ')dnl
     fi
+ifelse(MOVES, 1, `    # never: one move is enough
+')dnl
     set v0 v2
     set v1 v3
   done

@@ -20,8 +20,11 @@ deeper(parts(v1))
         else
           set v2 v2 + 1
           if v2 = MOVES
+ifelse(ME`'MOVES, 02, `            # never: process 1 updates once
+')dnl
             set v4 v9
             set v3 1
+enough(`          ')dnl
           fi
         fi
         set v0 v1
