@@ -63,8 +63,14 @@ class Coverage:
                 self.unfinished.update(probes)
             elif answer.holds:
                 self.dead.update(probes)
-            for number in PROBED.findall(answer.text if answer else ""):
-                self.last[probes[int(number)].block] = probes[int(number)].at
+            else:
+                self.note([probes[int(number)] for number in PROBED.findall(answer.text)])
+
+    def note(self, reached: List[Point]) -> None:
+        """Notes the points to which a schedule comes."""
+        if not reached:
+            raise Failure("the program tells no probe, and says that one is found", COULD_NOT)
+        self.last.update((point.block, point.at) for point in reached)
 
     def answer(self, program: Program, probes: List[Point]) -> Optional[Answer]:
         """What a check says of the source with probes."""
@@ -79,9 +85,9 @@ class Coverage:
         """Whether a schedule executes this statement of a block: an access is done, another one begun."""
         return self.last.get(block, -1) >= at + block.statements[at].is_access
 
-    def may_execute(self, block: Block, at: int) -> bool:
-        """Whether a schedule executes this statement, or that was not finished."""
-        return self.is_executed(block, at) or any(it.block is block for it in self.unfinished)
+    def is_open(self, block: Block) -> bool:
+        """Whether it was not finished how far a block is executed."""
+        return any(it.block is block for it in self.unfinished)
 
     def next_points(self, block: Block) -> Iterator[Point]:
         """The next point of a block and of each within it, where it is not known yet."""

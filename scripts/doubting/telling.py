@@ -3,7 +3,7 @@
 from itertools import groupby
 from typing import Any, Dict, Iterator, List, Tuple
 
-from changes import Trial, Verdict
+from changes import Trial
 from coverage import Coverage
 from gaps import Gap, Gaps
 from program import counted
@@ -50,7 +50,9 @@ def coverage_lines(covered: Coverage, bounds: str) -> Iterator[str]:
     everything = [it for block in source.covered() for it in block.everything()]
     statements = counted(len(everything), "statement")
     branches = counted(sum(len(it.blocks) for it in everything), "branch")
-    if gaps.doubts:
+    if not source.covered():
+        yield "each process has a `use` line"
+    elif gaps.doubts:
         never = sum(len(it.those(False)) for it in gaps.doubts)
         ways = sum(it.is_branch for it in gaps.doubts)
         yield f"{never} of {statements} and {ways} of {branches} are never executed, {bounds}:"
@@ -63,7 +65,8 @@ def coverage_lines(covered: Coverage, bounds: str) -> Iterator[str]:
     for gap in filter(lambda it: it.statements, gaps.unfinished):
         yield f"  {run([it for it, _ in gap.statements])}: not finished: give a greater --limit"
     yield from (f"  {it}: marked `# never`, and a schedule comes there" for it in gaps.belied)
-    yield from (f"  {runs(it, True)}: meant never to run" for it in gaps.known if it.those(True))
+    meant = ", ".join(runs(it, True) for it in gaps.known if it.those(True))
+    yield from [f"  meant never to run: {meant}"] if meant else []
     yield from (f"  {use.place}: `{use}` is left alone" for use in source.uses())
 
 
@@ -80,6 +83,9 @@ def check_words(check: Statement, trial: Trial) -> str:
 
 def change_lines(trial: Trial) -> Iterator[str]:
     """What is said of changes."""
+    if not trial.verdicts:
+        yield "there is nothing to change"
+        return
     noticed = sum(it.kind == "noticed" for it in trial.verdicts)
     yield f"{counted(len(trial.verdicts), 'change')}, one at a time: {noticed} noticed"
     yield from (f"  {it} ({it.place}): {check_words(it, trial)}" for it in trial.source.checks)
@@ -123,5 +129,5 @@ def change_data(trial: Trial) -> Tuple[Dict[str, Any], bool]:
         "unnoticed": [{**it, "same": kind == "same"} for kind in ("other", "same") for it in told[kind]],
         "unfinished": told["unfinished"],
     }
-    asked = (it for it in checks if it.words[1] != "ended")
+    asked = [it for it in checks if it.words[1] != "ended"] if trial.verdicts else []
     return data, len(told["noticed"]) < len(trial.verdicts) or not all(map(trial.is_broken, asked))
