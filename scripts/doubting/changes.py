@@ -74,8 +74,8 @@ def changes_of(source: Source, statement: Statement) -> Iterator[Change]:
 
 def changes(covered: Coverage, block: Block) -> Iterator[Change]:
     """The changes of the statements in a block, but for those that are never executed."""
-    source = covered.source
-    executed = [it for at, it in enumerate(block.statements) if covered.may_execute(block, at)]
+    source, is_open = covered.source, covered.is_open(block)
+    executed = [it for at, it in enumerate(block.statements) if is_open or covered.is_executed(block, at)]
     for statement, follower in zip(executed, [*executed[1:], None]):
         yield from changes_of(source, statement)
         if follower and statement.is_access and follower.is_access and statement.words != follower.words:

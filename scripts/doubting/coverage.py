@@ -85,9 +85,9 @@ class Coverage:
         """Whether a schedule executes this statement of a block: an access is done, another one begun."""
         return self.last.get(block, -1) >= at + block.statements[at].is_access
 
-    def may_execute(self, block: Block, at: int) -> bool:
-        """Whether a schedule executes this statement, or that was not finished."""
-        return self.is_executed(block, at) or any(it.block is block for it in self.unfinished)
+    def is_open(self, block: Block) -> bool:
+        """Whether it was not finished how far a block is executed."""
+        return any(it.block is block for it in self.unfinished)
 
     def next_points(self, block: Block) -> Iterator[Point]:
         """The next point of a block and of each within it, where it is not known yet."""

@@ -54,7 +54,7 @@ class Gaps:
 
     def gap(self, chooser: Optional[Statement], block: Block, at: int) -> Gap:
         """The gap that begins at a point of a block."""
-        is_known = not any(it.block is block for it in self.covered.unfinished)
+        is_known = not self.covered.is_open(block)
         return Gap(chooser, block.way, [*self.within(block, at)], self.is_meant(block, at), is_known)
 
     def within(self, block: Block, begin: int, is_meant: bool = False) -> Iterator[Tuple[Statement, bool]]:

@@ -21,6 +21,16 @@ class Failure(Exception):
         self.status = status
 
 
+def prepare() -> None:
+    """Has ./regtry build the program, where it is not there yet: that is no call that may take too long."""
+    try:
+        status = subprocess.run([PROGRAM, "--version"], stdout=subprocess.DEVNULL).returncode
+    except OSError as error:
+        raise Failure(f"{PROGRAM}: {error.strerror}", COULD_NOT) from error
+    if status:
+        raise Failure(f"{PROGRAM} --version ended with status {status}", COULD_NOT)
+
+
 class Answer(NamedTuple):
     """Whether no schedule fails, and what is said of it."""
 

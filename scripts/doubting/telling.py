@@ -3,7 +3,7 @@
 from itertools import groupby
 from typing import Any, Dict, Iterator, List, Tuple
 
-from changes import Trial, Verdict
+from changes import Trial
 from coverage import Coverage
 from gaps import Gap, Gaps
 from program import counted
@@ -50,7 +50,7 @@ def coverage_lines(covered: Coverage, bounds: str) -> Iterator[str]:
     everything = [it for block in source.covered() for it in block.everything()]
     statements = counted(len(everything), "statement")
     branches = counted(sum(len(it.blocks) for it in everything), "branch")
-    if not everything:
+    if not source.covered():
         yield "each process has a `use` line"
     elif gaps.doubts:
         never = sum(len(it.those(False)) for it in gaps.doubts)
