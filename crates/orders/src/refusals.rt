@@ -20,7 +20,7 @@ const LETTERS: &str =
 
 /// How a standing of a pattern is written.
 const STANDINGS: &str =
-    "write 1 to 8 of them, parted by '; ', each * or done * or a standing of a report, as done 1 20, fault 1, crashed or running, with idle behind it where the process took no step";
+    "write 1 to 8 of them, parted by '; ', each *, done *, done * 9 * or a standing of a report, as done 1 20, fault 1, crashed or running, with idle behind it where the process took no step";
 
 /// Why a file gives no text.
 #[derive(Clone, Copy, PartialEq, Eq, Debug)]

@@ -19,6 +19,9 @@ pub(crate) fn form_for(standing: &str, place: usize) -> &'static str {
     if standing.starts_with("outcome ") {
         return "leave out the word outcome";
     }
+    if standing.starts_with("done ") && standing.contains('*') {
+        return "write done * for any numbers, or done * 9 * where 9 has to be among them";
+    }
     match standing.as_bytes() {
         [] => "write * for a process that may stand in any way",
         [b'd' | b'D', ..] => {
@@ -31,6 +34,6 @@ pub(crate) fn form_for(standing: &str, place: usize) -> &'static str {
         [b'0'..=b'9', ..] => {
             "write done before its numbers, and the pattern as one word, as 'done 1; *'"
         }
-        _ => "write *, done *, done 1 20, fault 1, crashed or running",
+        _ => "write *, done *, done * 9 *, done 1 20, fault 1, crashed or running",
     }
 }

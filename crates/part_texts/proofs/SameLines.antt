@@ -115,6 +115,7 @@ abbrev end_in : StandingPattern → ProcEnd → ProcEnd
 end_in (Just e) d = e
 end_in standing.Any d = d
 end_in standing.Done d = d
+end_in (standing.Emitted number) d = d
 
 pub just-same : (v w : List ProcEnd) → just v ≡ just w → v ≡ w
 just-same [] [] e = refl

@@ -82,28 +82,40 @@ end-no_star (Fault code) started e = omega (arith, first-same 102 42 _ _ e)
 end-no_star Crashed started e = omega (arith, first-same 99 42 _ _ e)
 end-no_star Running started e = omega (arith, first-same 114 42 _ _ e)
 
-star-no_numbers : (numbers : List ℕ) (started : Bool) → are_small numbers ≡ true → numbers_text numbers ++ idle_text started ≡ codes " *" → ⊥
-star-no_numbers [] true h e = cc
-star-no_numbers [] false h e = omega (arith, first-same 105 42 _ _ (rest-same _ _ e))
+star-no_numbers : (numbers : List ℕ) (started : Bool) (further : List ℕ) → are_small numbers ≡ true → numbers_text numbers ++ idle_text started ≡ codes " *" ++ further → ⊥
+star-no_numbers [] true further h e = cc
+star-no_numbers [] false further h e = omega (arith, first-same 105 42 _ _ (rest-same _ _ e))
   where
     rest-same : (s t : List ℕ) → 32 ∷ s ≡ 32 ∷ t → s ≡ t
     rest-same s t h = cc
-star-no_numbers (n ∷ numbers) started h e =
+star-no_numbers (n ∷ numbers) started further h e =
     let low = leb-true n 1000000000 (and_parts (leb n 1000000000) (are_small numbers) h).0 in
-    let r = begins_digit n 42 (numbers_text numbers ++ idle_text started) [] low (rest-same _ _ (sym (numbers-assoc n numbers (idle_text started)) ∙ e)) in
+    let r = begins_digit n 42 (numbers_text numbers ++ idle_text started) further low (rest-same _ _ (sym (numbers-assoc n numbers (idle_text started)) ∙ e)) in
     omega arith
   where
     rest-same : (s t : List ℕ) → 32 ∷ s ≡ 32 ∷ t → s ≡ t
     rest-same s t h = cc
 
-done_star : IsCut 32 (codes "done *") (codes "done") (codes " *")
-done_star = record { parts = refl; before = refl; after = refl }
+done_star : (further : List ℕ) → IsCut 32 (codes "done *" ++ further) (codes "done") (codes " *" ++ further)
+done_star further = record { parts = refl; before = refl; after = refl }
 
-end-no_done_star : (fate : End) (started : Bool) → end_fits fate ≡ true → end_text (record { started = started; fate = fate }) ≡ codes "done *" → ⊥
-end-no_done_star (Done numbers) started h e = star-no_numbers numbers.items started (small-in numbers.items h) (end-cut (Done numbers) started _ _ _ done_star e).after_is
-end-no_done_star (Fault code) started h e = omega (arith, first-same 102 100 _ _ e)
-end-no_done_star Crashed started h e = omega (arith, first-same 99 100 _ _ e)
-end-no_done_star Running started h e = omega (arith, first-same 114 100 _ _ e)
+end-no_done_star : (fate : End) (started : Bool) (further : List ℕ) → end_fits fate ≡ true → end_text (record { started = started; fate = fate }) ≡ codes "done *" ++ further → ⊥
+end-no_done_star (Done numbers) started further h e = star-no_numbers numbers.items started further (small-in numbers.items h) (end-cut (Done numbers) started _ _ _ (done_star further) e).after_is
+end-no_done_star (Fault code) started further h e = omega (arith, first-same 102 100 _ _ e)
+end-no_done_star Crashed started further h e = omega (arith, first-same 99 100 _ _ e)
+end-no_done_star Running started further h e = omega (arith, first-same 114 100 _ _ e)
+
+-- what follows `done *` where one number among others is asked for
+abbrev behind_star : ℕ → List ℕ
+behind_star number = 32 ∷ (decimal number ++ codes " *")
+
+number-same : (m n : ℕ) → m ≤ 1000000000 → n ≤ 1000000000 → behind_star m ≡ behind_star n → m ≡ n
+number-same m n hm hn e =
+    let same = cut_same 32 (decimal m) (codes " *") (decimal n) (codes " *") (no_space-decimal m hm) refl (no_space-decimal n hn) refl (cc) in
+    decimal_injective m n (omega arith) (omega arith) same.0
+
+star-same : (s t : List ℕ) → codes "done *" ++ s ≡ codes "done *" ++ t → s ≡ t
+star-same s t e = cc
 
 abbrev with_fate : Bool → End → ProcEnd
 with_fate started fate = record { started = started; fate = fate }
@@ -114,12 +126,20 @@ just-same p q e s = ap (with_fate p.started) e ∙ ap (λ b. with_fate b q.fate)
 standing-same : (a b : StandingPattern) → standing_fits a ≡ true → standing_fits b ≡ true → standing_text a ≡ standing_text b → a ≡ b
 standing-same standing.Any standing.Any ha hb e = refl
 standing-same standing.Any standing.Done ha hb e = absurd (omega (arith, first-same 42 100 _ _ e))
+standing-same standing.Any (standing.Emitted n) ha hb e = absurd (omega (arith, first-same 42 100 _ _ e))
 standing-same standing.Any (standing.Just q) ha hb e = absurd (end-no_star q.fate q.started (sym e))
 standing-same standing.Done standing.Any ha hb e = absurd (omega (arith, first-same 100 42 _ _ e))
 standing-same standing.Done standing.Done ha hb e = refl
-standing-same standing.Done (standing.Just q) ha hb e = absurd (end-no_done_star q.fate q.started hb (sym e))
+standing-same standing.Done (standing.Emitted n) ha hb e = absurd (cc (star-same [] (behind_star n) e))
+standing-same standing.Done (standing.Just q) ha hb e = absurd (end-no_done_star q.fate q.started [] hb (sym e))
+standing-same (standing.Emitted m) standing.Any ha hb e = absurd (omega (arith, first-same 100 42 _ _ e))
+standing-same (standing.Emitted m) standing.Done ha hb e = absurd (cc (star-same (behind_star m) [] e))
+standing-same (standing.Emitted m) (standing.Emitted n) ha hb e =
+    ap standing.Emitted (number-same m n (leb-true m 1000000000 ha) (leb-true n 1000000000 hb) (star-same (behind_star m) (behind_star n) e))
+standing-same (standing.Emitted m) (standing.Just q) ha hb e = absurd (end-no_done_star q.fate q.started (behind_star m) hb (sym e))
 standing-same (standing.Just p) standing.Any ha hb e = absurd (end-no_star p.fate p.started e)
-standing-same (standing.Just p) standing.Done ha hb e = absurd (end-no_done_star p.fate p.started ha e)
+standing-same (standing.Just p) standing.Done ha hb e = absurd (end-no_done_star p.fate p.started [] ha e)
+standing-same (standing.Just p) (standing.Emitted n) ha hb e = absurd (end-no_done_star p.fate p.started (behind_star n) ha e)
 standing-same (standing.Just p) (standing.Just q) ha hb e = let same = ends-same p.fate q.fate p.started q.started ha hb e in ap standing.Just (just-same p q same.0 same.1)
 
 -- ---- patterns

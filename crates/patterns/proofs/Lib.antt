@@ -1,3 +1,4 @@
+pub mod EmittedTexts
 pub mod EndTexts
 pub mod FirstMatch
 pub mod JustOneText

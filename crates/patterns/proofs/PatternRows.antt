@@ -1,14 +1,14 @@
 -- What is read of a pattern's text, and what is left of it, determine its standings.
-use Rattle.std.proofs.Common.{◌≡◌, ◌≢◌, ℕ, ◌<◌, ◌≤◌, Bool, true, ◌&&◌, List, [], ◌∷◌, ◌++◌, length, codes, refl, ap, sym, ◌∙◌, arith, append_assoc}
+use Rattle.std.proofs.Common.{◌≡◌, ◌≢◌, ℕ, ◌<◌, ◌≤◌, Bool, true, ◌&&◌, List, [], ◌∷◌, ◌++◌, length, codes, decimal, refl, ap, sym, ◌∙◌, arith, append_assoc}
 use Rattle.std.specs.List.{flat_map, list_all}
-use Rattle.std.proofs.lemmas.Bool.{and_parts, and_from}
+use Rattle.std.proofs.lemmas.Bool.{and_parts, and_from, leb-true}
 use Rattle.std.proofs.lemmas.Grind.{flat_map-append}
 use Rattle.std.proofs.lemmas.List.{append-nil}
 use Rattle.std.proofs.lemmas.List.Folds.{list_all-append}
 use Rattle.patterns.specs.declared.patterns.StandingPattern.{StandingPattern}
 use Rattle.patterns.specs.declared.patterns.StandingPattern.TheVariants as standing
 use Rattle.texts.specs.Cuts.{has_no, begins_at}
-use Rattle.texts.proofs.Bytes.{IsCut, cut_same, cut_is}
+use Rattle.texts.proofs.Bytes.{IsCut, cut_same, cut_is, has_no-append, no_mark-decimal}
 use Rattle.patterns.specs.PatternText.{FitsPattern, IsBadAt, ended_text, pattern_text, standing_fits, standing_text}
 use Rattle.patterns.proofs.EndTexts.{mark_outside, none-end}
 
@@ -18,6 +18,7 @@ all_fit standings = list_all standing_fits standings
 pub no_mark : (s : StandingPattern) → standing_fits s ≡ true → has_no 59 (standing_text s) ≡ true
 no_mark standing.Any h = refl
 no_mark standing.Done h = refl
+no_mark (standing.Emitted number) h = has_no-append 59 (decimal number) (codes " *") (no_mark-decimal number (leb-true number 1000000000 h)) refl
 no_mark (standing.Just end) h = none-end 59 mark_outside end h
 
 -- the later standings of a pattern, each behind `; `

@@ -4,7 +4,7 @@ use Rattle.std.specs.Fmt.{digits}
 use Rattle.regmodel.specs.declared.outcomes.End.TheVariants as end
 use Rattle.regmodel.specs.declared.outcomes.ProcEnd.{ProcEnd}
 use Rattle.regmodel.specs.Examples.{idle, started}
-use Rattle.patterns.specs.declared.patterns.StandingPattern.TheVariants.{Any, Done, Just}
+use Rattle.patterns.specs.declared.patterns.StandingPattern.TheVariants.{Any, Done, Emitted, Just}
 use Rattle.patterns.specs.Matching.{first_match, matches, matches_none}
 use Rattle.patterns.specs.PatternText.{pattern_text}
 
@@ -17,6 +17,15 @@ just_so = refl
 
 pub done_and_any : matches (Done ∷ Any ∷ []) outcome ≡ true
 done_and_any = refl
+
+pub emitted_among_others : matches (Emitted 20 ∷ Any ∷ []) outcome ≡ true
+emitted_among_others = refl
+
+pub not_emitted : matches (Emitted 2 ∷ Any ∷ []) outcome ≡ false
+not_emitted = refl
+
+pub crashed_emits_none : matches (Any ∷ Emitted 20 ∷ []) outcome ≡ false
+crashed_emits_none = refl
 
 pub other_numbers : matches (Just (started (1 ∷ [])) ∷ Any ∷ []) outcome ≡ false
 other_numbers = refl
@@ -39,7 +48,8 @@ pub second_of_three :
 second_of_three = refl
 
 pub text_of_a_pattern :
-    pattern_text (Any ∷ Done ∷ Just (started (1 ∷ 20 ∷ [])) ∷ Just (idle (end.Fault 2)) ∷ [])
-    ≡ codes "*; done *; done 1 20; fault 2 idle"
+    pattern_text
+    (Any ∷ Done ∷ Emitted 20 ∷ Just (started (1 ∷ 20 ∷ [])) ∷ Just (idle (end.Fault 2)) ∷ [])
+    ≡ codes "*; done *; done * 20 *; done 1 20; fault 2 idle"
 unfolding digits
 text_of_a_pattern = refl

@@ -29,10 +29,18 @@ is_done (Fault code) = false
 is_done Crashed = false
 is_done Running = false
 
+-- whether a process is done with this number among others
+abbrev pub has_emitted : ℕ → End → Bool
+has_emitted number (Done numbers) = list_any (λ n. n == number) numbers.items
+has_emitted number (Fault code) = false
+has_emitted number Crashed = false
+has_emitted number Running = false
+
 -- whether a process may stand so
 abbrev pub allows : StandingPattern → ProcEnd → Bool
 allows standing.Any end = true
 allows standing.Done end = is_done end.fate
+allows (standing.Emitted number) end = has_emitted number end.fate
 allows (standing.Just own) end =
     both_or_neither own.started end.started && are_alike own.fate end.fate
 

@@ -9,10 +9,16 @@ use Rattle.texts.specs.OutcomeText.{end_text}
 use Rattle.patterns.specs.declared.patterns.StandingPattern.{StandingPattern}
 use Rattle.patterns.specs.declared.patterns.StandingPattern.TheVariants as standing
 
--- `*` for any standing, `done *` for done with any numbers, and any other one as a report writes it
+-- done with this number among others
+abbrev pub emitted_text : ℕ → List ℕ
+emitted_text number = codes "done * " ++ decimal number ++ codes " *"
+
+-- `*` for any standing, `done *` for done with any numbers, `done * 9 *` for done with 9 among
+-- them, and any other one as a report writes it
 abbrev pub standing_text : StandingPattern → List ℕ
 standing_text standing.Any = codes "*"
 standing_text standing.Done = codes "done *"
+standing_text (standing.Emitted number) = emitted_text number
 standing_text (standing.Just end) = end_text end
 
 -- the standings, parted by `; `
@@ -47,6 +53,7 @@ end_fits Running = true
 abbrev pub standing_fits : StandingPattern → Bool
 standing_fits standing.Any = true
 standing_fits standing.Done = true
+standing_fits (standing.Emitted number) = nat_le number GREATEST_VALUE
 standing_fits (standing.Just end) = end_fits end.fate
 
 -- the patterns that can be read: 1 to 8 standings, of processes as they can stand

@@ -1,6 +1,7 @@
 //! Which outcomes match patterns. No call takes memory.
 
-ghost use Rattle.std.specs.Prelude.{◌≡◌, ◌<◌, IfSome, IsNone, length, true};
+ghost use Rattle.std.specs.Prelude.{◌≡◌, ◌==◌, ◌<◌, IfSome, IsNone, length, true};
+ghost use Rattle.std.specs.List.{list_any};
 ghost use Rattle.patterns.specs.Matching as spec;
 ghost use Rattle.patterns.specs.Matching.{IsFirstMatch};
 
@@ -39,8 +40,26 @@ fn allows(standing: &StandingPattern, end: &ProcEnd) -> bool
     match standing {
         StandingPattern::Any => true,
         StandingPattern::Done => matches!(end.fate, End::Done(_)),
+        StandingPattern::Emitted(number) => has_emitted(*number, &end.fate),
         StandingPattern::Just(own) => own == end,
     }
+}
+
+/// Whether a process is done with this number among others.
+fn has_emitted(number: u32, fate: &End) -> bool
+    ensures { result ≡ spec.has_emitted number fate.now }
+{
+    match fate {
+        End::Done(numbers) => is_among(number, numbers.as_slice()),
+        End::Fault(_) | End::Crashed | End::Running => false,
+    }
+}
+
+/// Whether this is one of some numbers.
+fn is_among(number: u32, numbers: &[u32]) -> bool
+    ensures { result ≡ list_any (λ n. n == number) numbers.now }
+{
+    numbers.iter().any(|n| *n == number)
 }
 
 /// The judge that refuses the outcomes that match one of these patterns.

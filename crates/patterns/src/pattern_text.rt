@@ -14,6 +14,7 @@ impl Text for StandingPattern {
         match self {
             StandingPattern::Any => "*".put(out, block),
             StandingPattern::Done => "done *".put(out, block),
+            StandingPattern::Emitted(number) => ("done * ", *number, " *").put(out, block),
             StandingPattern::Just(end) => end.put(out, block),
         }
     }

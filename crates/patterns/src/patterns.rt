@@ -12,6 +12,8 @@ pub enum StandingPattern {
     Any,
     /// Done with any numbers, whether or not it took a step.
     Done,
+    /// Done with this number among others, 0 to 1000000000, whether or not it took a step.
+    Emitted(u32),
     /// Just so.
     Just(ProcEnd),
 }

@@ -1,13 +1,14 @@
 //! The pattern of a text. No call takes memory.
 
-ghost use Rattle.std.specs.Prelude.{◌≡◌, ◌≢◌, ◌≤◌, ◌++◌, ◌∷◌, ℕ, Bool, IfErr, IfNone, IfOk, IfSome, List, codes, true};
+ghost use Rattle.std.specs.Prelude.{◌≡◌, ◌≢◌, ◌≤◌, ◌++◌, ◌∷◌, ℕ, Bool, IfErr, IfNone, IfOk, IfSome, List, codes, nat_le, true};
+ghost use Rattle.regmodel.specs.declared.limits.TheConstants.{GREATEST_VALUE};
 ghost use Rattle.regmodel.specs.declared.outcomes.End.{End};
 ghost use Rattle.regmodel.specs.declared.outcomes.ProcEnd.{ProcEnd};
 ghost use Rattle.texts.specs.Cuts.{begins_at};
 ghost use Rattle.texts.specs.NumberText.{numbers_text};
 ghost use Rattle.texts.specs.OutcomeText.{end_text};
 ghost use Rattle.patterns.specs.declared.patterns.StandingPattern.{StandingPattern};
-ghost use Rattle.patterns.specs.PatternText.{FitsPattern, IsBadAt, code_fits, code_text, end_fits, idle_text, numbers_fit, pattern_text, standing_fits, standing_text};
+ghost use Rattle.patterns.specs.PatternText.{FitsPattern, IsBadAt, code_fits, code_text, emitted_text, end_fits, idle_text, numbers_fit, pattern_text, standing_fits, standing_text};
 
 use crate::patterns::{Pattern, StandingPattern};
 use arrayvec::ArrayVec;
@@ -80,8 +81,41 @@ fn read_standing(text: &[u8]) -> Option<StandingPattern>
     if text == b"done *".as_slice() {
         return Some(StandingPattern::Done);
     }
+    if let Some(number) = read_emitted(text) {
+        return Some(StandingPattern::Emitted(number));
+    }
     let end = read_end(text)?;
     Some(StandingPattern::Just(end))
+}
+
+/// The number that a process is done with among others, by a text. None for any other text.
+fn read_emitted(text: &[u8]) -> Option<u32>
+    ensures some { IfSome result (λ number. emitted_text number ≡ text.now) }
+    ensures fits { IfSome result (λ number. nat_le number GREATEST_VALUE ≡ true) }
+    ensures none { IfNone result
+        ((number : ℕ) → nat_le number GREATEST_VALUE ≡ true → emitted_text number ≢ text.now) }
+{
+    let (word, after) = cut_at(text, b' ');
+    if word != b"done".as_slice() {
+        return None;
+    }
+    let further = past_star(after)?;
+    let (word, after) = cut_at(further, b' ');
+    if after != b" *".as_slice() {
+        return None;
+    }
+    number_of(word)
+}
+
+/// What follows ` * ` at the beginning of a text. None where it does not begin so.
+fn past_star(text: &[u8]) -> Option<&[u8]>
+    ensures some { IfSome result (λ rest. codes " * " ++ rest.now ≡ text.now) }
+    ensures none { IfNone result ((rest : List ℕ) → codes " * " ++ rest ≢ text.now) }
+{
+    match text {
+        [b' ', b'*', b' ', rest @ ..] => Some(rest),
+        _ => None,
+    }
 }
 
 /// How a process stands, by a text. None for any text that no process has.

@@ -2,9 +2,6 @@
 use Rattle.std.proofs.Common.{◌≡◌, ℕ, zero, suc, ◌+◌, ◌<◌, Bool, true, false, cond, List, [], ◌∷◌, ◌++◌, Result, Ok, Err, refl, sym, subst, length}
 use Rattle.std.proofs.lemmas.Bool.{ltb-true}
 use Rattle.std.specs.Prelude.{⊤, nat_lt}
-use Rattle.regmodel.specs.declared.statements.Expr.{Expr}
-use Rattle.regmodel.specs.declared.statements.Operand.{Operand}
-use Rattle.regmodel.specs.declared.statements.Target.{Target}
 use Rattle.regmodel.specs.Prelude.{Flow, then_do, Replies, Env}
 use Rattle.regmodel.specs.Act.{GoesOn, Wants, Ends, Faults, with_value, answer_read, answer_scan, answer_write, choose, emit, exec_simple}
 use Rattle.regmodel.specs.Program.{Simple, Assign, Read, Write, Scan, Emit}

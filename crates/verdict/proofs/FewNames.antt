@@ -1,5 +1,5 @@
 -- A check that the text of the processes lets no outcome break is met by each.
-use Rattle.std.proofs.Common.{◌≡◌, ℕ, zero, suc, ◌+◌, ◌≤◌, ◌==◌, ◌&&◌, Bool, true, false, cond, List, [], ◌∷◌, Option, Some, None, All, refl, ap, sym, ◌∙◌, arith, length, map}
+use Rattle.std.proofs.Common.{◌≡◌, ℕ, zero, suc, ◌+◌, ◌≤◌, ◌==◌, ◌&&◌, Bool, true, false, cond, List, [], ◌∷◌, Option, Some, None, All, refl, ap, arith, length, map}
 use Rattle.std.proofs.lemmas.Bool.{and_from, and_parts, eqb-true, le-leb, leb-true, ltb-false}
 use Rattle.std.proofs.lemmas.List.Elements.{All-head, All-tail}
 use Rattle.std.proofs.lemmas.List.Sums.{sum_by-cons}
@@ -19,7 +19,7 @@ use Rattle.regmodel.proofs.KeepingLimits.{CanStand, act_of-stands, act_of-within
 use Rattle.regmodel.proofs.ValueLists.{AreValues, IsValue}
 use Rattle.world.specs.Fit.{AreFit}
 use Rattle.world.proofs.ValueLimits.{replies-within}
-use Rattle.verdict.specs.Gaps.{why_few, why_met, why_within}
+use Rattle.verdict.specs.Gaps.{why_met}
 use Rattle.verdict.specs.Names.{EmitsNone, begins_with, emitters, may_emit}
 use Rattle.verdict.specs.declared.gaps.Reason.{Reason}
 use Rattle.verdict.specs.declared.gaps.Reason.TheVariants.{EachNumber}

@@ -1,16 +1,17 @@
 -- No outcome matches a pattern that asks for more numbers than a process emits.
-use Rattle.std.proofs.Common.{◌≡◌, ℕ, suc, ◌+◌, ◌≤◌, Bool, true, false, ◌&&◌, cond, List, [], ◌∷◌, Option, Some, None, refl, ap, ◌∙◌, arith, length, map}
+use Rattle.std.proofs.Common.{◌≡◌, ℕ, ◌+◌, ◌==◌, ◌≤◌, Bool, true, false, ◌&&◌, cond, List, [], ◌∷◌, Option, Some, None, refl, ap, arith, length, map}
 use Rattle.std.proofs.lemmas.Bool.{and_parts, ltb-true}
 use Rattle.std.specs.Prelude.{is_some, nat_lt, not}
 use Rattle.std.specs.List.{find, list_any, range_with_len}
 use Rattle.std.specs.Option.{option_map}
 use Rattle.regmodel.specs.declared.accesses.Pending.{Pending}
 use Rattle.regmodel.specs.declared.outcomes.ProcEnd.{ProcEnd}
-use Rattle.regmodel.specs.Prelude.{act_of, Schedule, is_crash_of, outcome_of, proc_end, Program, pending_after, pending_at, replies, Replies, first_refused}
+use Rattle.regmodel.specs.Prelude.{Schedule, is_crash_of, outcome_of, proc_end, Program, pending_after, replies, first_refused}
 use Rattle.regmodel.specs.Outcomes.{end_of}
 use Rattle.regmodel.specs.declared.accesses.Pending.TheVariants as pending
-use Rattle.regmodel.specs.declared.outcomes.End.TheVariants.{Crashed}
-use Rattle.patterns.specs.Matching.{allows, matches, matches_none}
+use Rattle.regmodel.specs.declared.outcomes.End.{End}
+use Rattle.regmodel.specs.declared.outcomes.End.TheVariants.{Done, Fault, Crashed, Running}
+use Rattle.patterns.specs.Matching.{allows, has_emitted, matches, matches_none}
 use Rattle.patterns.specs.declared.patterns.StandingPattern.{StandingPattern}
 use Rattle.patterns.specs.declared.patterns.StandingPattern.TheVariants as standing
 use Rattle.patterns.proofs.JustOneText.{just_allowed}
@@ -27,10 +28,22 @@ few_numbers most (pending.Wants a) false h = omega arith
 few_numbers most (pending.Done numbers) false h = h
 few_numbers most (pending.Fault code) false h = omega arith
 
+-- a process that is done with a number has one
+some_number : (number : ℕ) (fate : End) → has_emitted number fate ≡ true → 1 ≤ numbers_of fate
+some_number number (Done numbers) h = one_at_least numbers.items h
+  where
+    one_at_least : (ns : List ℕ) → list_any (λ n. n == number) ns ≡ true → 1 ≤ length ns
+    one_at_least [] h = absurd (cc h)
+    one_at_least (n ∷ ns) h = omega arith
+some_number number (Fault code) h = absurd (cc h)
+some_number number Crashed h = absurd (cc h)
+some_number number Running h = absurd (cc h)
+
 -- a standing that allows it asks for no more than it has
 asks_no_more : (s : StandingPattern) (end : ProcEnd) → allows s end ≡ true → asked_by s ≤ numbers_of end.fate
 asks_no_more standing.Any end h = omega arith
 asks_no_more standing.Done end h = omega arith
+asks_no_more (standing.Emitted number) end h = some_number number end.fate h
 asks_no_more (standing.Just own) end h = let same = ap (λ e. numbers_of e.fate) ((just_allowed own end).0 h) in omega (arith, same)
 
 -- one process, and those after it

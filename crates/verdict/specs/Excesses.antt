@@ -19,6 +19,7 @@ is_crashed fate = elim fate [
 abbrev pub has_crashed : StandingPattern → Bool
 has_crashed standing.Any = false
 has_crashed standing.Done = false
+has_crashed (standing.Emitted number) = false
 has_crashed (standing.Just end) = is_crashed end.fate
 
 -- how many of these processes have crashed

@@ -1,7 +1,6 @@
 -- Worked examples of which numbers processes may emit, and of checks that no outcome could break.
-use Rattle.std.specs.Prelude.{◌≡◌, ℕ, Bool, true, false, List, [], ◌∷◌, Option, Some, None, codes, refl}
+use Rattle.std.specs.Prelude.{◌≡◌, ℕ, Bool, true, false, List, [], ◌∷◌, Some, None, codes, refl}
 use Rattle.std.specs.Fmt.{digits}
-use Rattle.regmodel.specs.declared.clauses.Clause.{Clause}
 use Rattle.regmodel.specs.declared.clauses.Clause.TheVariants.{AtMost, Within}
 use Rattle.regmodel.specs.declared.statements.Expr.{Expr}
 use Rattle.regmodel.specs.declared.statements.Expr.TheVariants.{One}
@@ -10,7 +9,6 @@ use Rattle.regmodel.specs.Program.{Block, Program, Stop, Do, If, Repeat, Emit, H
 use Rattle.verdict.specs.Gaps.{why_met}
 use Rattle.verdict.specs.Names.{may_emit_from}
 use Rattle.verdict.specs.VerdictText.{why_text}
-use Rattle.verdict.specs.declared.gaps.Reason.{Reason}
 use Rattle.verdict.specs.declared.gaps.Reason.TheVariants.{Unemitted, NoName, FewNamed, EachNumber}
 
 -- a variable

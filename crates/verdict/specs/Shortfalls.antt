@@ -14,10 +14,11 @@ numbers_of (Fault code) = 0
 numbers_of Crashed = 0
 numbers_of Running = 0
 
--- how many numbers a process has that stands so
+-- how many numbers a process has at least that stands so
 abbrev pub asked_by : StandingPattern → ℕ
 asked_by standing.Any = 0
 asked_by standing.Done = 0
+asked_by (standing.Emitted number) = 1
 asked_by (standing.Just end) = numbers_of end.fate
 
 -- the first process of which a pattern asks for more numbers than it emits, where its processes are

@@ -38,6 +38,6 @@ fn has_crashed(standing: &StandingPattern) -> bool
 {
     match standing {
         StandingPattern::Just(end) => matches!(end.fate, End::Crashed),
-        StandingPattern::Any | StandingPattern::Done => false,
+        StandingPattern::Any | StandingPattern::Done | StandingPattern::Emitted(_) => false,
     }
 }

@@ -101,14 +101,22 @@ fn shortfall_in(
     shortfall_in(pattern, process + 1, more, standings)
 }
 
-/// How many numbers a process has that stands so.
+/// How many numbers a process has at least that stands so.
 fn asked_by(standing: &StandingPattern) -> usize
     ensures { result ≡ spec.asked_by standing.now }
 {
-    let StandingPattern::Just(end) = standing else {
-        return 0;
-    };
-    match &end.fate {
+    match standing {
+        StandingPattern::Any | StandingPattern::Done => 0,
+        StandingPattern::Emitted(_) => 1,
+        StandingPattern::Just(end) => numbers_of(&end.fate),
+    }
+}
+
+/// How many numbers a process is done with.
+fn numbers_of(fate: &End) -> usize
+    ensures { result ≡ spec.numbers_of fate.now }
+{
+    match fate {
         End::Done(numbers) => numbers.len(),
         End::Fault(_) | End::Crashed | End::Running => 0,
     }

@@ -63,16 +63,15 @@ const CHECKS: &str =
 below 0 or above 1000000000, or it names a register or a cell that is not there, repeats more than 99 times, or emits a
 ninth number. With --allow-faults only a check that is broken counts.
 
-Where a schedule fails, it prints the least one that does: the first check that its outcome breaks and the line of
-that check, the lowest process at fault and why, the schedule as a drawing (see regtry show --help), and the command that
-draws it again.
+Where a schedule fails, it prints the least one that does: the check that its outcome breaks and the line of that check, of
+several the first one but `ended`; the lowest process at fault and why; the schedule as a drawing (see regtry show --help);
+and the command that draws it again.
 The least schedule is often not the shortest. With --shortest the lengths 0, 1, 2 and so on are tried one after another, and the
 least schedule of the first length at which one fails is printed. Below the greatest length a check for `ended` is left out.
 Where no schedule of a length is cut off, none is longer, and no further length is tried.
 Where none fails, it prints how much was tried, and whether schedules were cut off at the greatest length with a process
 still running: longer ones were not tried then. It says what was looked for where there is no check line, and which check no
-outcome could break, since no process ever had a name or was done. With --outcomes the outcomes of all schedules are printed
-as well, whether one fails or not.
+outcome could break, and why. With --outcomes the outcomes of all schedules are printed as well, whether one fails or not.
 
 Where several files are named, it does so for each in turn: one that cannot be read or is refused stops no other one. The status is
 the highest, and a last line says how many hold, fail and are refused.
@@ -90,10 +89,11 @@ const PATTERNS: &str =
     "A pattern is one word: it says how each process may stand, processes from 0, parted by '; ', in one of these ways:
   done 1 20      done with just these numbers; done alone: with none
   done *         done with any numbers
+  done * 9 *     done with 9 among its numbers
   fault 2        at fault with this code: 1 to 4
   crashed        it has crashed
   running        it still wants an access
-  crashed idle   as one of these, and it took no step: without idle it took one (but for done * and *)
+  crashed idle   as one of these, and it took no step: without idle it took one (but for what has a *)
   *              in any way
 Where several are given, an outcome has to match one of them. A dash in place of patterns has them read from standard input, one
 a line, also a line of a report that begins with `outcome`: regtry explore .. | grep .. | regtry find FILE -

@@ -1,5 +1,5 @@
-use Rattle.std.proofs.Common.{◌≡◌, ◌||◌, Bool, ap, sym, ◌∙◌}
-use Rattle.regmodel.specs.Prelude.{Block, block_of, with_stmt}
+use Rattle.std.proofs.Common.{◌||◌, ap, sym, ◌∙◌}
+use Rattle.regmodel.specs.Prelude.{block_of, with_stmt}
 use Rattle.regmodel.proofs.Rows.{with_stmt-If, with_stmt-Repeat}
 use Rattle.verdict.specs.Names.{may_emit_from}
 use Rattle.verdict.proofs.NamesEmitted.{either_branch, some_turn}

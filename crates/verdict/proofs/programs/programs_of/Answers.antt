@@ -1,4 +1,4 @@
-use Rattle.std.proofs.Common.{◌∷◌, [], ◌++◌, ap, sym, ◌∙◌, arith, map, take}
+use Rattle.std.proofs.Common.{◌∷◌, [], ◌++◌, ap, sym, ◌∙◌, arith, map}
 use Rattle.std.proofs.lemmas.List.{map_push, take_all}
 use Rattle.regmodel.specs.Prelude.{program_of}
 use Rattle.lists.proofs.Members.{take_push}
