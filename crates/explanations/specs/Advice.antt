@@ -1,6 +1,7 @@
 -- What to change in a refused line.
-use Rattle.std.specs.Prelude.{ℕ, if◌then◌else◌, List, Option, codes}
+use Rattle.std.specs.Prelude.{ℕ, if◌then◌else◌, List, [], ◌∷◌, Option, None, codes, unwrap_or}
 use Rattle.explanations.specs.Hints.{hint_of}
+use Rattle.explanations.specs.Idioms.{idiom_of}
 use Rattle.explanations.specs.LineForms.{first_of, wanted_form}
 use Rattle.explanations.specs.Misplaced.{end_words, place_words}
 use Rattle.explanations.specs.PassedLimits.{limit_of}
@@ -26,6 +27,16 @@ stay_words culprit line =
     (if is_end culprit then codes "write at least one process"
     else codes "write a number up to 1000000000")
 
+-- how what the second word of a line says is written here, where it is one of another language
+abbrev pub second_idiom : List (List ℕ) → Option (List ℕ)
+second_idiom [] = None
+second_idiom (first ∷ []) = None
+second_idiom (first ∷ second ∷ more) = idiom_of second
+
+-- what to change in a check line that asks for no property that there is
+abbrev pub check_advice : List (List ℕ) → List ℕ
+check_advice line = unwrap_or (second_idiom line) (wanted_form line)
+
 -- what to change in a line with this fault, where this is at fault and this block is open
 abbrev pub fault_advice : LineFault → TextCulprit → List (List ℕ) → Option Opened → List ℕ
 fault_advice fault.NotPrintable culprit line opened =
@@ -37,7 +48,7 @@ fault_advice fault.NoForm culprit line opened = wanted_form line
 fault_advice fault.Misplaced culprit line opened = move_words culprit (first_of line) opened
 fault_advice fault.PastLimit culprit line opened = stay_words culprit line
 fault_advice fault.NoRegisters culprit line opened = codes "begin with a line registers NUMBER"
-fault_advice fault.NoClause culprit line opened = wanted_form line
+fault_advice fault.NoClause culprit line opened = check_advice line
 
 -- the same where the line is refused so
 abbrev pub advice_words : LineRefusal → TextCulprit → List (List ℕ) → Option Opened → List ℕ

@@ -1,5 +1,6 @@
 -- The words at fault of lines, and what is told of them.
 use Rattle.std.specs.Prelude.{◌≡◌, ℕ, List, [], ◌∷◌, ◌++◌, Option, Some, None, map, refl, codes, decimal}
+use Rattle.explanations.specs.Advice.{check_advice}
 use Rattle.explanations.specs.ClauseForms.{clauses_listed}
 use Rattle.explanations.specs.Hints.{hint_of}
 use Rattle.explanations.specs.LineForms.{first_of, form_of, wanted_form}
@@ -74,6 +75,16 @@ pub hints_of_lines :
     map (λ (it : List ℕ × List ℕ). hint_of (words it.0)) hinted
     ≡ map (λ (it : List ℕ × List ℕ). it.1) hinted
 hints_of_lines = refl
+
+-- a property of which it is known how it is asked for, and one that nobody knows
+pub of_deadlocks :
+    check_advice (words (codes "check deadlock"))
+    ≡ codes "docs/PROGRESS.md tells how deadlocks are asked for"
+of_deadlocks = refl
+
+pub of_nothing_known :
+    check_advice (words (codes "check fairness")) ≡ wanted_form (words (codes "check fairness"))
+of_nothing_known = refl
 
 pub far_from_all : nearest (codes "hlat") ≡ None
 far_from_all = refl

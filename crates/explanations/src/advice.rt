@@ -1,18 +1,20 @@
 //! What to change in a refused line.
 
-ghost use Rattle.std.specs.Prelude.{◌≡◌};
+ghost use Rattle.std.specs.Prelude.{◌≡◌, option_copied};
 ghost use Rattle.explanations.specs.Advice as spec;
+ghost use Rattle.explanations.specs.Wording.{told_text};
 ghost use Rattle.explanations.specs.Misplaced.{place_text};
 ghost use Rattle.reglines.specs.Lines.{words};
 
 use crate::hints::hint_of;
+use crate::idioms::idiom_of;
 use crate::line_forms::{first_of, form_of};
 use crate::misplaced::{MisplacedLine, end_place, place_of};
 use crate::open_blocks::Opened;
 use crate::passed_limits::limit_of;
 use crate::wording::{Change, TextCulprit};
 use reglang::LineRefusal;
-use reglines::{LineFault, Word};
+use reglines::{LineFault, Word, split_word};
 use std::io::Write;
 use texts::{Block, Text, WriteFault};
 
@@ -38,6 +40,25 @@ fn stay_words(culprit: TextCulprit, line: &[u8]) -> &'static str
         return "write at least one process";
     }
     "write a number up to 1000000000"
+}
+
+/// How what the second word of a line says is written here, where it is one of another language.
+fn second_idiom(line: &[u8]) -> Option<&'static str>
+    ensures { option_copied result ≡ spec.second_idiom (words line.now) }
+{
+    let (_, rest) = split_word(line)?;
+    let (word, _) = split_word(rest)?;
+    idiom_of(word)
+}
+
+/// What to change in a check line that asks for no property that there is.
+fn check_change(line: &[u8]) -> Change
+    ensures { told_text result ≡ spec.check_advice (words line.now) }
+{
+    match second_idiom(line) {
+        Some(here) => Change::Words(here),
+        None => Change::Form(form_of(line)),
+    }
 }
 
 /// What to change in a line that is refused so, where this is at fault and this block is open.
@@ -73,7 +94,8 @@ impl Advice<'_> {
             LineFault::NoNumber => Change::Words(
                 "write a number with digits alone, and without a 0 before others",
             ),
-            LineFault::NoForm | LineFault::NoClause => Change::Form(form_of(line)),
+            LineFault::NoForm => Change::Form(form_of(line)),
+            LineFault::NoClause => check_change(line),
             LineFault::Misplaced => {
                 Change::Move(move_of(self.culprit, first_of(line), self.opened))
             }

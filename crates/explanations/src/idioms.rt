@@ -26,17 +26,31 @@ const LOOP: &str =
     "write repeat with as many turns as may be needed, and an if in it: further turns do nothing";
 
 const AWAIT: &str =
-    "write repeat with some turns, in which the register is read, and an if with the rest of the process and halt";
+    "write repeat with some turns, in which the register is read, and an if with the rest of the process and halt (docs/LANGUAGE.md)";
 
 const BREAK: &str =
     "write an if in the repeat, so that further turns do nothing; halt ends the whole process";
+
+const JUMP: &str = "there are no jumps: write repeat and if; halt ends the whole process";
+
+const CHOICE: &str = "the schedules choose: read a register that a further process writes";
+
+const ASSERTION: &str =
+    "write if with what must hold, and write 64 0 below its else: a process at fault fails each check at once";
+
+const BOTH: &str = "there is none: a step reads or writes, and does not do both";
 
 const RETURN: &str = "write emit for each number, and then halt";
 
 const DECLARATION: &str = "leave it out: the variables v0 to v15 are there from the start";
 
+const START: &str =
+    "registers, variables and cells are 0 at first; for another value of a variable begin with set, as in set v0 5";
+
+const ONE_STEP: &str = "leave it out: each read, write and scan is one step";
+
 /// Words of other languages, each with how what it says is written here.
-const IDIOMS: [(&[u8], &str); 46] = [
+const IDIOMS: [(&[u8], &str); 61] = [
     (b">", "write B < A for A > B"),
     (
         b"<=",
@@ -80,16 +94,40 @@ const IDIOMS: [(&[u8], &str); 46] = [
     (b"wait", AWAIT),
     (b"break", BREAK),
     (b"continue", BREAK),
+    (b"goto", JUMP),
+    (b"either", CHOICE),
+    (b"choose", CHOICE),
+    (b"cas", BOTH),
+    (b"swap", BOTH),
+    (b"faa", BOTH),
+    (b"skip", "leave it out: a block may be empty"),
+    (b"atomic", ONE_STEP),
     (b"return", RETURN),
     (b"exit", RETURN),
     (b"print", "write emit"),
-    (
-        b"assert",
-        "write a check line behind the processes, which tells what every outcome is to have",
-    ),
+    (b"assert", ASSERTION),
     (b"let", DECLARATION),
     (b"var", DECLARATION),
     (b"int", DECLARATION),
+    (b"local", DECLARATION),
+    (b"const", "leave it out, and write the number itself"),
+    (b"init", START),
+    (
+        b"deadlock",
+        "docs/PROGRESS.md tells how deadlocks are asked for",
+    ),
+    (
+        b"mutex",
+        "docs/RECIPES.md tells how mutual exclusion is asked for",
+    ),
+    (
+        b"linearizable",
+        "docs/LINEARIZABLE.md tells how that is asked, by a script",
+    ),
+    (
+        b"never",
+        "write check atmost with this number and 0, as in check atmost 99 0",
+    ),
     (b"{", "leave it out"),
     (b"}", "write end, fi or done"),
 ];
