@@ -15,9 +15,7 @@ use explorer::{Effort, Gate, Job, least_failing, run_check};
 use machine::Machine;
 use std::sync::Wait;
 use std::thread::Threads;
-use verdict::{
-    Demands, Strictness, Verdict, breach_for, programs_of, verdict_on, without_ended,
-};
+use verdict::{Demands, Strictness, Verdict, breach_for, programs_of, verdict_on, without_ended};
 
 /// What a check finds first of all schedules, as the last list of machines shows.
 // In a frame of its own, which other orders do not touch: a verdict takes some 40 KB
