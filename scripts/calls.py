@@ -10,10 +10,10 @@ TOP = Path(__file__).resolve().parent.parent
 
 
 @lru_cache(maxsize=None)
-def chosen_program(is_proved: bool) -> str:
+def chosen_program(must_be_proved: bool) -> str:
     """The path of the program that `./regtry --which` chooses, and makes where need be: one that is proved
     where that is asked for. Where there is none that has said why, and the script ends with its status."""
-    words = [str(TOP / "regtry"), "--which", *["--proved"] * is_proved]
+    words = [str(TOP / "regtry"), "--which", *["--proved"] * must_be_proved]
     asked = run(words, stdin=DEVNULL, stdout=PIPE, text=True)
     if asked.returncode:
         sys.exit(asked.returncode)
