@@ -29,5 +29,6 @@ ifdef(`LAST_SUM', `  read v1 SUM
 ')dnl
 ends(v1)
 end
-# expect: holds
+ifdef(`LAST_SUM', `# expect: fails judge', `# expect: holds')
 # with: --length 26
+# judge: examples/linearizable counter 'inc inc' inc r

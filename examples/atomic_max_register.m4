@@ -46,5 +46,6 @@ deeper(begins(3))
 deeper(ends(v1))
   done
 end
-# expect: holds
+ifdef(`NO_LOOK', `# expect: fails judge', `# expect: holds')
 # with: --length 16
+# judge: examples/linearizable max-register w3 w1 'r r'

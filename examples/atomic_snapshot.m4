@@ -36,5 +36,6 @@ $1  # never: one move is enough
 ')')dnl
 processes(0, 1, `atomic_snapshot_updater.m4')dnl
 processes(2, 2, `atomic_snapshot_scanner.m4')dnl
-# expect: holds
+ifdef(`ONE_MOVE', `# expect: fails judge', `# expect: holds')
 # with: --length 28
+# judge: examples/linearizable snapshot 'w1 w2' w1 scan

@@ -1,14 +1,13 @@
 """The program, asked about texts."""
 
-import os
 import subprocess
 import sys
 import threading
 from dataclasses import dataclass
-from pathlib import Path
 from typing import Dict, List, NamedTuple, Optional
 
-PROGRAM = os.environ.get("REGTRY") or str(Path(__file__).resolve().parents[2] / "regtry")
+from calls import call
+
 REFUSED, COULD_NOT = 2, 3
 BOUNDS = {"--length": "64", "--crashes": "0"}
 
@@ -21,16 +20,6 @@ class Failure(Exception):
         self.status = status
 
 
-def prepare() -> None:
-    """Has ./regtry build the program, where it is not there yet: that is no call that may take too long."""
-    try:
-        status = subprocess.run([PROGRAM, "--version"], stdout=subprocess.DEVNULL).returncode
-    except OSError as error:
-        raise Failure(f"{PROGRAM}: {error.strerror}", COULD_NOT) from error
-    if status:
-        raise Failure(f"{PROGRAM} --version ended with status {status}", COULD_NOT)
-
-
 class Answer(NamedTuple):
     """Whether no schedule fails, and what is said of it."""
 
@@ -39,10 +28,10 @@ class Answer(NamedTuple):
 
 
 class Calls:
-    """The calls of the program: so many at once, each for so many seconds. A terminal is told how many."""
+    """The calls of a program: so many at once, each for so many seconds. A terminal is told how many."""
 
-    def __init__(self, jobs: int, limit: float):
-        self.seats, self.limit, self.count = threading.Semaphore(jobs), limit, 0
+    def __init__(self, program: str, jobs: int, limit: float):
+        self.program, self.seats, self.limit, self.count = program, threading.Semaphore(jobs), limit, 0
 
     def run(self, words: List[str], text: str) -> "Optional[subprocess.CompletedProcess[str]]":
         """A call of the program with this standard input; nothing where it takes longer than it may."""
@@ -51,9 +40,7 @@ class Calls:
             if sys.stderr.isatty():
                 sys.stderr.write(f"\rdoubt: {self.count} checks")
             try:
-                return subprocess.run(
-                    [PROGRAM, *words], input=text, capture_output=True, text=True, timeout=self.limit
-                )
+                return call([self.program, *words], text, self.limit)
             except subprocess.TimeoutExpired:
                 return None
 

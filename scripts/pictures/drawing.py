@@ -65,7 +65,7 @@ def page(run, lead=""):
     return filled("page.html", lead=lead, run=data, script=script, **parts)
 
 
-def write_gallery(folder, program):
+def write_gallery(folder, choose):
     """Writes a page for each example that fails, the list of them, and one of the pictures."""
     gallery, links = folder.resolve() / "gallery", []
     gallery.mkdir(parents=True, exist_ok=True)
@@ -74,7 +74,7 @@ def write_gallery(folder, program):
         told = re.sub("`(.*?)`", r"<code>\1</code>", escape(told[0].upper() + told[1:] + "."))
         for name in re.findall(r"`(\w+)\.reg`", names):
             if found := FAILING.search(Path(f"examples/{name}.report").read_text()):
-                run = run_of_text(ask(1, program, "check", found[1], *found[2].split()), program)
+                run = run_of_text(ask(1, choose, "check", found[1], *found[2].split()), choose)
                 back = f'<p><a href="index.html">Schedules that fail</a></p>\n<p>{told}</p>'
                 (gallery / f"{name}.html").write_text(page(run, back))
                 links.append(f'<li><a href="{name}.html">{name}</a>: {told}</li>')

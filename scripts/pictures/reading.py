@@ -2,8 +2,11 @@
 
 import re
 import shlex
-import subprocess
+import sys
 from pathlib import Path
+from typing import Callable
+
+from calls import call
 
 HEAD = re.compile(r"(?m)^step  (?:line  )?process 0\b.*$")
 # What a step does: its word, its register, and a value, or of a scan the last register or how many they are.
@@ -102,17 +105,20 @@ class Run:
         self.label = f"{self.name}: {self.schedule}" + f". {self.caption}" * bool(claim)
 
 
-def ask(status, *words):
-    """What a command prints that is to end with this status. Why it does not it says itself."""
-    ran = subprocess.run(words, stdin=subprocess.DEVNULL, stdout=subprocess.PIPE, text=True)
+def ask(status: int, choose: Callable[[], str], *words: str) -> str:
+    """What the program that is chosen prints, which is to end with this status. Why it does not it says
+    itself."""
+    command = [choose(), *words]
+    ran = call(command)
+    sys.stderr.write(ran.stderr)
     if ran.returncode != status:
-        raise Refused(f"{shlex.join(words)}: it ends with status {ran.returncode}")
+        raise Refused(f"{shlex.join(command)}: it ends with status {ran.returncode}")
     return ran.stdout
 
 
-def run_of_text(text, program):
-    """The run that `check`, `find` or `show` draws. Registers that are left out are asked for, but of
-    `show`, which does not name its source."""
+def run_of_text(text: str, choose: Callable[[], str]) -> Run:
+    """The run that `check`, `find` or `show` draws. Registers that are left out are asked for, of the program
+    that is chosen, but not of `show`, which does not name its source."""
     first, count, drawing = text.strip().partition("\n")[0], len(HEAD.findall(text)), text
     if not count:
         why = next(it for begin, it in NO_DRAWING.items() if re.match(begin, first))
@@ -125,5 +131,5 @@ def run_of_text(text, program):
     except ValueError as error:
         raise Refused(f"that is no command that draws: {show[0]}") from error
     if file != "-" and "\nleft out: " in text:
-        drawing = ask(0, program, "show", "--all", "--", file, schedule)
+        drawing = ask(0, choose, "show", "--all", "--", file, schedule)
     return Run(drawing, file, text)
