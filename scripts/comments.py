@@ -23,6 +23,8 @@ def told_in(text: str) -> Told:
     twice = [name for name in words if names.count(name) > 1]
     if twice:
         raise ValueError(f"'# {twice[0]}:' stands there twice")
+    if words.get("judge") == "":
+        raise ValueError("'# judge:' names no script")
     return Told(words.get("expect", ""), split("with", words), split("judge", words))
 
 
