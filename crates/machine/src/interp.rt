@@ -43,7 +43,8 @@ impl Interp {
     ghost use Rattle.machine.specs.Interps.{WentPast, state_of};
 
     /// An interpreter of this program, at its start. An error comes where memory for the kept
-    /// states or for its table is refused, and the program is dropped then. No later call takes memory.
+    /// states or for its table is refused, and the program is dropped then. No later call takes
+    /// memory.
     pub fn make(alloc: Global, prog: Prog) -> Result<Interp, OutOfMemory>
         ensures same { IfOk result
             (λ m. (⟦<Interp as Machine>⟧.means m).program ≡ program_of prog) }

@@ -57,8 +57,8 @@ impl<const N: usize> Row<N> {
         }
     }
 
-    /// The values whose numbers are in a set, in which the first one has this number, and 0 in place
-    /// of each other one.
+    /// The values whose numbers are in a set, in which the first one has this number, and 0 in
+    /// place of each other one.
     pub(crate) fn kept(&self, live: NumberSet, first: u8) -> Row<N>
         requires { first + N ≤ 64 }
         ensures long { length (values_of result) ≡ length (values_of self.now) }
