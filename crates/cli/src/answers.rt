@@ -21,14 +21,21 @@ use crate::listings::listed;
 use crate::machines::Run;
 use crate::outputs::{Output, tell_unwritten};
 use crate::progress::{Meter, Progress};
+use drawing::first_misnamed;
 use explanations::write_explanation;
 use orders::{FileFault, Question, Readable, Reason, Refusal, Task, refuse};
 use reglang::{Spelling, read_text};
+use regmodel::limits::MOST_REGISTERS;
 use std::alloc::Global;
 use std::io::Write;
 use std::sync::Wait;
 use std::thread::Threads;
 use verdict::Topic;
+
+/// Why a word in a comment is no name of a register.
+const NO_NAME: &str =
+    "a name is one word of at most 16 characters, is no number, with r or without, \
+    and is given to one register";
 
 /// Does what is asked of the source in the file, and writes what it found. The status is 0 where
 /// that is done, but 1 where it tells of a schedule that fails or was looked for, unless it is of a
@@ -134,7 +141,22 @@ fn written<H: Threads + Wait + Sync, R: Readable, W: Output, E: Write + Send>(
         breadth: question.breadth,
     };
     tell_finding(topic, &finding, out)?;
+    note_misnamed(question, text.as_slice(), err);
     Ok(finding.fails())
+}
+
+/// Where refusals are told in words, says which register a comment of the text names in vain, the
+/// first one, as far as that can be written.
+fn note_misnamed<E: Write>(question: &Question<'_>, text: &[u8], err: &mut E) {
+    let Some(path) = question.subject() else {
+        return;
+    };
+    if let Some(register) = first_misnamed(text, MOST_REGISTERS as usize) {
+        let _ = writeln!(
+            err,
+            "{path}: register {register} goes by its number: {NO_NAME}"
+        );
+    }
 }
 
 /// What is found of a text. Where that is asked for, `err` is told meanwhile how far it has come.

@@ -1,4 +1,5 @@
 mod JoinedTexts
+mod KeptNames
 mod KeptNumbers
 mod DueSpaces
 mod RowFacts

@@ -138,6 +138,13 @@ pub turn_is_named : register_names
 unfolding digits
 turn_is_named = refl
 
+-- a number is no name, nor is one that a register has
+pub names_tell_apart : register_names
+    (codes "# register 0: turn\n# register 1: r0\n# register 2: 0\n# register 3: turn\n") 4
+    ≡ Some (codes "turn") ∷ None ∷ None ∷ None ∷ []
+unfolding digits
+names_tell_apart = refl
+
 pub seventeen_bytes_are_no_name :
     name_in (codes "0:") (codes "# register 0: seventeen_letters") ≡ None
 seventeen_bytes_are_no_name = refl

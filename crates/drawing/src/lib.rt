@@ -17,5 +17,6 @@ mod writing;
 
 pub use deeds::draw;
 pub use drawings::{Deed, Drawing, LetterRow, RegisterValue};
+pub use names::first_misnamed;
 pub use statement_lines::statement_line;
 pub use writing::Drawn;
