@@ -5,10 +5,14 @@ import re
 from places import IMPORT, TOP, WORD, crates, shown
 
 USED = re.compile(r"^(?:pub )?use Rattle\.(\w+)\.specs\.([\w.]+?)(?:\.\{| as |$)", re.MULTILINE)
-# The clause of `explore`, and how much of definitions it may stand on.
-HEADLINE = TOP / "crates" / "cli" / "src" / "answers.rt", re.compile(
-    r"ensures explored \{(.*?)\n    ensures", re.DOTALL
-)
+# The clause of `explore`; and those by which all parts, merged, are the whole.
+EXPLORED = [("cli/src/answers.rt", r"ensures explored \{.*?\n    ensures")]
+MERGED = [
+    ("cli/src/merges.rt", r"ensures \{ IsMergePerformed.*?\n\{"),
+    ("part_laws/src/laws.rt", r"pub fn merged_parts_are_the_whole.*?\n\{"),
+]
+CONSTANTS = re.compile(r"^use Rattle\.\w+\.specs\.declared\.[\w.]+\.TheConstants\.\{(.*?)\}", re.MULTILINE)
+# How much of definitions the clause of `explore` may stand on.
 MOST_FILES = 35
 MOST_LINES = 1700
 
@@ -35,17 +39,24 @@ def imported(files, own):
     return found
 
 
+def cited(path, clause):
+    """The files of definitions that a clause of a source names, each name by itself or behind the name of its file."""
+    text, own = (TOP / "crates" / path).read_text(), crates()
+    words = set(WORD.findall(re.search(clause, text, re.DOTALL)[0]))
+    words |= {word.partition(".")[0] for word in words}
+    for crate, module, listed, name in IMPORT.findall(text):
+        if is_written(crate, module, own) and words & {name, *(it.strip() for it in listed.split(","))}:
+            yield specs_file(crate, module)
+
+
+def closure(clauses):
+    """The files on which clauses stand."""
+    return imported([file for path, clause in clauses for file in cited(path, clause)], crates())
+
+
 def core():
     """The files on which the headline stands."""
-    source, clause = HEADLINE
-    text, own = source.read_text(), crates()
-    named = set(WORD.findall(clause.search(text)[1]))
-    cited = [
-        (crate, module)
-        for crate, module, listed, _ in IMPORT.findall(text)
-        if named & {name.strip() for name in listed.split(",")}
-    ]
-    return imported([specs_file(*of) for of in cited if is_written(*of, own)], own)
+    return closure(EXPLORED)
 
 
 def line_count(path):
@@ -75,11 +86,26 @@ def unread():
         yield f"{shown(page)}: the headline stands on {shown(path)}, too, which the first table does not list"
     for path in sorted(listed - files):
         yield f"{shown(page)}: the first table lists {shown(path)}, on which the headline does not stand"
+    whole = closure(EXPLORED + MERGED)
     for told in (page, TOP / "README.md"):
         if size_of(files) not in told.read_text():
             yield f"{shown(told)}: the headline stands on {size_of(files)}"
+        if size_of(whole) not in told.read_text():
+            yield f"{shown(told)}: what it says of parts stands on {size_of(whole)}"
     if len(files) > MOST_FILES or sum(map(line_count, files)) > MOST_LINES:
         yield f"the headline stands on {size_of(files)}, more than {MOST_FILES} files or {MOST_LINES} lines"
+
+
+def unlisted():
+    """Where docs/DEFINITIONS.md lists other constants than those that the files of the headline take from the code."""
+    page = TOP / "docs" / "DEFINITIONS.md"
+    _, _, section = page.read_text().partition("\n### Constants to read as well\n")
+    listed = set(re.findall(r"`([A-Z_]+)`", section.partition("\n### ")[0]))
+    taken = {name.strip() for path in core() for names in CONSTANTS.findall(path.read_text()) for name in names.split(",")}
+    for name in sorted(taken - listed):
+        yield f"{shown(page)}: the headline takes {name} from the code, which no table lists"
+    for name in sorted(listed - taken):
+        yield f"{shown(page)}: the headline takes no {name} from the code"
 
 
 def list_files(files):
