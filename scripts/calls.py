@@ -6,7 +6,7 @@ import sys
 from functools import lru_cache
 from pathlib import Path
 from subprocess import DEVNULL, PIPE, CompletedProcess, TimeoutExpired, run
-from typing import Optional, Sequence
+from typing import Callable, Optional, Sequence
 
 TOP = Path(__file__).resolve().parent.parent
 HOLDS, FAILS, REFUSED, COULD_NOT = range(4)
@@ -64,3 +64,14 @@ def parser_of(document: str) -> argparse.ArgumentParser:
     parser.add_argument("--proved", action="store_true")
     parser.add_argument("files", nargs="+", metavar="FILE")
     return parser
+
+
+def end_with(main: Callable[[], int]) -> None:
+    """Ends with the status of a script; in silence, where who reads what it prints has gone."""
+    try:
+        status = main()
+        sys.stdout.flush()
+    except BrokenPipeError:
+        os.dup2(os.open(os.devnull, os.O_WRONLY), sys.stdout.fileno())
+        status = COULD_NOT
+    sys.exit(status)

@@ -72,7 +72,7 @@ def tried(covered: Coverage, pool: Executor) -> dict[str, Any]:
     results = [*pool.map(result_of, [changed for *_, changed in edits])]
     told = [{"line": it.place, "statement": str(it), "change": what} for it, what, _ in edits]
     broken = [found[0] for status, found in results if status == FAILS]
-    checks = [it for it in lines if it.words[0] == "check"]
+    checks = [it for it in lines if edits and it.words[0] == "check"]
     return {
         "changes": len(edits),
         "noticed": len(broken),
