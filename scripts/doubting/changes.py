@@ -9,7 +9,7 @@ from calls import FAILS, HOLDS
 from coverage import Check, Coverage
 from statements import ACCESSES, MOST_NUMBER, Line, parts
 
-OUTCOME, BROKEN = re.compile(r"(?m)^outcome .*"), re.compile(r"(?:fails|shorter one): (.*?) (?:\(|at )line ")
+OUTCOME, BROKEN = re.compile(r"(?m)^outcome .*"), re.compile(r": (check [\w ]+\w|process \d is at fault)")
 REGISTERS = {"read": 2, "write": 1, "scan": 2}
 Edit = tuple[str, list[Line]]  # What is changed, and the lines then.
 
@@ -72,13 +72,13 @@ def tried(covered: Coverage, pool: Executor) -> dict[str, Any]:
     results = [*pool.map(result_of, [changed for *_, changed in edits])]
     told = [{"line": it.place, "statement": str(it), "change": what} for it, what, _ in edits]
     broken = [found[0] for status, found in results if status == FAILS]
-    checks = [it for it in lines if edits and it.words[0] == "check"]
+    checks = [it for it in lines if it.words[0] == "check"]
     return {
         "changes": len(edits),
         "noticed": len(broken),
         "faults": sum(it.startswith("process") for it in broken),
         "checks": [{"line": it.place, "statement": str(it), "first": broken.count(str(it))} for it in checks],
-        "unbroken": [it.place for it in checks if str(it) not in broken],
+        "unbroken": [it.place for it in checks if edits and str(it) not in broken],
         "unnoticed": [{**it, "same": came == own} for it, came in zip(told, results) if came[0] == HOLDS],
         "unfinished": [it for it, came in zip(told, results) if came[0] > FAILS],
     }
