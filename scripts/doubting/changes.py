@@ -30,12 +30,12 @@ def turned_round(lines: list[Line], at: int) -> Iterator[Edit]:
 def renumbered(lines: list[Line], at: int) -> Iterator[Edit]:
     """A number that is written or compared one more, the next register, or a `repeat` a turn shorter."""
     words, registers = lines[at].words, int(lines[0].words[1])
-    is_compared = words[0] == "write" or "=" in words or "<" in words
+    is_raised = words[0] == "write" or "=" in words or "<" in words
     for place in (it for it in range(1, len(words)) if words[it].isdecimal()):
         number = int(words[place])
         if place == REGISTERS.get(words[0]):
             number = (number + 1) % (registers + 1 - (int(words[3]) if words[0] == "scan" else 1))
-        elif is_compared:
+        elif is_raised:
             number = min(number + 1, MOST_NUMBER)
         elif words[0] == "repeat" and len(words) == 2 and number > 1:
             number -= 1
