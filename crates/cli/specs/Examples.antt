@@ -1,16 +1,19 @@
 -- Worked examples.
 use lib.Count.{ones}
-use Rattle.std.specs.Prelude.{◌≡◌, ℕ, Bool, true, false, List, [], ◌∷◌, codes, map, refl}
+use Rattle.std.specs.Prelude.{◌≡◌, ℕ, Bool, true, false, List, [], ◌∷◌, ◌++◌, codes, map, refl}
 use Rattle.std.specs.Fmt.{digits}
 use Rattle.regmodel.specs.declared.accesses.Access.TheVariants.{Read}
 use Rattle.regmodel.specs.declared.accesses.Pending.{Pending}
 use Rattle.regmodel.specs.declared.accesses.Pending.TheVariants.{Fault, Wants}
 use Rattle.regmodel.specs.Program.{Stop}
+use Rattle.regmodel.specs.declared.schedules.Letter.TheVariants.{Crash, Run}
 use Rattle.uses.specs.declared.kinds.Use.TheVariants as kind
 use Rattle.reglang.specs.Contents.{Contents, Kind, Text}
 use Rattle.cli.specs.FileCounts.{counts_text, no_counts, with_one_more}
+use Rattle.cli.specs.FirstLetters.{no_letters, place_of, with_first, with_parts, without_one}
 use Rattle.cli.specs.Progress.{is_round, length_line, progress_text}
 use Rattle.cli.specs.Understanding.{resumed_in}
+use Rattle.cli.specs.declared.first_letters.FirstLetters.{FirstLetters}
 
 -- ---- the line that tells of several files
 pub three_files : counts_text (with_one_more (with_one_more (with_one_more no_counts 0) 1) 0)
@@ -29,13 +32,28 @@ pub rounds : map is_round (20 ∷ 96 ∷ 9 ∷ 0 ∷ []) ≡ true ∷ true ∷ f
 unfolding ones
 rounds = refl
 
-pub six_taken : progress_text 6 5 ≡ codes "regtry: 6 pieces taken of 6 known so far\n"
-unfolding digits ones
-six_taken = refl
+-- the runs of three processes are first letters, and the run is through with that of process 1
+abbrev pub three_letters : FirstLetters
+three_letters = without_one (with_first (with_first (with_first no_letters 0) 1) 2) 1
 
-pub nothing_at_eleven : progress_text 11 20 ≡ []
+pub six_done :
+    progress_text (record { done = 6; known = 7; schedules = 40; letters = three_letters })
+    ≡ codes "regtry: done are 6 of 7 pieces known so far and 1 of 3 first letters; "
+    ++ codes "40 schedules counted\n"
+unfolding digits ones
+six_done = refl
+
+pub nothing_at_eleven :
+    progress_text (record { done = 11; known = 20; schedules = 40; letters = three_letters }) ≡ []
 unfolding ones
 nothing_at_eleven = refl
+
+-- a piece that is split into two, of which one is done
+pub not_through : (without_one (without_one (with_parts three_letters 0 2) 0) 0).through ≡ 1
+not_through = refl
+
+pub crash_of_the_second : place_of (Crash 1 ∷ Run 0 ∷ []) ≡ 9
+crash_of_the_second = refl
 
 pub twelve_letters : length_line 12 ≡ codes "regtry: length 12\n"
 unfolding digits

@@ -5,6 +5,7 @@ pub mod Examples
 pub mod FileCounts
 pub mod FindingText
 pub mod Findings
+pub mod FirstLetters
 pub mod Leasts
 pub mod Lengths
 pub mod Merges

@@ -9,6 +9,7 @@ mod cut_offs;
 mod explorations;
 mod faults;
 mod findings;
+mod first_letters;
 mod listings;
 mod machines;
 mod merges;

@@ -6,10 +6,11 @@ use Rattle.explanations.specs.Hints.{hint_of}
 use Rattle.explanations.specs.LineForms.{first_of, form_of, wanted_form}
 use Rattle.explanations.specs.Misfits.{word_at_fault}
 use Rattle.explanations.specs.Misplaced.{place_words}
+use Rattle.explanations.specs.NamedRegisters.{first_named}
 use Rattle.explanations.specs.Nearest.{nearest}
 use Rattle.explanations.specs.OpenBlocks.{innermost, open_after}
 use Rattle.explanations.specs.declared.open_blocks.BlockKind.TheVariants as block
-use Rattle.reglines.specs.Lines.{words}
+use Rattle.reglines.specs.Lines.{lines, words}
 use Rattle.reglines.specs.declared.faults.LineFault.{LineFault}
 use Rattle.reglines.specs.declared.faults.LineFault.TheVariants as fault
 use Rattle.reglang.specs.declared.refusals.LineRefusal.TheVariants.{Fault}
@@ -65,6 +66,20 @@ hinted =
     )
     ∷ (codes "emit v[0]", codes "a cell is [0] to [31], or [v0] to [v15], and has no name before it")
     ∷ (codes "//turns", codes "write the comment on a line of its own that begins with #")
+    -- of a sum in an index, of parentheses, and of what a process does not know
+    ∷ (
+      codes "read v0 [v1 + 1]",
+      codes "there is no sum in an index: set a variable to it first, as in set v0 v1 + 1, and write [v0]",
+    )
+    ∷ (
+      codes "set v0 (v1+1)",
+      codes "there are no parentheses and no functions: set each part first, as in set v0 v1 + 1",
+    )
+    ∷ (
+      codes "write me 1",
+      codes "a process has no word for its own number: write that out in each one; "
+          ++ codes "m4 makes such copies (docs/RECIPES.md)",
+    )
     -- of a first word that is nearly one
     ∷ (codes "wirte 0 1", codes "did you mean write?")
     ∷ (codes "Process", codes "did you mean process?")
@@ -79,12 +94,23 @@ hints_of_lines = refl
 -- a property of which it is known how it is asked for, and one that nobody knows
 pub of_deadlocks :
     check_advice (words (codes "check deadlock"))
-    ≡ codes "docs/PROGRESS.md tells how deadlocks are asked for"
+    ≡ codes "docs/PROGRESS.md tells under Deadlock how that is asked for"
 of_deadlocks = refl
 
 pub of_nothing_known :
     check_advice (words (codes "check fairness")) ≡ wanted_form (words (codes "check fairness"))
 of_nothing_known = refl
+
+-- the second register that the comments name, which no line names again
+pub turn_is_the_third :
+    first_named (codes "turn") (lines (codes "# register 0: flag\n# register 2: turn\nregisters 3\n# register 1: turn\n"))
+    ≡ Some 2
+turn_is_the_third = refl
+
+pub flag_is_no_register :
+    first_named (codes "flag") (lines (codes "# register 0: the flag\n# register x: flag\n# registers 0: flag\n"))
+    ≡ None
+flag_is_no_register = refl
 
 pub far_from_all : nearest (codes "hlat") ≡ None
 far_from_all = refl

@@ -2,6 +2,7 @@
 use Rattle.std.specs.Prelude.{ℕ, ◌+◌, ◌-◌, not, if◌then◌else◌, List, [], ◌++◌, Option, Some, None, codes, decimal, is_some, option_map, slice_index}
 use Rattle.std.specs.List.{position}
 use Rattle.explanations.specs.Advice.{advice_text}
+use Rattle.explanations.specs.NamedRegisters.{first_named}
 use Rattle.explanations.specs.OpenBlocks.{innermost, open_after}
 use Rattle.explanations.specs.Origins.{line_told, path_told}
 use Rattle.explanations.specs.Wording.{wrong_text}
@@ -10,6 +11,7 @@ use Rattle.explanations.specs.Misfits.{word_at_fault}
 use Rattle.explanations.specs.declared.wording.TextCulprit.{TextCulprit}
 use Rattle.explanations.specs.declared.wording.TextCulprit.TheVariants.{End, Line, Word}
 use Rattle.reglang.specs.Checks.{line_at}
+use Rattle.reglines.specs.Lines.{lines}
 use Rattle.reglines.specs.declared.faults.LineFault.TheVariants as fault
 use Rattle.reglang.specs.declared.refusals.LineRefusal.{LineRefusal}
 use Rattle.reglang.specs.declared.refusals.LineRefusal.TheVariants.{Fault}
@@ -60,11 +62,11 @@ heading path number rejection line =
     path ++ codes ":" ++ decimal number ++ codes ": " ++ fault_text rejection line ++ codes "\n"
 
 -- what is wrong with the text at this line, which is the one with this number in this file, the
--- line, and what to change where this block is open
-abbrev pub line_explained : List ℕ → ℕ → Rejection → List ℕ → Option Opened → List ℕ
-line_explained path number rejection line opened =
+-- line, and what to change where this block is open and this register's name is at fault
+abbrev pub line_explained : List ℕ → ℕ → Rejection → List ℕ → Option Opened → Option ℕ → List ℕ
+line_explained path number rejection line opened named =
     heading path number rejection line ++ printable_text line ++ codes "\n"
-    ++ advice_text rejection.refusal (culprit_of rejection line) line opened ++ codes "\n"
+    ++ advice_text rejection.refusal (culprit_of rejection line) line opened named ++ codes "\n"
 
 -- how many lines stand before the fault: all where the end of the text is at fault
 abbrev pub lines_before : Rejection → ℕ
@@ -81,9 +83,19 @@ block_told text (Some opened) =
     })
 block_told text None = None
 
+-- the register of which this word is the name, as a comment of a text tells
+abbrev pub register_called : List ℕ → Option (List ℕ) → Option ℕ
+register_called text (Some word) = first_named word (lines text)
+register_called text None = None
+
+-- the register whose name the word at fault of a line is, where the comments of the text tell one
+abbrev pub register_at_fault : List ℕ → LineRefusal → List ℕ → Option ℕ
+register_at_fault text refusal line = register_called text (word_at_fault refusal line)
+
 -- what is wrong with a text that is refused, in the file of this path
 abbrev pub explained : List ℕ → List ℕ → Rejection → List ℕ
 explained path text rejection =
     line_explained (path_told path text rejection.line) (line_told text rejection.line) rejection
     (shown (line_at rejection.line text))
     (block_told text (innermost (open_after (lines_before rejection) text)))
+    (register_at_fault text rejection.refusal (shown (line_at rejection.line text)))

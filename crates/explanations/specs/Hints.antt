@@ -1,14 +1,15 @@
 -- What to write in place of an unknown word.
-use Rattle.std.specs.Prelude.{ℕ, ◌==◌, ◌||◌, ◌&&◌, Bool, true, false, if◌then◌else◌, List, [], ◌∷◌, ◌++◌, Option, Some, None, codes, is_some}
+use Rattle.std.specs.Prelude.{ℕ, ◌==◌, ◌||◌, ◌&&◌, not, Bool, true, false, if◌then◌else◌, List, [], ◌∷◌, ◌++◌, Option, Some, None, codes, is_some}
 use Rattle.std.specs.List.{list_any}
 use Rattle.std.specs.Option.{unwrap_or}
+use Rattle.std.specs.Str.{byte}
 use Rattle.explanations.specs.Idioms.{idiom_of}
 use Rattle.explanations.specs.LineForms.{first_of, keyword_form, own_line_text, wanted_form}
 use Rattle.explanations.specs.Misfits.{first_that, is_unknown}
 use Rattle.explanations.specs.Nearest.{meant_text, nearest}
 use Rattle.reglines.specs.Forms.{target_of}
 use Rattle.reglines.specs.Sorts.{sorts_after}
-use Rattle.reglines.specs.Words.{first_byte_is, word_of}
+use Rattle.reglines.specs.Words.{first_byte_is, in_brackets, word_of}
 use Rattle.reglines.specs.declared.sorts.Sort.{Sort}
 use Rattle.reglines.specs.declared.sorts.Sort.TheVariants as sort
 use Rattle.reglines.specs.declared.vocabulary.Keyword.{Keyword}
@@ -24,6 +25,16 @@ is_operator_byte b = b == 43 || (b == 45 || (b == 42 || (b == 61 || (b == 60 || 
 abbrev pub any_word : List ℕ
 any_word =
     codes "write numbers, variables v0 to v15, cells [0] to [31] or [v0] to [v15], and operators + - * = < behind the first word"
+
+-- of a word with a parenthesis
+abbrev pub parentheses_words : List ℕ
+parentheses_words =
+    codes "there are no parentheses and no functions: set each part first, as in set v0 v1 + 1"
+
+-- of a cell whose number is made by an operator
+abbrev pub index_words : List ℕ
+index_words =
+    codes "there is no sum in an index: set a variable to it first, as in set v0 v1 + 1, and write [v0]"
 
 -- of a word that begins with this byte
 abbrev pub hint_of_start : ℕ → List ℕ
@@ -42,11 +53,32 @@ hint_with b with_operator with_bracket =
     (if with_bracket then codes "a cell is [0] to [31], or [v0] to [v15], and has no name before it"
     else hint_of_start b)))
 
+-- whether a word has this byte
+abbrev pub has_byte : ℕ → List ℕ → Bool
+has_byte byte word = list_any (λ it. it == byte) word
+
+-- whether what stands between the brackets of a cell, where it has both, has an operator; where not,
+-- whether the word begins one that it does not close
+abbrev pub is_sum_or_open : Option (List ℕ) → List ℕ → Bool
+is_sum_or_open (Some inside) word = list_any is_operator_byte inside && not (has_byte (byte "[") inside)
+is_sum_or_open None word = has_byte (byte "[") word && not (has_byte (byte "]") word)
+
+-- whether a word is a cell, with an operator between its brackets, or the beginning of one that is
+-- not closed
+abbrev pub has_sum_in_index : List ℕ → Bool
+has_sum_in_index word = is_sum_or_open (in_brackets word) word
+
+-- of a word that stands for an operand or operator, by its first byte
+abbrev pub hint_by_start : List ℕ → List ℕ
+hint_by_start [] = any_word
+hint_by_start (b ∷ bs) =
+    hint_with b (list_any is_operator_byte (b ∷ bs)) (has_byte (byte "[") (b ∷ bs))
+
 -- of a word that stands for an operand or operator, by what it is made of
 abbrev pub operand_hint : List ℕ → List ℕ
-operand_hint [] = any_word
-operand_hint (b ∷ bs) =
-    hint_with b (list_any is_operator_byte (b ∷ bs)) (list_any (λ it. it == 91) (b ∷ bs))
+operand_hint word =
+    if has_byte (byte "(") word then parentheses_words else
+    (if has_sum_in_index word then index_words else hint_by_start word)
 
 -- whether variables may stand at a place of this sort
 abbrev pub takes_variables : Sort → Bool

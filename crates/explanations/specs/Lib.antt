@@ -7,6 +7,7 @@ pub mod Idioms
 pub mod LineForms
 pub mod Misfits
 pub mod Misplaced
+pub mod NamedRegisters
 pub mod Nearest
 pub mod OpenBlocks
 pub mod Origins

@@ -2,9 +2,10 @@
 use Rattle.std.specs.Prelude.{ℕ, Bool, true, false, if◌then◌else◌, List, ◌++◌, codes}
 use Rattle.explanations.specs.LineForms.{form_text, own_line_text}
 use Rattle.explanations.specs.Misplaced.{place_text}
+use Rattle.explanations.specs.NamedRegisters.{register_text}
 use Rattle.explanations.specs.Nearest.{meant_text}
 use Rattle.explanations.specs.declared.wording.Change.{Change}
-use Rattle.explanations.specs.declared.wording.Change.TheVariants.{Words, Form, Own, Meant, Move}
+use Rattle.explanations.specs.declared.wording.Change.TheVariants.{Words, Form, Own, Meant, Move, Register}
 use Rattle.explanations.specs.declared.wording.TextCulprit.{TextCulprit}
 use Rattle.explanations.specs.declared.wording.TextCulprit.TheVariants as culprit
 use Rattle.reglines.specs.declared.faults.LineFault.{LineFault}
@@ -33,6 +34,7 @@ told_text (Words words) = words.now
 told_text (Form form) = codes "give the line its form: " ++ form_text form
 told_text (Own line) = own_line_text line.0
 told_text (Meant near) = meant_text near.0
+told_text (Register register) = register_text register.0
 told_text (Move place) = place_text place
 
 -- what is wrong with a line or an end that has this fault, where this is at fault

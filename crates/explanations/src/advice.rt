@@ -10,6 +10,7 @@ use crate::hints::hint_of;
 use crate::idioms::idiom_of;
 use crate::line_forms::{first_of, form_of};
 use crate::misplaced::{MisplacedLine, end_place, place_of};
+use crate::named_registers::NamedRegister;
 use crate::open_blocks::Opened;
 use crate::passed_limits::limit_of;
 use crate::wording::{Change, TextCulprit};
@@ -61,13 +62,26 @@ fn check_change(line: &[u8]) -> Change
     }
 }
 
-/// What to change in a line that is refused so, where this is at fault and this block is open.
+/// What to write in place of the unknown word of a line, where it is the name of this register, or
+/// of none.
+fn unknown_change(line: &[u8], named: Option<u32>) -> Change
+    ensures { told_text result ≡ spec.unknown_advice (words line.now) named }
+{
+    match named {
+        Some(register) => Change::Register(NamedRegister(register)),
+        None => hint_of(line),
+    }
+}
+
+/// What to change in a line that is refused so, where this is at fault, this block is open, and the
+/// word at fault is the name of this register.
 #[derive(Clone, Copy)]
 pub(crate) struct Advice<'a> {
     pub(crate) refusal: LineRefusal,
     pub(crate) culprit: TextCulprit,
     pub(crate) line: &'a [u8],
     pub(crate) opened: Option<Opened>,
+    pub(crate) named: Option<u32>,
 }
 
 impl Advice<'_> {
@@ -80,7 +94,7 @@ impl Advice<'_> {
     fn change(&self) -> Change
         ensures { told_text result
             ≡ spec.advice_words self.now.refusal self.now.culprit (words self.now.line.now)
-            self.now.opened }
+            self.now.opened self.now.named }
     {
         let line = self.line;
         let LineRefusal::Fault(fault) = self.refusal else {
@@ -90,7 +104,7 @@ impl Advice<'_> {
             LineFault::NotPrintable => Change::Words(
                 "use spaces, and no other bytes than those from space to ~; end each line with a line feed alone",
             ),
-            LineFault::UnknownWord => hint_of(line),
+            LineFault::UnknownWord => unknown_change(line, self.named),
             LineFault::NoNumber => Change::Words(
                 "write a number with digits alone, and without a 0 before others",
             ),
@@ -106,7 +120,7 @@ impl Advice<'_> {
 }
 
 impl Text for Advice<'_> {
-    ghost text = { λ a. spec.advice_text a.refusal a.culprit a.line.now a.opened };
+    ghost text = { λ a. spec.advice_text a.refusal a.culprit a.line.now a.opened a.named };
 
     fn put<W: Write>(&self, out: &mut W, block: &mut Block) -> Result<(), WriteFault> {
         self.change().put(out, block)

@@ -1,6 +1,6 @@
 //! What to write in place of an unknown word.
 
-ghost use Rattle.std.specs.Prelude.{◌≡◌, ◌==◌};
+ghost use Rattle.std.specs.Prelude.{◌≡◌};
 ghost use Rattle.std.specs.List.{list_any};
 ghost use Rattle.explanations.specs.Hints as spec;
 ghost use Rattle.explanations.specs.Misfits.{first_that, is_unknown};
@@ -12,7 +12,7 @@ use crate::line_forms::{OwnLine, first_of, form_of, keyword_form};
 use crate::misfits::first_unknown;
 use crate::nearest::{Meant, nearest};
 use crate::wording::Change;
-use reglines::{Keyword, Sort, Word, sorts_after, split_word, target_of, word_of};
+use reglines::{Keyword, Sort, Word, enclosed, sorts_after, split_word, target_of, word_of};
 
 /// Whether a byte stands in an operator, here or in another language.
 fn is_operator_byte(byte: u8) -> bool
@@ -31,8 +31,16 @@ fn is_operator_byte(byte: u8) -> bool
 }
 
 /// What to write in place of a word of which no more is known.
-const ANY_WORD: &str =
-    "write numbers, variables v0 to v15, cells [0] to [31] or [v0] to [v15], and operators + - * = < behind the first word";
+const ANY_WORD: &str = "write numbers, variables v0 to v15, cells [0] to [31] or [v0] to [v15], \
+    and operators + - * = < behind the first word";
+
+/// What to write in place of a word with a parenthesis.
+const PARENTHESES: &str = "there are no parentheses and no functions: set each part first, as in \
+    set v0 v1 + 1";
+
+/// What to write in place of a cell whose number is made by an operator.
+const INDEX: &str = "there is no sum in an index: set a variable to it first, as in \
+    set v0 v1 + 1, and write [v0]";
 
 /// What to write in place of a word that begins with this byte.
 fn hint_of_start(byte: u8) -> &'static str
@@ -70,20 +78,37 @@ fn has_operator(word: &[u8]) -> bool
     word.iter().any(|b| is_operator_byte(*b))
 }
 
-/// Whether a word has a bracket as a cell begins with.
-fn has_bracket(word: &[u8]) -> bool
-    ensures { result ≡ list_any (λ it. it == 91) word.now }
+/// Whether a word has this byte.
+fn has_byte(word: &[u8], byte: u8) -> bool
+    ensures { result ≡ spec.has_byte byte word.now }
 {
-    word.iter().any(|b| *b == b'[')
+    word.iter().any(|b| *b == byte)
+}
+
+/// Whether a word is a cell, with an operator between its brackets, or the beginning of one that is
+/// not closed.
+fn has_sum_in_index(word: &[u8]) -> bool
+    ensures { result ≡ spec.has_sum_in_index word.now }
+{
+    match enclosed(word, b'[', b']') {
+        Some(inside) => has_operator(inside) && !has_byte(inside, b'['),
+        None => has_byte(word, b'[') && !has_byte(word, b']'),
+    }
 }
 
 /// What to write in place of a word that stands for an operand or operator, by what it is made of.
 fn operand_hint(word: &[u8]) -> &'static str
     ensures { result.now ≡ spec.operand_hint word.now }
 {
+    if has_byte(word, b'(') {
+        return PARENTHESES;
+    }
+    if has_sum_in_index(word) {
+        return INDEX;
+    }
     match word {
         [] => ANY_WORD,
-        [first, ..] => hint_with(*first, has_operator(word), has_bracket(word)),
+        [first, ..] => hint_with(*first, has_operator(word), has_byte(word, b'[')),
     }
 }
 
@@ -154,7 +179,8 @@ fn first_hint_of_shape(word: &[u8]) -> &'static str
     if target_of(word_of(word)).is_some() {
         "write set before it, as in set v0 v0 + 1"
     } else {
-        "begin the line with one of registers, process, end, set, read, write, scan, if, else, fi, repeat, done, emit, halt, use and check"
+        "begin the line with one of registers, process, end, set, read, write, scan, if, else, fi, \
+        repeat, done, emit, halt, use and check"
     }
 }
 

@@ -16,7 +16,15 @@ const DIVISION: &str = "there is no division: subtract in a repeat, and count th
 
 const REMAINDER: &str = "there is no remainder: subtract in a repeat, and take what is left";
 
+const ONE_ALONE: &str = "write A + B for A xor B, and compare that with 1";
+
+const ONE_OF_TWO: &str = "there is no max and no min: write if v0 < v1, and set what is taken in \
+    it and below its else";
+
 const ADDITION: &str = "write the sum or difference out, as in set v0 v0 + 1";
+
+const OWN_NUMBER: &str = "a process has no word for its own number: write that out in each one; m4 \
+    makes such copies (docs/RECIPES.md)";
 
 const ELSE_IF: &str = "write else, and if on the next line; each if has its own fi";
 
@@ -25,8 +33,8 @@ const LEFT_OUT: &str = "leave it out: what is run stands on the lines behind the
 const LOOP: &str =
     "write repeat with as many turns as may be needed, and an if in it: further turns do nothing";
 
-const AWAIT: &str =
-    "write repeat with some turns, in which the register is read, and an if with the rest of the process and halt (docs/LANGUAGE.md)";
+const AWAIT: &str = "write repeat with some turns, in which the register is read, and an if with \
+    the rest of the process and halt (docs/LANGUAGE.md)";
 
 const BREAK: &str =
     "write an if in the repeat, so that further turns do nothing; halt ends the whole process";
@@ -35,8 +43,8 @@ const JUMP: &str = "there are no jumps: write repeat and if; halt ends the whole
 
 const CHOICE: &str = "the schedules choose: read a register that a further process writes";
 
-const ASSERTION: &str =
-    "write if with what must hold, and write 64 0 below its else: a process at fault fails each check at once";
+const ASSERTION: &str = "write if with what must hold, and write 64 0 below its else: a process at \
+    fault fails each check at once";
 
 const BOTH: &str = "there is none: a step reads or writes, and does not do both";
 
@@ -44,13 +52,15 @@ const RETURN: &str = "write emit for each number, and then halt";
 
 const DECLARATION: &str = "leave it out: the variables v0 to v15 are there from the start";
 
-const START: &str =
-    "registers, variables and cells are 0 at first; for another value of a variable begin with set, as in set v0 5";
+const START: &str = "registers, variables and cells are 0 at first; for another value of a \
+    variable begin with set, as in set v0 5";
 
 const ONE_STEP: &str = "leave it out: each read, write and scan is one step";
 
+const MUTEX: &str = "docs/RECIPES.md tells under Mutual exclusion how that is asked for";
+
 /// Words of other languages, each with how what it says is written here.
-const IDIOMS: [(&[u8], &str); 61] = [
+const IDIOMS: [(&[u8], &str); 70] = [
     (b">", "write B < A for A > B"),
     (
         b"<=",
@@ -77,6 +87,14 @@ const IDIOMS: [(&[u8], &str); 61] = [
     (b"div", DIVISION),
     (b"%", REMAINDER),
     (b"mod", REMAINDER),
+    (b"**", "there is no power: multiply in a repeat"),
+    (
+        b"^",
+        "multiply in a repeat for a power; for A xor B write A + B, and compare that with 1",
+    ),
+    (b"xor", ONE_ALONE),
+    (b"max", ONE_OF_TWO),
+    (b"min", ONE_OF_TWO),
     (b"+=", ADDITION),
     (b"-=", ADDITION),
     (b":=", "leave it out, as in set v0 1"),
@@ -110,23 +128,24 @@ const IDIOMS: [(&[u8], &str); 61] = [
     (b"var", DECLARATION),
     (b"int", DECLARATION),
     (b"local", DECLARATION),
+    (b"me", OWN_NUMBER),
+    (b"self", OWN_NUMBER),
+    (b"pid", OWN_NUMBER),
     (b"const", "leave it out, and write the number itself"),
     (b"init", START),
     (
         b"deadlock",
-        "docs/PROGRESS.md tells how deadlocks are asked for",
+        "docs/PROGRESS.md tells under Deadlock how that is asked for",
     ),
-    (
-        b"mutex",
-        "docs/RECIPES.md tells how mutual exclusion is asked for",
-    ),
+    (b"mutex", MUTEX),
+    (b"mutual", MUTEX),
     (
         b"linearizable",
-        "docs/LINEARIZABLE.md tells how that is asked, by a script",
+        "docs/LINEARIZABLE.md tells how that is asked for, by a script",
     ),
     (
         b"never",
-        "write check atmost with this number and 0, as in check atmost 99 0",
+        "write check atmost with this number and 0, as in check atmost 99 0 (docs/RECIPES.md)",
     ),
     (b"{", "leave it out"),
     (b"}", "write end, fi or done"),

@@ -10,6 +10,7 @@ mod line_forms;
 mod lines;
 mod misfits;
 mod misplaced;
+mod named_registers;
 mod nearest;
 mod open_blocks;
 mod origins;

@@ -5,6 +5,7 @@ ghost use Rattle.explanations.specs.Wording.{fault_words, wrong_text};
 
 use crate::line_forms::{FORM_LEAD, Form, OwnLine};
 use crate::misplaced::MisplacedLine;
+use crate::named_registers::NamedRegister;
 use crate::nearest::Meant;
 use reglang::LineRefusal;
 use reglines::LineFault;
@@ -58,6 +59,8 @@ pub(crate) enum Change {
     Own(OwnLine),
     /// This first word may be meant.
     Meant(Meant),
+    /// This register has the name that stands there.
+    Register(NamedRegister),
     /// It cannot stand where it is.
     Move(MisplacedLine),
 }
@@ -73,6 +76,7 @@ impl Text for Change {
             Change::Form(form) => (FORM_LEAD, form).put(out, block),
             Change::Own(line) => line.put(out, block),
             Change::Meant(meant) => meant.put(out, block),
+            Change::Register(register) => register.put(out, block),
             Change::Move(place) => place.put(out, block),
         }
     }

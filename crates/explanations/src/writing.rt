@@ -11,6 +11,7 @@ ghost use Rattle.explanations.specs.Shown.{is_shown, printable, printable_text};
 use crate::advice::Advice;
 use crate::lines::shown_line;
 use crate::misfits::word_at_fault;
+use crate::named_registers::register_named;
 use crate::open_blocks::{Opened, open_block};
 use crate::origins::origin_of;
 use crate::wording::{TextCulprit, what_is_wrong};
@@ -34,6 +35,7 @@ pub fn write_explanation<W: Write>(
 {
     let line = shown_line(text, rejection.line);
     let opened = block_told(text, open_block(text, lines_before(rejection)));
+    let named = register_at_fault(text, line, rejection.refusal);
     let origin = origin_of(path, text, rejection.line);
     let explanation = Explanation {
         path: origin.path,
@@ -41,6 +43,7 @@ pub fn write_explanation<W: Write>(
         rejection,
         line,
         opened,
+        named,
     };
     write(&explanation, out)
 }
@@ -78,8 +81,15 @@ fn block_told(text: &[u8], opened: Option<Opened>) -> Option<Opened>
     }
 }
 
+/// The register whose name the word at fault of a line is, where the comments of the text tell one.
+fn register_at_fault(text: &[u8], line: &[u8], refusal: LineRefusal) -> Option<u32>
+    ensures { result ≡ spec.register_at_fault text.now refusal line.now }
+{
+    register_named(text, word_at_fault(line, refusal)?)
+}
+
 /// What is wrong with a text, the file and the number of the line that are told, the line, the
-/// block that is open there, and what to change.
+/// block that is open there, the register whose name is at fault, and what to change.
 #[derive(Clone, Copy)]
 struct Explanation<'a> {
     path: &'a [u8],
@@ -87,10 +97,12 @@ struct Explanation<'a> {
     rejection: &'a Rejection,
     line: &'a [u8],
     opened: Option<Opened>,
+    named: Option<u32>,
 }
 
 impl Text for Explanation<'_> {
-    ghost text = { λ e. line_explained e.path.now e.number e.rejection.now e.line.now e.opened };
+    ghost text = { λ e. line_explained e.path.now e.number e.rejection.now e.line.now e.opened
+        e.named };
 
     fn put<W: Write>(&self, out: &mut W, block: &mut Block) -> Result<(), WriteFault> {
         let refusal = self.rejection.refusal;
@@ -101,6 +113,7 @@ impl Text for Explanation<'_> {
             culprit,
             line: self.line,
             opened: self.opened,
+            named: self.named,
         };
         let word = WordAtFault {
             rejection: self.rejection,

@@ -22,7 +22,7 @@ use crate::reasons::refuse;
 use crate::refusals::Refusal;
 use crate::standing_forms::standing_at;
 use crate::tasks::Task;
-use crate::tips::write_unknown;
+use crate::tips::write_refused;
 use crate::words::{has_flag, is_native, number_of, word_at};
 use breadths::Breadth;
 use clap::ArgMatches;
@@ -89,11 +89,7 @@ pub fn command<'a, H: Threads + AllocGlobal, S: AsStr, O: Opener, E: Write>(
         Ok(matches) => request_of(rt, program_of(words), &matches, opener, err),
         Err(error) if matches!(error.kind(), ErrorKind::DisplayVersion) => Ok(Request::Version),
         Err(error) => {
-            let _ = if matches!(error.kind(), ErrorKind::UnknownArgument) {
-                write_unknown(rt.alloc(), &error, err)
-            } else {
-                write!(err, "{error}")
-            };
+            let _ = write_refused(rt.alloc(), words, &error, err);
             Err(2)
         }
     }

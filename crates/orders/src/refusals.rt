@@ -15,12 +15,13 @@ use thiserror::Error;
 const REGISTERS: &str = "numbers from 0 to 63 and ranges of them, parted by commas, as 0,3-5";
 
 /// How a schedule is written.
-const LETTERS: &str =
-    "write at most 64 letters parted by one space, each R or C and the number of a process, 0 to 7, or . for none";
+const LETTERS: &str = "write at most 64 letters parted by one space, each R or C and the number of \
+    a process, 0 to 7, or . for none";
 
 /// How a standing of a pattern is written.
-const STANDINGS: &str =
-    "write 1 to 8 of them, parted by '; ', each *, done *, done * 9 * or a standing of a report, as done 1 20, fault 1, crashed or running, with idle behind it where the process took no step";
+const STANDINGS: &str = "write 1 to 8 of them, parted by '; ', each *, done *, done * 9 * or a \
+    standing of a report, as done 1 20, fault 1, crashed or running, with idle behind it where the \
+    process took no step";
 
 /// Why a file gives no text.
 #[derive(Clone, Copy, PartialEq, Eq, Debug)]
@@ -142,7 +143,8 @@ impl Reason for Refusal {
             ),
             Refusal::PatternLine(place, standing) => writeln!(
                 err,
-                "{subject}:{}: standing {}: this is no way in which a process can stand: {STANDINGS}",
+                "{subject}:{}: standing {}: this is no way in which a process can stand: \
+                {STANDINGS}",
                 place.saturating_add(1),
                 standing.saturating_add(1)
             ),

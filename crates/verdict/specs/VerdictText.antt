@@ -59,23 +59,33 @@ abbrev pub from_step_text : ℕ → List ℕ
 from_step_text letter =
     if letter == 0 then [] else codes "It fails from step " ++ decimal letter ++ codes " on.\n"
 
--- that a schedule is cut off, and none fails otherwise
-abbrev pub cut_alone_text : List ℕ
-cut_alone_text =
+-- what has no bound of letters
+abbrev pub without_bound_text : List ℕ
+without_bound_text =
+    codes "64 letters are the most: ./promela makes a model for SPIN, which has no such bound (docs/RECIPES.md).\n"
+
+-- that a schedule of so many letters is cut off, and none fails otherwise; of the most letters there
+-- may be, what has no bound
+abbrev pub cut_alone_text : ℕ → List ℕ
+cut_alone_text letters =
     codes "It is cut off with a process still running"
     ++ codes "; up to this length none fails otherwise.\n"
+    ++ (if letters == MOST_LETTERS then without_bound_text else [])
 
--- from which letter on each beginning fails, where that comes about by a letter; where the schedule
--- fails for being cut off, that it does
-abbrev pub onset_text : Option ℕ → List ℕ
-onset_text onset = elim onset [ Some letter ↦ from_step_text letter | None ↦ cut_alone_text ]
+-- from which letter on each beginning fails, where that comes about by a letter; where a schedule of
+-- so many letters fails for being cut off, that it does
+abbrev pub onset_text : ℕ → Option ℕ → List ℕ
+onset_text letters onset = elim onset [
+  | Some letter ↦ from_step_text letter
+  | None ↦ cut_alone_text letters
+]
 
 -- that a schedule of so many letters fails, why, from which letter on, and which line of the text
 -- repeats once or not at all
 abbrev pub failing_text : List ℕ → List ℕ → Bool → ℕ → Cause → Option ℕ → List ℕ
 failing_text path text is_shortest letters cause onset =
     path ++ codes ": a schedule of " ++ letters_text letters ++ fails_text is_shortest
-    ++ cause_text text cause ++ onset_text onset
+    ++ cause_text text cause ++ onset_text letters onset
     ++ single_repeat_text text ++ codes "\n"
 
 -- that a schedule fails and why, the schedule as a drawing that may be so broad, and the command

@@ -107,7 +107,7 @@ impl Text for Failing<'_> {
             breadth,
         } = self.topic;
         let breach = self.breach;
-        let letters = Letters(breach.schedule.letters().len() as u64);
+        let length = breach.schedule.letters().len() as u64;
         let cause = Caused {
             text,
             cause: &breach.cause,
@@ -118,14 +118,17 @@ impl Text for Failing<'_> {
             breadth,
         };
         let fails = Either(self.is_shortest, " fails, and no shorter one: ", " fails: ");
-        let failing = (path, ": a schedule of ", letters, fails);
+        let failing = (path, ": a schedule of ", Letters(length), fails);
         let show = ShowCommand {
             program,
             path,
             breadth,
             schedule: &breach.schedule,
         };
-        let onset = Onset(breach.onset);
+        let onset = Onset {
+            length,
+            onset: breach.onset,
+        };
         let told = (failing, cause, onset, SingleRepeat(text), "\n");
         (told, drawing, show).put(out, block)
     }
@@ -159,25 +162,35 @@ impl Text for Caused<'_> {
     }
 }
 
-/// From which letter on each beginning of a schedule fails, where that comes about by a letter; or
-/// that it is cut off, and none fails otherwise.
+/// From which letter on each beginning of a schedule of this length fails, where that comes about
+/// by a letter; or that it is cut off, and none fails otherwise.
 #[derive(Clone, Copy)]
-struct Onset(Option<u64>);
+struct Onset {
+    length: u64,
+    onset: Option<u64>,
+}
 
 impl Text for Onset {
-    ghost text = { λ onset. spec.onset_text onset.0 };
+    ghost text = { λ onset. spec.onset_text onset.length onset.onset };
 
     fn put<W: Write>(&self, out: &mut W, block: &mut Block) -> Result<(), WriteFault> {
-        match self.0 {
+        match self.onset {
             Some(0) => Ok(()),
             Some(letter) => ("It fails from step ", letter, " on.\n").put(out, block),
             None => {
+                let cut = "It is cut off with a process still running";
                 let otherwise = "; up to this length none fails otherwise.\n";
-                ("It is cut off with a process still running", otherwise).put(out, block)
+                let beyond = When(self.length == MOST_LETTERS as u64, WITHOUT_BOUND);
+                (cut, otherwise, beyond).put(out, block)
             }
         }
     }
 }
+
+/// What has no bound of letters.
+const WITHOUT_BOUND: &str =
+    "64 letters are the most: ./promela makes a model for SPIN, which has no \
+    such bound (docs/RECIPES.md).\n";
 
 /// A schedule that is cut off, where one is told beside another schedule that fails: what it
 /// breaks, and the command that draws it.

@@ -278,5 +278,5 @@ const TEXT: CommandWord = CommandWord {
 const PROGRESS: CommandWord = CommandWord {
     name: "progress",
     kind: WordKind::Flag,
-    help: "Tell on standard error how many pieces the workers have taken and how many are known so far: a line each time that those taken reach 1, 3, 5 or 7 times a power of two",
+    help: "Tell on standard error how far it has come: how many pieces are done of those known so far, with how many first letters it is through, and how many schedules were counted; a line each time that the pieces done reach 1, 3, 5 or 7 times a power of two",
 };
