@@ -40,7 +40,7 @@ def imported(files, own):
 
 
 def cited(path, clause):
-    """The files of definitions that a clause of a source names, each name by itself or behind the name of its file."""
+    """The files of definitions that a clause of a source names, each name by itself or behind its file's."""
     text, own = (TOP / "crates" / path).read_text(), crates()
     words = set(WORD.findall(re.search(clause, text, re.DOTALL)[0]))
     words |= {word.partition(".")[0] for word in words}
@@ -97,11 +97,12 @@ def unread():
 
 
 def unlisted():
-    """Where docs/DEFINITIONS.md lists other constants than those that the files of the headline take from the code."""
+    """Where docs/DEFINITIONS.md lists other constants than those that the headline takes from the code."""
     page = TOP / "docs" / "DEFINITIONS.md"
     _, _, section = page.read_text().partition("\n### Constants to read as well\n")
     listed = set(re.findall(r"`([A-Z_]+)`", section.partition("\n### ")[0]))
-    taken = {name.strip() for path in core() for names in CONSTANTS.findall(path.read_text()) for name in names.split(",")}
+    lists = [names for path in core() for names in CONSTANTS.findall(path.read_text())]
+    taken = {name.strip() for names in lists for name in names.split(",")}
     for name in sorted(taken - listed):
         yield f"{shown(page)}: the headline takes {name} from the code, which no table lists"
     for name in sorted(listed - taken):

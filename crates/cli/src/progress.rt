@@ -1,6 +1,6 @@
-//! How far a run has come, told on a writer while workers run: how many pieces are done and how many
-//! are known, with how many first letters it is through, how many schedules were counted; and which
-//! length is searched next. It tells by its own counts and by no clock.
+//! How far a run has come, told on a writer while workers run: how many pieces are done and how
+//! many are known, with how many first letters it is through, how many schedules were counted; and
+//! which length is searched next. It tells by its own counts and by no clock.
 
 ghost use Rattle.std.specs.Prelude.{◌≡◌, ◌<◌};
 ghost use Rattle.cli.specs.Progress as spec;
@@ -19,8 +19,8 @@ pub trait Meter: Gate {
     fn length(&self, letters: u32);
 }
 
-/// How many pieces are done, how many are known, and how many schedules were counted, each up to the
-/// greatest u64; and the first letters of the pieces.
+/// How many pieces are done, how many are known, and how many schedules were counted, each up to
+/// the greatest u64; and the first letters of the pieces.
 #[derive(Drop)]
 struct Counts {
     done: u64,
@@ -101,8 +101,8 @@ impl<E: Write> ProgressWriter<'_, E> {
 }
 
 /// A gate that tells on a writer how far a run has come, where that is asked for: a line each time
-/// that the number of pieces done is 1, 3, 5 or 7 times a power of two. Where one length is searched
-/// after another, it tells each, and counts anew. Else it does nothing.
+/// that the number of pieces done is 1, 3, 5 or 7 times a power of two. Where one length is
+/// searched after another, it tells each, and counts anew. Else it does nothing.
 #[derive(Drop)]
 pub struct Progress<'a, H, E> {
     rt: &'a H,

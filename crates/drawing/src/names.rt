@@ -62,8 +62,8 @@ impl<'a> RegisterNames<'a> {
     }
 }
 
-/// The first of so many registers that a line of a text would name, and that has no name: the word is
-/// too long, tells a register by its number, or is the name of another one.
+/// The first of so many registers that a line of a text would name, and that has no name: the word
+/// is too long, tells a register by its number, or is the name of another one.
 pub fn first_misnamed(text: &[u8], count: usize) -> Option<usize>
     requires { count ≤ 64 }
     ensures { result ≡ spec.first_misnamed text.now count }

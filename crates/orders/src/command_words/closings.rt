@@ -51,8 +51,8 @@ and has not crashed.
 
 Example: regtry replay FILE 'R0 R1 C0' lets process 0 take a step, then process 1, and then crashes process 0.
 It prints how each process stands after that and what each register holds, whether or not the processes ended.
-Where a letter is not possible, `regtry: letter P` tells its place, counted from 0: P is 7 for the eighth. There
-regtry show counts from 1, and tells why.
+Where a letter is not possible, `regtry: letter P` tells its place, counted from 0: P is 7 for the eighth.
+There regtry show counts from 1, and tells why.
 
 Statuses:
   0  the schedule was replayed
