@@ -15,13 +15,14 @@ def without_comments(text):
 
 
 def names_in(text):
-    """The name that comments give to a register, by its number: of two the first."""
+    """The name that comments give to a register, by its number: of two the first. A number is none, and of
+    several registers with one name the lowest has it."""
     names = {}
     for line in text.split(b"\n"):
         told = NAMED.fullmatch(line)
-        if told:
+        if told and not re.fullmatch(rb"r?[0-9]+", told[2]):
             names.setdefault(int(told[1]), told[2])
-    return names
+    return {it: name for it, name in names.items() if name not in [names[other] for other in names if other < it]}
 
 
 def words_named(drawing, names):

@@ -10,15 +10,18 @@ from runs import faults_of, run
 from searches import faults_of_searches
 from verdicts import checked_fault
 
-PROGRESS = re.compile(rb"(regtry: \d+ pieces? taken of \d+ known so far\n)+")
-TAKEN = re.compile(rb"regtry: (\d+) piece")
+PROGRESS = re.compile(
+    rb"(regtry: done are \d+ of \d+ pieces known so far and \d+ of \d+ first letters"
+    rb"(; \d+ schedules? counted)?\n)+"
+)
+DONE = re.compile(rb"regtry: done are (\d+) of")
 # 1, 3, 5 and 7 times each power of two.
 ROUND = sorted(factor << power for factor in (1, 3, 5, 7) for power in range(32))
 
 
 def is_progress(told):
     """Whether these are lines of progress, at each round number of taken pieces up to one, in their order."""
-    taken = [int(count) for count in TAKEN.findall(told)]
+    taken = [int(count) for count in DONE.findall(told)]
     return PROGRESS.fullmatch(told) and taken == ROUND[: len(taken)]
 
 

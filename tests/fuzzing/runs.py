@@ -1,21 +1,25 @@
 """What the program answers, and what is wrong with an answer by itself."""
 
 import pathlib
+import re
 import subprocess
 
 TOP = pathlib.Path(__file__).resolve().parent.parent.parent
 PROGRAM = TOP / "crates" / "regtry" / "out" / "regtry"
+# What is noted of a comment that names a register in vain.
+NOTE = re.compile(rb"[^\n]*: register \d+ goes by its number: [^\n]*\n")
 
 
 def run(folder, words, given=b""):
-    """The status of the program, negative by a signal and None where it did not end, and what it printed; it is given these bytes."""
+    """The status of the program, negative by a signal and None where it did not end, and what it printed, but
+    for notes of names; it is given these bytes."""
     try:
         ran = subprocess.run(
             ["regtry", *words], executable=PROGRAM, cwd=folder, input=given, capture_output=True, timeout=60
         )
     except subprocess.TimeoutExpired:
         return None, b"", b""
-    return ran.returncode, ran.stdout, ran.stderr
+    return ran.returncode, ran.stdout, NOTE.sub(b"", ran.stderr)
 
 
 def faults_of(answer, several=False):
