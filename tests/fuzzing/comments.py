@@ -22,7 +22,8 @@ def names_in(text):
         told = NAMED.fullmatch(line)
         if told and not re.fullmatch(rb"r?[0-9]+", told[2]):
             names.setdefault(int(told[1]), told[2])
-    return {it: name for it, name in names.items() if name not in [names[other] for other in names if other < it]}
+    given = {name: it for it, name in sorted(names.items(), reverse=True)}
+    return {it: name for name, it in given.items()}
 
 
 def words_named(drawing, names):
